@@ -5,6 +5,8 @@ from typing import Dict, NamedTuple, Tuple
 from .refusals import NAMES
 
 LINE_LIMIT = 65_536
+# The numbers of refusals by their names.
+NUMBERS: Dict[str, int] = {name: number for number, name in NAMES.items()}
 
 COMMANDS = ('mvfs', 'kvfs', 'mev', 'kev', 'mef', 'kef', 'kemr', 'mekr', 'kfmrh', 'mfkrh', 'ringmv', 'lamina', 'block', 'sweep', 'glue',
             'split', 'plane', 'volume', 'count', 'undo', 'redo', 'list')

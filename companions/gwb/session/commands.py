@@ -116,10 +116,9 @@ class Commands(Methods):
     def glue(self, face: arguments.Face, other: arguments.Face) -> int:
         """The solids of the two faces become one along them: its number."""
         faces = self._bench.number('face', face), self._bench.number('other', other, 'face')
-        kept = self._bench.kernel.lines.face(faces[0])
+        kept = self._bench.kernel.lines.solid_of(faces[0])
         self._bench.kernel.do('glue', *faces)
-        assert kept is not None, 'glue is refused where there is no such face'
-        return kept.solid
+        return kept
 
     def undo(self, *, command: bool = False) -> None:
         """The last step is taken back: a command, or all those of a feature or a group; with `command=True` one command of it. A draft is one

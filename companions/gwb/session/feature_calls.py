@@ -9,12 +9,12 @@ from ..geometry.model import Model
 from ..geometry.outlines import Impossible
 from ..geometry.vectors import Vector
 from ..protocol.complaints import memory_refused, refused
-from ..protocol.language import refusal
+from ..protocol.language import NUMBERS, refusal
 from ..protocol.listing import listing_lines
 from ..protocol.replies import Reply
 from .c_calls import (ADDRESS, IMPOSSIBLE, LENGTH, LOWER_CAPS, MEMORY, NO_CALL, OK, REFUSED, SIZE, UPPER_CAPS, WORD, CutPlane, Pair, Ratio,
                       Refusal)
-from .kernel import NUMBERS_SPENT, Kernel
+from .kernel import Kernel
 from .library import filled
 from .results import Numbers
 
@@ -37,8 +37,6 @@ _TEXTS = {
     'NotClosed': "a side of face {} hasn't one side, of one face, that runs the other way",
     'NumbersSpent': 'too few numbers above all that are in use are left'}
 _PART_MEETS = 'a part of solid {} would touch itself in the plane'
-NUMBER_RANGE = 1
-_ROOM = 64
 _MOST_TERM = 2 ** 64 - 1
 _TOO_MANY = 2 ** 62
 
@@ -95,7 +93,7 @@ class FeatureCalls:
             self._ask(word, query, found, room, count)
             return count.value
 
-        return list(filled(WORD, _ROOM, write))
+        return list(filled(WORD, write))
 
     def load(self, model: Model) -> None:
         """Makes what a model has, which isn't empty, with its numbers."""
@@ -126,7 +124,7 @@ class FeatureCalls:
 
     def made(self, which: int) -> Numbers:
         """A list of what the last feature made."""
-        return tuple(filled(WORD, _ROOM, lambda found, room: int(self._library.made(self._handle, which, found, room))))
+        return tuple(filled(WORD, lambda found, room: int(self._library.made(self._handle, which, found, room))))
 
     def pairs(self, which: int) -> List[Tuple[int, int]]:
         """A list of numbers and others in their place."""
@@ -151,9 +149,9 @@ class FeatureCalls:
         """The error of a condition, as it is said of a feature. A number past the greatest was chosen, except for a profile: none is left."""
         if word in _CUTS:
             return refused(word, why.number, why.value)
-        if why.number == NUMBER_RANGE and word != 'profile':
-            return refused(word, NUMBERS_SPENT, 0, _TEXTS['NumbersSpent'])
         name, text = refusal(why.number, why.value).name, ''
+        if name == 'NumberRange' and word != 'profile':
+            return refused(word, NUMBERS['NumbersSpent'], 0, _TEXTS['NumbersSpent'])
         if name == 'NotFlat':
             model = self._kernel.lines.model([why.value])
             text = (why_unfit(model, why.value) if model.faces else None) or ('' if why.value else "a slope wouldn't be flat")

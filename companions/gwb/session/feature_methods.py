@@ -8,15 +8,15 @@ from ..geometry.measures import why_unfit
 from ..geometry.outlines import Impossible
 from ..geometry.vectors import Vector, ZERO, cross, dot, reduced
 from ..protocol.complaints import refused
+from ..protocol.language import NUMBERS
 from . import arguments
 from .bench import LabelledFaces, Methods
 from .c_calls import FLOOR, WALLS, WORD, Pair, Point
-from .feature_calls import NUMBER_RANGE, rows, words
+from .feature_calls import rows, words
 from .reading import EdgePart, FacePart
 from .results import Hole, Notch, Numbers, Pocket, Polyhedron, Profile, Ring
 
 _AXES: Sequence[Vector] = ((1, 0, 0), (0, 1, 0), (0, 0, 1))
-_NOT_FLAT = 32
 
 
 class Sketch(NamedTuple):
@@ -72,7 +72,7 @@ class FeatureMethods(Methods):
         places = arguments.corners('faces', faces, len(corners))
         number, made = self._bench.new('solid', solid), Pair()
         if not 1 <= number <= LARGEST:
-            raise refused('polyhedron', NUMBER_RANGE, number)    # (of which the call says nothing)
+            raise refused('polyhedron', NUMBERS['NumberRange'], number)    # (of which the call says nothing)
         self._bench.features.give('polyhedron', number, rows(corners), len(corners), words([corner for face in places for corner in face]),
                                   words([len(face) for face in places]), len(places), made)
         return Polyhedron(number, tuple(range(made.second, made.second + len(places))), tuple(range(made.first, made.first + len(corners))))
@@ -88,12 +88,18 @@ class FeatureMethods(Methods):
         start, wanted = (None if value is None else arguments.point(name, value) for name, value in (('origin', origin), ('right', right)))
         points, why = part.points, why_unfit(self._bench.kernel.lines.model([part.number]), part.number)
         if why is not None:
-            raise refused('sketch', _NOT_FLAT, part.number, why)
+            raise refused('sketch', NUMBERS['NotFlat'], part.number, why)
         across, start = reduced(part.normal), start or min(points)
         if dot(across, start) != dot(across, points[0]):
             raise Impossible('NotInPlane', part.number, f'the origin {start} lies off the plane of face {part.number}')
         axis = next((axis for axis in _AXES if dot(across, axis) == 0), ZERO)
-        way, up = _directions(part.number, across, wanted or axis, 1 if wanted else isqrt(dot(across, across)))
+        to_right = wanted or axis
+        if to_right == ZERO or dot(across, to_right) != 0:
+            raise Impossible('NotInPlane', part.number, f'a direction in the plane of face {part.number} is wanted, not {to_right}')
+        way, upward = _times(1 if wanted else isqrt(dot(across, across)), to_right), reduced(cross(across, to_right))
+        up = _times(isqrt(dot(way, way) // dot(upward, upward)), upward)
+        if dot(up, up) != dot(way, way):
+            raise Impossible('OffLattice', part.number, f'no whole vector in face {part.number} is as long as {way} and across it')
         return Sketch(start, way, up)
 
     def ring(self, face: arguments.Face, points: arguments.Points) -> Ring:
@@ -227,17 +233,6 @@ class FeatureMethods(Methods):
             made = self._bench.features.written(word, len(edges), *values, frees=True)
             labelled.label_parts([solid], made)
         return made
-
-
-def _directions(face: int, across: Vector, right: Vector, times: int) -> Tuple[Vector, Vector]:
-    """So many times a direction in the plane of a face, and the one that is as long and leads upwards. Refused: NotInPlane, OffLattice."""
-    if right == ZERO or dot(across, right) != 0:
-        raise Impossible('NotInPlane', face, f'a direction in the plane of face {face} is wanted, not {right}')
-    way, upward = _times(times, right), reduced(cross(across, right))
-    up = _times(isqrt(dot(way, way) // dot(upward, upward)), upward)
-    if dot(up, up) != dot(way, way):
-        raise Impossible('OffLattice', face, f'no whole vector in face {face} is as long as {way} and across it')
-    return way, up
 
 
 def _times(times: int, way: Vector) -> Vector:

@@ -10,14 +10,13 @@ from ..geometry.free_numbers import KINDS, LARGEST, numbers_of
 from ..geometry.model import Model
 from ..protocol.advice import advice
 from ..protocol.complaints import complaint, refused
-from ..protocol.language import first_word
+from ..protocol.language import NUMBERS, first_word
 from ..protocol.replies import Reply
 from .library import Library
 from .notes import Notes
 from .turns import Turns
 
 Said = TypeVar('Said')
-NUMBERS_SPENT = 27
 _NOTHING_TO_REDO = Reply(('refused 26 0',))
 # Of a larger model it isn't told what would do in the place of a refused command: that may take long.
 _MOST_EDGES = 20_000
@@ -212,5 +211,5 @@ class NewNumbers:
         found = list(range(above, min(above + count, LARGEST + 1)))
         found += islice((number for number in range(1, above) if not self._lines.in_use(kind, number)), count - len(found))
         if len(found) < count:
-            raise refused('load', NUMBERS_SPENT, KINDS.index(kind) + 1, f'no {kind} number is free, and one is needed')
+            raise refused('load', NUMBERS['NumbersSpent'], KINDS.index(kind) + 1, f'no {kind} number is free, and one is needed')
         return found

@@ -18,8 +18,7 @@ from ..version import VERSION
 from .c_calls import ADDRESS, FOUND, OK, PLANE, PROTOTYPES, SIZE, WORD, EdgeRow, FaceRow, Handle, Pair, PlaneRow, Point, Refusal
 
 _NO_TEXT = SIZE(-1).value
-_ROOM = 4096
-_FEW = 64
+_ROOM = 256
 _MAJOR = int(VERSION.split('.')[0])
 _PACKAGE = Path(__file__).resolve().parents[1]
 
@@ -117,7 +116,7 @@ class Library:
         said = self.library.line(self.handle, data, len(data))
         if said == OK:
             return ACCEPTED
-        text: bytes = filled(ctypes.c_char, _ROOM, lambda buffer, room: int(self.library.reply(self.handle, buffer, room)))
+        text: bytes = filled(ctypes.c_char, lambda buffer, room: int(self.library.reply(self.handle, buffer, room)))
         return only_reply(text.decode('ascii').split('\n')[:-1])
 
     def asked(self, line: str) -> Reply:
@@ -181,7 +180,7 @@ class Library:
     def script(self, first: int, count: int) -> str:
         """The lines of so many commands that are held, from a place on; those of the draft that is open come last."""
         self.require_open()
-        lines: bytes = filled(ctypes.c_char, _ROOM, lambda buffer, room: int(self.library.script(self.handle, first, count, buffer, room)))
+        lines: bytes = filled(ctypes.c_char, lambda buffer, room: int(self.library.script(self.handle, first, count, buffer, room)))
         return lines.decode('utf-8', 'surrogateescape')
 
     # The model
@@ -225,7 +224,7 @@ class Library:
     def loop(self, loop: int) -> Optional[Loop]:
         """A loop, its half-edges from the least on; None where it is not there."""
         vertex = self._number('lone_vertex', loop)
-        codes = [] if vertex else filled(WORD, _FEW, lambda buffer, room: int(self.library.half_edges(self.handle, loop, buffer, room)))
+        codes = [] if vertex else filled(WORD, lambda buffer, room: int(self.library.half_edges(self.handle, loop, buffer, room)))
         halves = from_least(-(code // 2) if code % 2 else code // 2 for code in codes) if codes else ()
         return Loop(halves, vertex) if halves or vertex else None
 
@@ -278,8 +277,9 @@ class Library:
             number = self._number(name, of, number)
 
 
-def filled(kind: Any, room: int, write: Callable[[Any, int], int]) -> Any:
+def filled(kind: Any, write: Callable[[Any, int], int]) -> Any:
     """All that a call writes, which is given more room where there is more."""
+    room = _ROOM
     while True:
         buffer = (kind * room)()
         length = write(buffer, room)

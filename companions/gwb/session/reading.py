@@ -9,6 +9,7 @@ from ..errors import NotOne, Refused
 from ..geometry.model import Loop
 from ..geometry.solid_measures import root, square_area
 from ..geometry.vectors import Vector, dot, subtract
+from ..protocol.language import NUMBERS
 from .kernel import Kernel
 from .turns import PartOfTurns
 
@@ -22,7 +23,6 @@ class Part(PartOfTurns):
     """One thing of the model held, by its number. What it says is read anew each time, so it follows the commands."""
 
     kind: ClassVar[str] = ''
-    _missing: ClassVar[int] = 0
     _kernel: Kernel
     number: int
 
@@ -45,8 +45,8 @@ class Part(PartOfTurns):
     def _there(self, found: Optional[Read]) -> Read:
         """What was read of it. Refused where there is no such thing."""
         if not found:
-            error = Refused if self._missing else NotThere
-            raise error(f'No{self.kind.capitalize()}', self.number, self._missing, f'there is no {self.kind} {self.number}')
+            name = f'No{self.kind.capitalize()}'
+            raise (Refused if name in NUMBERS else NotThere)(name, self.number, NUMBERS.get(name, 0), f'there is no {self.kind} {self.number}')
         return found
 
 
@@ -164,7 +164,6 @@ class EdgePart(Part):
     """An edge."""
 
     kind = 'edge'
-    _missing = 5
 
     @property
     def vertices(self) -> Tuple[VertexPart, VertexPart]:
@@ -196,7 +195,6 @@ class LoopPart(Part):
     """A loop: a cycle of half-edges, or one vertex."""
 
     kind = 'loop'
-    _missing = 4
 
     @property
     def half_edges(self) -> Tuple[int, ...]:
@@ -228,7 +226,6 @@ class FacePart(Part):
     """A face."""
 
     kind = 'face'
-    _missing = 3
 
     @property
     def solid(self) -> 'SolidPart':
@@ -277,7 +274,6 @@ class SolidPart(Part):
     """A solid."""
 
     kind = 'solid'
-    _missing = 2
 
     @property
     def faces(self) -> Selection[FacePart]:

@@ -15,16 +15,15 @@ from ..geometry.moved import FARTHEST, Change, Displaced, changed, mirroring, mo
 from ..geometry.outlines import Impossible
 from ..geometry.vectors import ZERO, dot, negative
 from ..protocol.complaints import refused
+from ..protocol.language import NUMBERS
 from . import arguments
 from .bench import Bench, LabelledFaces, Methods, warn
 from .c_calls import EDGES, FACES, INTO, LOOPS, SOLIDS, VERTICES, Motion, Point
 from .feature_calls import words
-from .kernel import NUMBERS_SPENT
 from .reading import Found, Part
 from .results import Cut, Numbers, Renumbered, Split
 
 Parts = TypeVar('Parts', bound=Union[Cut, Split])
-_POINT_RANGE = 11
 _AXES = ('x', 'y', 'z')
 
 
@@ -104,7 +103,7 @@ class SolidMethods(Methods):
         if many < 2:
             raise ValueError(f'count: {many} is below 2')
         if many > LARGEST:
-            raise refused('pattern', NUMBERS_SPENT, 1, f'there are {LARGEST:,} numbers for solids, not {many:,}')
+            raise refused('pattern', NUMBERS['NumbersSpent'], 1, f'there are {LARGEST:,} numbers for solids, not {many:,}')
         return self._in_a_row('pattern', number, many - 1, many, Point(*way))
 
     def pattern_around(self, solid: arguments.Solid, count: int, axis: str, times: int = 1, *, about: arguments.Point = ZERO) -> Tuple[Copy, ...]:
@@ -301,5 +300,5 @@ def _changed(word: str, model: Model, change: Change) -> Model:
         return changed(model, change)
     except Displaced as error:
         if error.name == 'PointRange':
-            raise refused(word, _POINT_RANGE, error.vertex, str(error)) from None
+            raise refused(word, NUMBERS[error.name], error.vertex, str(error)) from None
         raise Impossible(error.name, error.vertex, str(error)) from None

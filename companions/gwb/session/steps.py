@@ -15,11 +15,6 @@ class _Part:
         self._kernel, self._is_kept, self._outer = kernel, False, kernel.notes.group_from
         self._place, self._mark = kernel.notes.place(), kernel.lines.mark()
 
-    @property
-    def is_open(self) -> bool:
-        """Whether it hasn't ended yet."""
-        return self in self._kernel.blocks
-
     def end(self, is_whole: bool) -> None:
         """It is over, with all within it that is still open. It is kept if it is whole; else all is as before, whatever exception comes meanwhile."""
         try:
@@ -178,12 +173,12 @@ class Block:
 
     def __exit__(self, kind: Optional[Type[BaseException]], *_: object) -> None:
         with self._kernel.taken(is_holder=True):
-            if self._work and self._work.is_open:
+            if self._work and self._work in self._kernel.blocks:
                 self._work.end(kind is None)
             elif kind is None:
                 raise NoDraft('the draft has ended before its block did')
 
     def __del__(self) -> None:
-        if self._work and self._work.is_open:
+        if self._work and self._work in self._kernel.blocks:
             with self._kernel.taken(is_holder=True):
                 self._work.end(False)

@@ -67,9 +67,6 @@ class Turns:
         self.is_inside = False
         self.holder: Optional[Holder] = None
 
-    def begin_turn(self) -> None:
-        """Called where a call isn't given within another one."""
-
     @contextmanager
     def taken(self, is_holder: bool = False) -> Iterator[None]:
         """It is the turn of what is given in it; of a holder, wherever that goes on, at once."""
@@ -107,16 +104,16 @@ def _taken(method: Method) -> Method:
 
     @wraps(method)
     def taken(self: Any, *values: Any, **named: Any) -> Any:
-        turns: Turns = self._bench.kernel
-        with turns.taken():
-            if turns.is_inside:
+        kernel = self._bench.kernel
+        with kernel.taken():
+            if kernel.is_inside:
                 return method(self, *values, **named)
-            turns.is_inside = True
+            kernel.is_inside = True
             try:
-                turns.begin_turn()
+                kernel.begin_turn()
                 return method(self, *values, **named)
             finally:
-                turns.is_inside = False
+                kernel.is_inside = False
 
     return cast(Method, taken)
 
