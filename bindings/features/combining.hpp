@@ -191,8 +191,8 @@ inline void follow(Surface &surface, const Model &part, const Model &made, const
     for (const auto &[face, loops] : made.faces)
         surface.put(face, mapped(made.cycles(face), points_of), loops);
     for (const Operator &made_by : operators)
-        if (made_by.kind == Operator::Kind::ring_in)
-            surface.move(made_by.loop, made_by.face);
+        if (made_by.moved)
+            surface.move(made_by.moved->first, made_by.moved->second);
 }
 
 inline void give(Bench &bench, const std::vector<Operator> &operators)

@@ -33,6 +33,7 @@ namespace std {
 [[noreturn]] void __throw_out_of_range_fmt(const char *, ...) { throw bad_alloc(); }
 [[noreturn]] void __throw_logic_error(const char *) { throw bad_alloc(); }
 [[noreturn]] void __throw_bad_alloc() { throw bad_alloc(); }
+[[noreturn]] void __throw_bad_function_call() { std::abort(); }
 [[noreturn]] void __throw_bad_array_new_length() { throw bad_alloc(); }
 } // namespace std
 namespace __gnu_cxx {
