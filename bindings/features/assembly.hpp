@@ -128,17 +128,11 @@ inline void make_anew(Bench &bench, const Model &model)
 /// Faces of a solid, what of them was there by places, and the rest of the solid as a region that lies at their open edges.
 class Held {
 public:
-    struct Row {
-        Vertex start;
-        Loop loop; ///< none of a half-edge of the rest
-        Vector at;
-    };
-
     Held(const Bench &bench, Model parts) : model(std::move(parts))
     {
         for (const auto &[loop, halves] : model.loops)
             for (HalfEdge half : halves)
-                rows.emplace(half, Row{model.start(half), loop, model.at(half)});
+                loop_of.emplace(half, loop);
         put_rest(bench);
         for (const auto &[vertex, at] : model.vertices) {
             vertices_at.emplace(at, vertex);
@@ -150,24 +144,24 @@ public:
     /// Whether the side is all of a half-edge.
     [[nodiscard]] bool is_whole(const Side &side) const
     {
-        return side.is_old() && rows.at(side.half).at == side.start && rows.at(side.half.twin()).at == side.end;
+        return side.is_old() && model.at(side.half) == side.start && model.at(side.half.twin()) == side.end;
     }
     /// Whether a vertex at the point stays: it has two edges, so that somebody wanted it there, or one that is of the rest alone.
     [[nodiscard]] bool is_fixed(const Vector &point) const { return fixed_.count(point) != 0; }
 
     Model model;
-    std::unordered_map<HalfEdge, Row> rows;
+    std::unordered_map<HalfEdge, Loop> loop_of; ///< none of a half-edge of the rest
     std::vector<Cycle> rest; ///< the half-edges of the rest at the open edges, in cycles
     std::multimap<Vector, Vertex> vertices_at;
 
 private:
-    [[nodiscard]] bool is_held(HalfEdge half) const { return rows.count(half) != 0; }
+    [[nodiscard]] bool is_held(HalfEdge half) const { return loop_of.count(half) != 0; }
 
     /// Each half-edge of the rest leads to the next one round the vertex at its end, where edges of the rest alone are missing.
     void put_rest(const Bench &bench)
     {
         std::set<HalfEdge> left;
-        for (const auto &[half, row] : rows)
+        for (const auto &[half, loop] : loop_of)
             if (!is_held(half.twin()))
                 left.insert(half.twin());
         while (!left.empty()) {
@@ -182,7 +176,7 @@ private:
         }
         for (const Cycle &cycle : rest)
             for (const Side &side : cycle)
-                rows.emplace(side.half, Row{model.start(side.half), Loop(), side.start});
+                loop_of.emplace(side.half, Loop());
     }
 
     [[nodiscard]] bool is_fixed(const Bench &bench, Vertex vertex) const
@@ -329,9 +323,6 @@ private:
     /// room of the solid between.
     bool pair(Row sides, const Vector &way)
     {
-        const auto back = std::count_if(sides.begin(), sides.end(), [&](const Placed *placed) { return placed->runs_back(way); });
-        if (2 * static_cast<std::size_t>(back) != sides.size())
-            return false;
         if (sides.size() > 2)
             sort_round(sides, way);
         for (std::size_t at = 0; at < sides.size(); at++) {
@@ -417,7 +408,7 @@ private:
         std::set<Vertex> tails;
         for (const Placed *placed : fan)
             if (placed->side.is_old())
-                tails.insert(held_.rows.at(placed->side.half).start);
+                tails.insert(held_.model.start(placed->side.half));
         std::vector<Vertex> found, others;
         for (auto [old, end] = held_.vertices_at.equal_range(fan[0]->side.start); old != end; ++old)
             (tails.count(old->second) != 0 ? found : others).push_back(old->second);
@@ -471,7 +462,7 @@ private:
             const Placed *at = start;
             do {
                 if (at->side.is_old())
-                    wanted.push_back(held_.rows.at(at->side.half).loop);
+                    wanted.push_back(held_.loop_of.at(at->side.half));
                 halves.push_back(at->half);
                 at = at->after;
             } while (at != start);

@@ -88,9 +88,6 @@ template <class Path, class Test> bool any_side(const Path &path, Test test)
     return false;
 }
 
-/// Adds items behind others.
-template <class Item> void append(std::vector<Item> &to, const std::vector<Item> &more) { to.insert(to.end(), more.begin(), more.end()); }
-
 // ---- vectors
 
 constexpr Vector vector(Point point) { return {point.x, point.y, point.z}; }

@@ -7,7 +7,7 @@
 #include "machining.hpp"
 #include <cmath>
 #include <limits>
-#include <set>
+#include <numeric>
 
 namespace gwb_session::cutting {
 
@@ -87,9 +87,8 @@ private:
         std::string text = has_parallel || factor == 1 ? "" : "# no parallel plane cuts at whole points\n";
         for (const gwb_near_plane &beside : near) {
             const auto hundredths = static_cast<std::int64_t>(beside.moved * 100 + 0.5);
-            const std::string rest = std::to_string(hundredths % 100);
-            text += std::string(beside.is_parallel ? "# parallel" : "# tilted") + ", the cut moves by at most " + std::to_string(hundredths / 100) +
-                    (rest.size() < 2 ? ".0" : ".") + rest + " along an edge:\n" + split(beside.plane, above);
+            text += std::string(beside.is_parallel ? "# parallel" : "# tilted") + ", the cut moves by at most " + std::to_string(hundredths / 100) + "." +
+                    std::to_string(100 + hundredths % 100).substr(1) + " along an edge:\n" + split(beside.plane, above);
         }
         return text;
     }
@@ -127,36 +126,25 @@ struct Ends {
 struct Congruence {
     Wide remainder = 0, modulus = 1;
 
-    friend bool operator<(const Congruence &a, const Congruence &b)
-    {
-        return std::pair(a.modulus, a.remainder) < std::pair(b.modulus, b.remainder);
-    }
+    friend bool operator<(const Congruence &a, const Congruence &b) { return std::tie(a.modulus, a.remainder) < std::tie(b.modulus, b.remainder); }
     [[nodiscard]] static Wide rest(Wide number, Wide modulus) { return (number % modulus + modulus) % modulus; }
     [[nodiscard]] bool has(Wide number) const { return rest(number - remainder, modulus) == 0; }
     /// The greatest of the numbers that is at most the wanted one.
     [[nodiscard]] Wide at_most(Wide wanted) const { return wanted - rest(wanted - remainder, modulus); }
 
-    /// The numbers in both, by the Chinese remainder theorem.
+    /// The numbers in both, by the Chinese remainder theorem: Euclid's algorithm tells how many times the modulus leave their greatest common divisor.
     [[nodiscard]] std::optional<Congruence> and_also(const Congruence &other) const
     {
-        const Wide shared = greatest_divisor(modulus, other.modulus), step = other.modulus / shared;
-        if ((other.remainder - remainder) % shared != 0)
-            return std::nullopt;
-        const Wide times = rest((other.remainder - remainder) / shared, step) * inverse(rest(modulus / shared, step), step) % step;
-        return Congruence{rest(remainder + modulus * times, modulus * step), modulus * step};
-    }
-
-private:
-    /// What times the number leaves 1, where both have no divisor in common.
-    static Wide inverse(Wide number, Wide modulus)
-    {
-        Wide before = modulus, now = number, old = 0, found = 1;
-        while (now > 1) {
-            const Wide times = before / now;
-            before = std::exchange(now, before % now);
-            old = std::exchange(found, old - times * found);
+        Wide shared = modulus, times = 1;
+        for (Wide left = other.modulus, next = 0; left != 0;) {
+            const Wide whole = shared / left;
+            shared = std::exchange(left, shared % left);
+            times = std::exchange(next, times - whole * next);
         }
-        return rest(found, modulus);
+        const Wide step = other.modulus / shared, apart = other.remainder - remainder;
+        if (apart % shared != 0)
+            return std::nullopt;
+        return Congruence{rest(remainder + modulus * rest(apart / shared * times, step), modulus * step), modulus * step};
     }
 };
 
@@ -164,14 +152,15 @@ private:
 struct Band {
     Wide low, high;
 
-    Band(Wide from, Wide to) : low(from), high(to) {}
-    explicit Band(Wide only) : Band(only, only) {}
     /// How far the fraction lies beside the band, times its denominator.
     [[nodiscard]] Wide gap(const Fraction &offset) const
     {
         return std::max({low * offset.denominator - offset.numerator, offset.numerator - high * offset.denominator, Wide{0}});
     }
 };
+
+/// How far a number lies beside a fraction, alike.
+inline Wide gap(Wide number, const Fraction &offset) { return Band{number, number}.gap(offset); }
 
 /// The offsets at which planes of one normal meet the ends of an edge, and those at which they meet a whole point of it.
 struct Span {
@@ -198,9 +187,9 @@ inline std::vector<Band> bands_of(const std::vector<Span> &spans, const Fraction
     std::vector<Band> bands;
     for (auto low = levels.begin(), high = std::next(low); high != levels.end(); low = high++) {
         if (*low + 1 < *high)
-            bands.emplace_back(*low + 1, *high - 1);
+            bands.push_back({*low + 1, *high - 1});
         if (std::next(high) != levels.end())
-            bands.emplace_back(*high);
+            bands.push_back({*high, *high});
     }
     std::stable_sort(bands.begin(), bands.end(), [&](const Band &a, const Band &b) { return a.gap(offset) < b.gap(offset); });
     return bands;
@@ -219,8 +208,8 @@ inline std::optional<Wide> nearest_in(const Band &band, const Fraction &offset, 
     const Wide below = common->at_most(std::min(band.high, std::max(band.low - 1, whole)));
     std::optional<Wide> found;
     for (Wide beside : {below, below + common->modulus}) {
-        const bool is_asked = std::all_of(asked.begin(), asked.end(), [&](const Congruence &one) { return one.has(beside); });
-        if (band.low <= beside && beside <= band.high && is_asked && (!found || Band(beside).gap(offset) < Band(*found).gap(offset)))
+        const bool is_asked = all(asked, [&](const Congruence &one) { return one.has(beside); });
+        if (band.low <= beside && beside <= band.high && is_asked && (!found || gap(beside, offset) < gap(*found, offset)))
             found = beside;
     }
     return found;
@@ -242,24 +231,17 @@ inline std::optional<int> cut_places(const std::vector<int> &sides)
 /// Whether a face with these loops, the outer one first, lies on one side of a plane, or can be cut by it.
 inline bool is_drawn(const std::vector<Path> &loops, const Plane &plane)
 {
-    std::vector<std::vector<int>> sides;
-    int lowest = 0, highest = 0;
-    for (const Path &loop : loops) {
-        std::vector<int> &own = sides.emplace_back(loop.size());
-        std::transform(loop.begin(), loop.end(), own.begin(), [&](const Vector &at) { return sign(plane.height(at)); });
-        lowest = std::min(lowest, *std::min_element(own.begin(), own.end()));
-        highest = std::max(highest, *std::max_element(own.begin(), own.end()));
-    }
-    int sum = 0;
-    bool is_missed = false;
-    for (std::size_t at = 0; at < sides.size() && lowest < 0 && highest > 0; at++) {
-        const std::optional<int> count = cut_places(sides[at]);
-        if (!count || (at == 0 && *count == 0))
-            return false;
-        sum += *count;
-        is_missed = is_missed || *count == 0;
-    }
-    return !is_missed || sum == 2;
+    const auto side = [&](const Vector &at) { return sign(plane.height(at)); };
+    const auto has = [&](int wanted) {
+        return any(loops, [&](const Path &loop) { return any(loop, [&](const Vector &at) { return side(at) == wanted; }); });
+    };
+    if (!has(-1) || !has(1))
+        return true;
+    const auto counts = mapped(loops, [&](const Path &loop) { return cut_places(mapped(loop, side)); });
+    if (counts[0] == 0 || any(counts, [](const auto &count) { return !count; }))
+        return false;
+    const auto sum = std::accumulate(counts.begin(), counts.end(), 0, [](int before, const auto &count) { return before + *count; });
+    return sum == 2 || all(counts, [](const auto &count) { return *count != 0; });
 }
 
 /// The square of how far a cut moves: as a fraction where that fits, and as what is nearest.
@@ -318,20 +300,18 @@ public:
         const Vector normal = reduced(plane_.across);
         const std::size_t axis = widest(normal);
         const Fraction offset = Fraction::of(plane_.offset * normal[axis], plane_.across[axis]);
-        std::vector<Span> spans;
-        for (const Ends &ends : edges_)
-            spans.push_back(span_of(normal, ends));
+        const auto spans = mapped(edges_, [&](const Ends &ends) { return span_of(normal, ends); });
         std::optional<Wide> best;
         for (const Band &band : bands_of(spans, offset)) {
             go_on();
-            if (best && band.gap(offset) >= Band(*best).gap(offset))
+            if (best && band.gap(offset) >= gap(*best, offset))
                 break;
             std::set<Congruence> asked;
             for (const Span &span : spans)
                 if (span.crosses(band))
                     asked.insert(span.whole);
             const std::optional<Wide> found = nearest_in(band, offset, asked);
-            if (found && (!best || Band(*found).gap(offset) < Band(*best).gap(offset)) && is_cuttable({normal, *found}))
+            if (found && (!best || gap(*found, offset) < gap(*best, offset)) && is_cuttable({normal, *found}))
                 best = found;
         }
         return best ? std::optional(near({normal, *best}, *square_moved({normal, *best}), true)) : std::nullopt;
@@ -372,11 +352,10 @@ private:
     [[nodiscard]] std::vector<Ends> spread() const
     {
         constexpr std::size_t most = 12;
-        std::vector<std::array<double, 3>> points;
-        for (const Ends &ends : cuts_) {
-            const EdgeCut cut = ends.cut(plane_);
-            points.push_back({cut.point[0].value(), cut.point[1].value(), cut.point[2].value()});
-        }
+        const auto points = mapped(cuts_, [&](const Ends &ends) {
+            const auto point = ends.cut(plane_).point;
+            return std::array{point[0].value(), point[1].value(), point[2].value()};
+        });
         std::vector<double> gaps(cuts_.size(), std::numeric_limits<double>::infinity());
         std::vector<Ends> found;
         while (found.size() < std::min(most, cuts_.size())) {
@@ -406,9 +385,7 @@ private:
     /// The planes through whole points of three cut edges that lie apart, each once, looking the way of the plane but not parallel to it.
     [[nodiscard]] std::vector<Plane> candidates() const
     {
-        std::vector<Path> points;
-        for (const Ends &ends : spread())
-            points.push_back(whole_points(ends));
+        const auto points = mapped(spread(), [&](const Ends &ends) { return whole_points(ends); });
         std::vector<Plane> found;
         std::set<std::pair<Vector, Wide>> seen;
         for (std::size_t i = 0; i < points.size(); i++)
@@ -460,7 +437,7 @@ private:
     [[nodiscard]] bool is_cuttable(const Plane &plane) const
     {
         go_on();
-        return std::all_of(faces_.begin(), faces_.end(), [&](const std::vector<Path> &loops) { return is_drawn(loops, plane); });
+        return all(faces_, [&](const std::vector<Path> &loops) { return is_drawn(loops, plane); });
     }
 
     /// The square of how far the plane moves the cut along an edge at most; none where it is parallel to one.
@@ -513,9 +490,7 @@ inline OffLattice made(const Bench &bench, Solid solid, const gwb_cut_plane &row
         if (magnitude(parts[at]) > (at < 3 ? Wide{farthest} : farthest_offset))
             throw machining::refused(GWB_WHY_PLANE_RANGE, at + 1);
     const NearPlanes near(bench, solid, plane);
-    OffLattice found{solid, row, {}, 1, true, {}};
-    for (const Ends &ends : near.cuts())
-        found.cuts.push_back(ends.cut(plane));
+    OffLattice found{solid, row, mapped(near.cuts(), [&](const Ends &ends) { return ends.cut(plane); }), 1, true, {}};
     const Wide factor = found.factor = least_factor(found.cuts);
     if (factor == 1)
         return found;

@@ -62,9 +62,7 @@ public:
 private:
     [[nodiscard]] bool lies_in(const Vector &across, Wide offset) const
     {
-        return std::all_of(loops_.begin(), loops_.end(), [&](const Path &path) {
-            return std::all_of(path.begin(), path.end(), [&](const Vector &at) { return dot(across, at) + offset == 0; });
-        });
+        return all(loops_, [&](const Path &path) { return all(path, [&](const Vector &at) { return dot(across, at) + offset == 0; }); });
     }
     [[nodiscard]] bool is_flat() const { return lies_in(across_, -dot(across_, loops_[0][0])); }
     [[nodiscard]] bool holds(const Vector &at) const
@@ -80,20 +78,14 @@ private:
 /// The faces for which all holds that is asked, rising. Refused: NoSolid.
 inline std::vector<Face> faces(const Bench &bench, const gwb_face_query &query)
 {
-    std::vector<Face> found;
-    const auto look = [&](const auto &all) {
-        for (Face face : all) {
-            go_on();
-            if (Candidate(bench, face).fits(query))
-                found.push_back(face);
-        }
-    };
     const Solid solid(query.solid);
-    if (solid == Solid()) {
-        look(bench.numbers<Face>());
-    } else {
+    if (solid != Solid())
         machining::require_solid(bench, solid);
-        look(bench.faces(solid));
+    std::vector<Face> found;
+    for (Face face : solid != Solid() ? bench.faces(solid) : bench.numbers<Face>()) {
+        go_on();
+        if (Candidate(bench, face).fits(query))
+            found.push_back(face);
     }
     return found;
 }
@@ -103,11 +95,10 @@ inline std::set<Edge> edges_between(const Bench &bench, Face one, Face other, So
 {
     const Solid first = machining::solid_of(bench, one), second = machining::solid_of(bench, other);
     std::set<Edge> found;
-    if (solid != Solid() && (first != solid || second != solid))
-        return found;
-    for (const gwb_half_edge_row &row : bench.half_edge_rows(one))
-        if (bench.face_of(HalfEdge(row.half_edge).twin()) == other)
-            found.insert(HalfEdge(row.half_edge).edge());
+    if (solid == Solid() || (first == solid && second == solid))
+        for (const gwb_half_edge_row &row : bench.half_edge_rows(one))
+            if (bench.face_of(HalfEdge(row.half_edge).twin()) == other)
+                found.insert(HalfEdge(row.half_edge).edge());
     return found;
 }
 
@@ -115,35 +106,28 @@ inline std::set<Edge> edges_between(const Bench &bench, Face one, Face other, So
 inline std::set<Edge> candidates(const Bench &bench, const gwb_edge_query &query)
 {
     const Solid solid(query.solid);
-    std::set<Edge> found;
-    if (query.between[0] != 0)
-        found = edges_between(bench, Face(query.between[0]), Face(query.between[1]), solid);
+    const bool are_between = query.between[0] != 0;
+    const std::set<Edge> between = are_between ? edges_between(bench, Face(query.between[0]), Face(query.between[1]), solid) : std::set<Edge>();
     if (solid != Solid())
         machining::require_solid(bench, solid);
-    if (query.between[0] != 0)
-        return found;
-    if (solid != Solid())
-        return machining::edges_of(bench, solid);
-    for (Edge edge : bench.numbers<Edge>())
-        found.insert(found.end(), edge);
-    return found;
+    if (are_between)
+        return between;
+    const auto all = bench.numbers<Edge>();
+    return solid != Solid() ? machining::edges_of(bench, solid) : std::set<Edge>(all.begin(), all.end());
 }
 
 /// The edges for which all holds that is asked, rising. Refused: NoFace, NoSolid.
 inline std::vector<Edge> edges(const Bench &bench, const gwb_edge_query &query)
 {
     const std::set<Edge> all = candidates(bench, query);
-    const auto fits = [&](Edge edge) {
+    return filtered(std::vector<Edge>(all.begin(), all.end()), [&](Edge edge) {
         go_on();
         const EdgeRow row = bench.edge(edge);
         const Vector way = subtract(vector(bench.vertex(row.to)), vector(bench.vertex(row.from)));
         if (query.along != nullptr && (is_zero(way) || !are_parallel(way, vector(*query.along))))
             return false;
         return query.length == nullptr || is_as_long(way, whole(*query.length, 1));
-    };
-    std::vector<Edge> found;
-    std::copy_if(all.begin(), all.end(), std::back_inserter(found), fits);
-    return found;
+    });
 }
 
 } // namespace gwb_session::selection
