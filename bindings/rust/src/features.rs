@@ -185,18 +185,8 @@ impl Parts {
 }
 
 /// Lists of enum gwb_list.
-mod list {
-    pub const FLOOR: u32 = 0;
-    pub const WALLS: u32 = 1;
-    pub const FACES: u32 = 2;
-    pub const LOOPS: u32 = 3;
-    pub const EDGES: u32 = 4;
-    pub const VERTICES: u32 = 5;
-    pub const LOWER_CAPS: u32 = 7;
-    pub const UPPER_CAPS: u32 = 8;
-    pub const INTO: u32 = 9;
-    pub const SOLIDS: u32 = 10;
-}
+#[repr(u32)]
+enum List { Floor, Walls, Faces, Loops, Edges, Vertices, LowerCaps = 7, UpperCaps, Into, Solids }
 
 /// The calls that take a plane and a number for the solid above, an outline and a length, and a middle line.
 type Cut = unsafe extern "C" fn(*mut Gwb, u32, *const CutPlane, u32, *mut Refusal) -> u32;
@@ -210,7 +200,7 @@ fn listed(points: &[impl Copy + Into<Point>]) -> Vec<Point> {
     points.iter().map(|&at| at.into()).collect()
 }
 
-fn ids<N: Id>(numbers: Vec<u32>) -> Vec<N> {
+pub(crate) fn ids<N: Id>(numbers: Vec<u32>) -> Vec<N> {
     numbers.into_iter().map(N::from_number).collect()
 }
 
@@ -237,21 +227,22 @@ impl Operators {
         Ok(())
     }
 
-    fn made<N: Id>(&self, list: u32) -> Vec<N> {
+    fn made<N: Id>(&self, list: List) -> Vec<N> {
+        let list = list as u32;
         ids(crate::readers::rows(|to, room| unsafe { gwb_sys::gwb_made(self.handle(), list, to, room) }))
     }
 
     /// A list of old and new numbers.
-    fn made_pairs<N: Id>(&self, list: u32) -> BTreeMap<N, N> {
+    fn made_pairs<N: Id>(&self, list: List) -> BTreeMap<N, N> {
         self.made(list).chunks_exact(2).map(|pair| (pair[0], pair[1])).collect()
     }
 
     fn made_parts(&self) -> Parts {
         Parts {
-            faces: self.made_pairs(list::FACES),
-            loops: self.made_pairs(list::LOOPS),
-            edges: self.made_pairs(list::EDGES),
-            vertices: self.made_pairs(list::VERTICES),
+            faces: self.made_pairs(List::Faces),
+            loops: self.made_pairs(List::Loops),
+            edges: self.made_pairs(List::Edges),
+            vertices: self.made_pairs(List::Vertices),
         }
     }
 
@@ -274,7 +265,7 @@ impl Operators {
 
     fn notched(&mut self, call: impl FnOnce(*mut Gwb, *mut Refusal) -> u32) -> Result<Notch, Error> {
         self.feature(call)?;
-        Ok(Notch { floor: self.made(list::FLOOR), walls: self.made(list::WALLS) })
+        Ok(Notch { floor: self.made(List::Floor), walls: self.made(List::Walls) })
     }
 
     fn strip(&mut self, call: Strip, face: Face, [start, end]: [Point; 2], width: i64, depth: i64) -> Result<Notch, Error> {
@@ -284,7 +275,7 @@ impl Operators {
     fn parted(&mut self, call: Cut, solid: Solid, plane: [i64; 4], above: impl Into<Option<Solid>>) -> Result<Split, Error> {
         let above = self.named(above);
         self.feature(|g, why| unsafe { call(g, solid.0, &plane.into(), above.0, why) })?;
-        Ok(Split { above, lower_caps: self.made(list::LOWER_CAPS), upper_caps: self.made(list::UPPER_CAPS) })
+        Ok(Split { above, lower_caps: self.made(List::LowerCaps), upper_caps: self.made(List::UpperCaps) })
     }
 
     /// Gives a feature that writes the new ones of so many solids.
@@ -309,7 +300,7 @@ impl Operators {
     /// All numbers become as low as they can be, in their order: where none is left for what comes. [`Notes`](crate::Notes) follow by `renumbered`.
     pub fn renumber(&mut self) -> Result<Renumbered, Error> {
         self.feature(|g, why| unsafe { gwb_sys::gwb_renumber(g, why) })?;
-        Ok(Renumbered { solids: self.made_pairs(list::SOLIDS), parts: self.made_parts() })
+        Ok(Renumbered { solids: self.made_pairs(List::Solids), parts: self.made_parts() })
     }
 
     /// A row of so many solids, of which this is the first, each by the step from the one before it: those that are new.
@@ -349,14 +340,14 @@ impl Operators {
     /// What lies above the plane goes: the faces that close what is left.
     pub fn trim(&mut self, solid: Solid, plane: [i64; 4]) -> Result<Vec<Face>, Error> {
         self.feature(|g, why| unsafe { gwb_sys::gwb_trim(g, solid.0, &plane.into(), why) })?;
-        Ok(self.made(list::LOWER_CAPS))
+        Ok(self.made(List::LowerCaps))
     }
 
     /// The solids, which touch in faces, become the first: faces that became one with others, or several, each with one that it went into.
     pub fn union(&mut self, solids: &[Solid]) -> Result<Vec<(Face, Face)>, Error> {
         // `Solid` is a transparent u32
         self.feature(|g, why| unsafe { gwb_sys::gwb_union(g, solids.as_ptr().cast(), solids.len(), why) })?;
-        Ok(self.made(list::INTO).chunks_exact(2).map(|pair| (pair[0], pair[1])).collect())
+        Ok(self.made(List::Into).chunks_exact(2).map(|pair| (pair[0], pair[1])).collect())
     }
 
     /// A solid lies elsewhere, with the numbers that it has.

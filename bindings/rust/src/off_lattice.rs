@@ -141,11 +141,9 @@ impl Readers {
     pub fn off_lattice(&self, solid: Solid, [a, b, c, d]: [i64; 4], most: usize) -> Result<OffLattice, Error> {
         let (plane, mut found, mut why) = (gwb_sys::CutPlane { a, b, c, d }, null_mut(), gwb_sys::Refusal::default());
         // SAFETY: the handle is open, and what is written to is of this function.
-        match unsafe { gwb_sys::gwb_off_lattice(self.handle(), solid.0, &plane, most, &mut found, &mut why) } {
-            kind::OK => {}
-            kind::REFUSED => return Err(crate::operators::named(why)),
-            kind::STOPPED => return Err(Error::Stopped),
-            _ => return Err(Error::Memory),
+        let answer = unsafe { gwb_sys::gwb_off_lattice(self.handle(), solid.0, &plane, most, &mut found, &mut why) };
+        if answer != kind::OK {
+            return Err(crate::selection::unread(answer, why));
         }
         let advice = Advice(NonNull::new(found).ok_or(Error::Memory)?);
         Ok(OffLattice {

@@ -1,6 +1,8 @@
 //! Faces and edges by where they lie, exactly.
+use crate::features::ids;
+use crate::operators::named;
 use crate::readers::number_of;
-use crate::{Edge, Error, Face, Point, Readers, Solid};
+use crate::{Edge, Error, Face, Id, Point, Readers, Solid};
 use gwb_sys::{kind, CutPlane, Gwb, Ratio, Refusal};
 use std::ptr::null;
 
@@ -71,8 +73,7 @@ impl Readers {
             containing: pointer(&query.containing),
             area: pointer(&area),
         };
-        let found = self.sought(|g, buf, room, count, why| unsafe { gwb_sys::gwb_find_faces(g, &row, buf, room, count, why) })?;
-        Ok(found.into_iter().map(Face).collect())
+        self.sought(|g, buf, room, count, why| unsafe { gwb_sys::gwb_find_faces(g, &row, buf, room, count, why) })
     }
 
     /// The edges that are sought, rising.
@@ -90,24 +91,30 @@ impl Readers {
             along: pointer(&query.along),
             length: pointer(&length),
         };
-        let found = self.sought(|g, buf, room, count, why| unsafe { gwb_sys::gwb_find_edges(g, &row, buf, room, count, why) })?;
-        Ok(found.into_iter().map(Edge).collect())
+        self.sought(|g, buf, room, count, why| unsafe { gwb_sys::gwb_find_edges(g, &row, buf, room, count, why) })
     }
 
     /// What a query finds, which is asked for again where there is more than room.
-    fn sought(&self, call: impl Fn(*mut Gwb, *mut u32, usize, *mut usize, *mut Refusal) -> u32) -> Result<Vec<u32>, Error> {
+    fn sought<N: Id>(&self, call: impl Fn(*mut Gwb, *mut u32, usize, *mut usize, *mut Refusal) -> u32) -> Result<Vec<N>, Error> {
         let (mut found, mut count, mut why) = (vec![0; 64], 0, Refusal::default());
         loop {
             match call(self.handle(), found.as_mut_ptr(), found.len(), &mut count, &mut why) {
                 kind::OK if count <= found.len() => break,
                 kind::OK => found.resize(count, 0),
-                kind::REFUSED => return Err(crate::operators::named(why)),
-                kind::MEMORY => return Err(Error::Memory),
-                kind::STOPPED => return Err(Error::Stopped),
-                _ => return Err(Error::NoCall),
+                other => return Err(unread(other, why)),
             }
         }
         found.truncate(count);
-        Ok(found)
+        Ok(ids(found))
+    }
+}
+
+/// Why a reader of gwb_features.h gives nothing.
+pub(crate) fn unread(answer: u32, why: Refusal) -> Error {
+    match answer {
+        kind::REFUSED => named(why),
+        kind::NO_CALL => Error::NoCall,
+        kind::STOPPED => Error::Stopped,
+        _ => Error::Memory,
     }
 }
