@@ -209,9 +209,7 @@ public:
     {
         for (const Sheet &region : regions) {
             go_on();
-            starts_.emplace_back();
-            for (const Cycle &cycle : region.cycles)
-                starts_.back().push_back(put(cycle, &region));
+            starts_.push_back(mapped(region.cycles, [&](const Cycle &cycle) { return put(cycle, &region); }));
         }
         for (const Cycle &cycle : held.rest)
             put(cycle, nullptr);
@@ -409,10 +407,10 @@ private:
         for (const Placed *placed : fan)
             if (placed->side.is_old())
                 tails.insert(held_.model.start(placed->side.half));
-        std::vector<Vertex> found, others;
+        std::vector<Vertex> found;
         for (auto [old, end] = held_.vertices_at.equal_range(fan[0]->side.start); old != end; ++old)
-            (tails.count(old->second) != 0 ? found : others).push_back(old->second);
-        append(found, others);
+            found.push_back(old->second);
+        std::stable_partition(found.begin(), found.end(), [&](Vertex vertex) { return tails.count(vertex) != 0; });
         return found;
     }
 

@@ -54,10 +54,6 @@ public:
         for (HalfEdge half : {plus(edge), minus(edge)})
             if (const HalfEdge before = before_.at(half), following = after_.at(half.twin()); before != half.twin())
                 link(before, following);
-        for (HalfEdge half : {plus(edge), minus(edge)}) {
-            after_.erase(half);
-            before_.erase(half);
-        }
     }
 
     /// The half-edges of a loop, from one of them on to the one before another, or all of them up to the first one again.
@@ -275,15 +271,14 @@ private:
             for (HalfEdge edge : edges)
                 ways[model_.start(is_second ? edge.twin() : edge)].push_back(is_second ? edge.twin() : edge);
         std::set<Vertex> seen(waiting.begin(), waiting.end());
-        std::set_intersection(outer_.begin(), outer_.end(), vertices.begin(), vertices.end(), std::inserter(seen, seen.end()));
         std::vector<HalfEdge> tree;
         for (std::size_t at = 0; at < waiting.size(); at++)
             for (HalfEdge half : ways[waiting[at]])
-                if (const Vertex end = model_.start(half.twin()); seen.insert(end).second) {
+                if (const Vertex end = model_.start(half.twin()); outer_.count(end) == 0 && seen.insert(end).second) {
                     waiting.push_back(end);
                     tree.push_back(half);
                 }
-        require(std::includes(seen.begin(), seen.end(), vertices.begin(), vertices.end()));
+        require(all(vertices, [&](Vertex vertex) { return outer_.count(vertex) + seen.count(vertex) != 0; }));
         return tree;
     }
 

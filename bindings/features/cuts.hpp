@@ -93,13 +93,11 @@ inline Combined part_below(const Held &held, const std::vector<Sheet> &sheets, c
 /// The corners of a solid that lie in a plane.
 inline Path corners_in(const Bench &bench, Solid solid, const Plane &plane)
 {
-    Path found;
-    for (const gwb_half_edge_row &row : bench.half_edge_rows(solid)) {
+    const Path points = mapped(bench.half_edge_rows(solid), [&](const gwb_half_edge_row &row) {
         go_on();
-        if (const Vector at = vector(bench.vertex(Vertex(row.start))); plane.height(at) == 0)
-            found.push_back(at);
-    }
-    return found;
+        return vector(bench.vertex(Vertex(row.start)));
+    });
+    return filtered(points, [&](const Vector &at) { return plane.height(at) == 0; });
 }
 
 /// Refuses parts of a solid, each on one side of a plane, of which one meets or touches itself as the solid didn't: it does so where corners of the

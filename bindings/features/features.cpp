@@ -31,10 +31,19 @@ constexpr unsigned asks_once_in = 32;
 thread_local const gwb *making = nullptr;
 thread_local unsigned calls = 0;
 
-} // namespace
+/// What a thread makes for a session, whose caller may end it: until the end of its scope.
+class Making {
+public:
+    explicit Making(const gwb &session) : before_(std::exchange(making, &session)) { calls = 0; }
+    Making(const Making &) = delete;
+    Making &operator=(const Making &) = delete;
+    ~Making() { making = before_; }
 
-Making::Making(const gwb &session) : before_(std::exchange(making, &session)) { calls = 0; }
-Making::~Making() { making = before_; }
+private:
+    const gwb *before_;
+};
+
+} // namespace
 
 void go_on()
 {
@@ -47,16 +56,13 @@ namespace {
 /// A session in the place of a handle, which is closed meanwhile.
 class Borrowed : public Bench {
 public:
-    explicit Borrowed(gwb *g) : Borrowed(g, std::make_shared<State>()) {}
+    explicit Borrowed(gwb *g) : Commands(std::make_shared<State>()), g_(g) { std::swap(*handle(), *g_); }
     Borrowed(const Borrowed &) = delete;
     Borrowed &operator=(const Borrowed &) = delete;
-    ~Borrowed() { *g_ = std::exchange(session_->handle, gwb{}); }
+    ~Borrowed() { std::swap(*handle(), *g_); }
 
 private:
-    Borrowed(gwb *g, const std::shared_ptr<State> &session) : Commands(session), g_(g), session_(session) { session->handle = std::exchange(*g, gwb{}); }
-
     gwb *g_;
-    std::shared_ptr<State> session_;
 };
 
 gwb_kind told(const Failure &failure, gwb_refusal *why)
@@ -92,57 +98,31 @@ template <class Call> gwb_kind guarded(const gwb *g, gwb_refusal *why, Call call
 
 // ---- what was made, where the caller wants it
 
-template <class Kind> void put(const std::vector<Kind> &made, std::uint32_t *to)
-{
-    for (Kind number : made)
-        *to++ = number.number();
-}
-void put(Solid made, std::uint32_t *to) { *to = made.number(); }
-void put(const gwb_polyhedron_made &made, gwb_polyhedron_made *to) { *to = made; }
-void put(const Profile &made, gwb_profile_made *to, std::uint32_t *sides)
-{
-    *to = {made.far.number(), made.base.number()};
-    put(made.sides, sides);
-}
+constexpr auto number_of = [](auto made) { return made.number(); };
+
+template <class Kind> void put(const std::vector<Kind> &made, std::uint32_t *to) { std::transform(made.begin(), made.end(), to, number_of); }
 void put(const Pocket &made, gwb_outline_made *to, std::uint32_t *sides)
 {
     *to = {made.face.number(), made.loop.number()};
     put(made.sides, sides);
 }
-void put(const Hole &made, gwb_outline_made *to, std::uint32_t *sides, gwb_point *points)
-{
-    *to = {made.other.number(), made.loop.number()};
-    put(made.sides, sides);
-    std::copy(made.points.begin(), made.points.end(), points);
-}
-void put(const Ring &made, gwb_outline_made *to, std::uint32_t *edges, std::uint32_t *vertices)
-{
-    *to = {made.face.number(), made.loop.number()};
-    put(made.edges, edges);
-    put(made.vertices, vertices);
-}
 
 /// What is told by lists, which take memory.
-void list(const std::vector<Face> &made, std::vector<std::uint32_t> &to)
-{
-    to.resize(made.size());
-    put(made, to.data());
-}
 void list(const Notch &made, Lists &lists)
 {
-    list(made.floor, lists[GWB_MADE_FLOOR]);
-    list(made.walls, lists[GWB_MADE_WALLS]);
+    lists[GWB_MADE_FLOOR] = mapped(made.floor, number_of);
+    lists[GWB_MADE_WALLS] = mapped(made.walls, number_of);
 }
 void list(const Split &made, Lists &lists)
 {
-    list(made.lower_caps, lists[GWB_MADE_LOWER_CAPS]);
-    list(made.upper_caps, lists[GWB_MADE_UPPER_CAPS]);
+    lists[GWB_MADE_LOWER_CAPS] = mapped(made.lower_caps, number_of);
+    lists[GWB_MADE_UPPER_CAPS] = mapped(made.upper_caps, number_of);
 }
 
 // ---- what is made
 
-/// Makes something as one command, and then puts it where the caller wants it.
-template <class Make, class... To> void make_at_once(gwb *g, Make make, To... to)
+/// Makes something as one command.
+template <class Make> void make_at_once(gwb *g, Make make)
 {
     const struct beside &of = *beside_of(g);
     machining::Surroundings &known = machining::Surroundings::at(*beside_of(g));
@@ -153,14 +133,8 @@ template <class Make, class... To> void make_at_once(gwb *g, Make make, To... to
     try {
         Borrowed session(g);
         Together commands(session);
-        if constexpr (std::is_void_v<decltype(make(session, known.lists))>) {
-            make(session, known.lists);
-            commands.keep();
-        } else {
-            const auto found = make(session, known.lists);
-            commands.keep(); // nothing takes memory from here on
-            put(found, to...);
-        }
+        make(session, known.lists);
+        commands.keep();
     } catch (const Failure &) {
         if (was_known && known.is_of(before)) // it is again what it was
             known.is_again(of.changes);
@@ -168,21 +142,16 @@ template <class Make, class... To> void make_at_once(gwb *g, Make make, To... to
     }
 }
 
-/// The same, in the heap of the session. What makes something is given the session, and the lists for what it tells by them.
-template <class Make, class... To> gwb_kind made(gwb *g, gwb_refusal *why, Make make, To... to) noexcept
+/// The same, in the heap of the session. What makes something is given the session, and the lists for what it tells by them. In the end, when nothing
+/// can be refused any more, it writes what the caller is told.
+template <class Make> gwb_kind made(gwb *g, gwb_refusal *why, Make make) noexcept
 {
     if (!gwb_is_open(g))
         return GWB_CLOSED;
     const gwb_heap *before = gwb_use_heap(beside_of(g)->heap);
-    const gwb_kind kind = guarded(g, why, [&] { make_at_once(g, make, to...); });
+    const gwb_kind kind = guarded(g, why, [&] { make_at_once(g, make); });
     gwb_use_heap(before);
     return kind;
-}
-
-/// Makes what is told by lists alone: a notch, or the like; a split, or the like.
-template <class Make> gwb_kind listed(gwb *g, gwb_refusal *why, Make make)
-{
-    return made(g, why, [&](Bench &bench, Lists &lists) { list(make(bench), lists); });
 }
 
 /// What is answered to a call whose arguments make none.
@@ -192,8 +161,8 @@ gwb_kind no_call(const gwb *g) { return gwb_is_open(g) ? GWB_NO_CALL : GWB_CLOSE
 template <class Place>
 gwb_kind row_of(gwb *g, std::uint32_t solid, std::uint32_t count, Place place, std::uint32_t *solids, gwb_refusal *why)
 {
-    const auto make = [&](Bench &bench, Lists &lists) { return copies::patterned(bench, Solid(solid), count, place, lists); };
-    return count == 0 ? no_call(g) : made(g, why, make, solids);
+    const auto make = [&](Bench &bench, Lists &lists) { put(copies::patterned(bench, Solid(solid), count, place, lists), solids); };
+    return count == 0 ? no_call(g) : made(g, why, make);
 }
 
 /// Whether each number stands once.
@@ -232,7 +201,7 @@ gwb_kind sought(const gwb *g, const Query &query, Find find, std::uint32_t *buf,
 {
     if (!selection::is_query(query))
         return no_call(g);
-    return looked_at(g, why, [&](const Bench &bench) { *count = rows(find(bench, query), buf, room, [](auto number) { return number.number(); }); });
+    return looked_at(g, why, [&](const Bench &bench) { *count = rows(find(bench, query), buf, room, number_of); });
 }
 
 } // namespace
@@ -264,9 +233,9 @@ gwb_kind gwb_kill_solid(gwb *g, uint32_t solid, gwb_refusal *why)
 gwb_kind gwb_copy_solid(gwb *g, uint32_t solid, const gwb_motion *motion, uint32_t *out, gwb_refusal *why)
 {
     const auto make = [&](Bench &bench, Lists &lists) {
-        return copies::make(bench, copies::moved(copies::read(bench, Solid(solid)), {Motion(*motion)}), lists);
+        *out = copies::make(bench, copies::moved(copies::read(bench, Solid(solid)), {Motion(*motion)}), lists).number();
     };
-    return copies::is_motion(*motion) ? made(g, why, make, out) : no_call(g);
+    return copies::is_motion(*motion) ? made(g, why, make) : no_call(g);
 }
 
 gwb_kind gwb_move_solid(gwb *g, uint32_t solid, const gwb_motion *motion, gwb_refusal *why)
@@ -310,17 +279,19 @@ gwb_kind gwb_glue_all(gwb *g, const uint32_t *solids, size_t n, gwb_refusal *why
 
 gwb_kind gwb_split_solid(gwb *g, uint32_t solid, const gwb_cut_plane *plane, uint32_t above, gwb_refusal *why)
 {
-    return listed(g, why, [&](Bench &bench) { return cuts::split(bench, Solid(solid), exact::Plane::of(*plane), Solid(above)); });
+    return made(g, why, [&](Bench &bench, Lists &lists) { list(cuts::split(bench, Solid(solid), exact::Plane::of(*plane), Solid(above)), lists); });
 }
 
 gwb_kind gwb_cut(gwb *g, uint32_t solid, const gwb_cut_plane *plane, uint32_t above, gwb_refusal *why)
 {
-    return listed(g, why, [&](Bench &bench) { return cuts::cut(bench, Solid(solid), exact::Plane::of(*plane), Solid(above), true); });
+    return made(g, why, [&](Bench &bench, Lists &lists) { list(cuts::cut(bench, Solid(solid), exact::Plane::of(*plane), Solid(above), true), lists); });
 }
 
 gwb_kind gwb_trim(gwb *g, uint32_t solid, const gwb_cut_plane *plane, gwb_refusal *why)
 {
-    return listed(g, why, [&](Bench &bench) { return cuts::cut(bench, Solid(solid), exact::Plane::of(*plane), bench.next_free<Solid>(), false); });
+    return made(g, why, [&](Bench &bench, Lists &lists) {
+        list(cuts::cut(bench, Solid(solid), exact::Plane::of(*plane), bench.next_free<Solid>(), false), lists);
+    });
 }
 
 gwb_kind gwb_union(gwb *g, const uint32_t *solids, size_t n, gwb_refusal *why)
@@ -333,7 +304,11 @@ gwb_kind gwb_union(gwb *g, const uint32_t *solids, size_t n, gwb_refusal *why)
 gwb_kind gwb_profile(gwb *g, uint32_t solid, const gwb_point *points, size_t n, const gwb_point *along, gwb_profile_made *out, uint32_t *sides,
                      gwb_refusal *why)
 {
-    return made(g, why, [&](Bench &bench, Lists &) { return machining::make_profile(bench, Solid(solid), {points, n}, *along); }, out, sides);
+    return made(g, why, [&](Bench &bench, Lists &) {
+        const Profile found = machining::make_profile(bench, Solid(solid), {points, n}, *along);
+        *out = {found.far.number(), found.base.number()};
+        put(found.sides, sides);
+    });
 }
 
 gwb_kind gwb_polyhedron(gwb *g, uint32_t solid, const gwb_point *points, size_t n, const uint32_t *corners, const uint32_t *sizes, size_t faces,
@@ -342,68 +317,81 @@ gwb_kind gwb_polyhedron(gwb *g, uint32_t solid, const gwb_point *points, size_t 
     const size_t count = std::accumulate(sizes, sizes + faces, size_t{0});
     if (faces == 0 || n == 0 || std::any_of(corners, corners + count, [&](uint32_t corner) { return corner >= n; }))
         return no_call(g);
-    const auto make = [&](Bench &bench, Lists &) {
-        return polyhedra::make(bench, Solid(solid), {points, n}, corners, Items<uint32_t>(sizes, faces));
-    };
-    return made(g, why, make, out);
+    return made(g, why, [&](Bench &bench, Lists &) {
+        *out = polyhedra::make(bench, Solid(solid), {points, n}, corners, Items<uint32_t>(sizes, faces));
+    });
 }
 
 gwb_kind gwb_ring(gwb *g, uint32_t face, const gwb_point *points, size_t n, gwb_outline_made *out, uint32_t *edges, uint32_t *vertices, gwb_refusal *why)
 {
-    return made(g, why, [&](Bench &bench, Lists &) { return machining::make_ring(bench, Face(face), {points, n}); }, out, edges, vertices);
+    return made(g, why, [&](Bench &bench, Lists &) {
+        const Ring found = machining::make_ring(bench, Face(face), {points, n});
+        *out = {found.face.number(), found.loop.number()};
+        put(found.edges, edges);
+        put(found.vertices, vertices);
+    });
 }
 
 gwb_kind gwb_pocket(gwb *g, uint32_t face, const gwb_point *points, size_t n, int64_t depth, gwb_outline_made *out, uint32_t *sides, gwb_refusal *why)
 {
-    return made(g, why, [&](Bench &bench, Lists &) { return machining::make_pocket(bench, Face(face), {points, n}, depth); }, out, sides);
+    return made(g, why, [&](Bench &bench, Lists &) { put(machining::make_pocket(bench, Face(face), {points, n}, depth), out, sides); });
 }
 
 gwb_kind gwb_boss(gwb *g, uint32_t face, const gwb_point *points, size_t n, int64_t height, gwb_outline_made *out, uint32_t *sides, gwb_refusal *why)
 {
-    return made(g, why, [&](Bench &bench, Lists &) { return machining::make_boss(bench, Face(face), {points, n}, height); }, out, sides);
+    return made(g, why, [&](Bench &bench, Lists &) { put(machining::make_boss(bench, Face(face), {points, n}, height), out, sides); });
 }
 
 gwb_kind gwb_hole(gwb *g, uint32_t face, const gwb_point *points, size_t n, gwb_outline_made *out, uint32_t *sides, gwb_refusal *why)
 {
-    return made(g, why, [&](Bench &bench, Lists &) { return machining::make_hole(bench, Face(face), {points, n}); }, out, sides);
+    return made(g, why, [&](Bench &bench, Lists &) { put(machining::make_hole(bench, Face(face), {points, n}), out, sides); });
 }
 
 gwb_kind gwb_drill(gwb *g, uint32_t face, const gwb_point *center, int64_t radius, uint32_t n, int64_t depth, gwb_outline_made *out, uint32_t *sides,
                    gwb_point *points, gwb_refusal *why)
 {
-    return made(g, why, [&](Bench &bench, Lists &) { return drilling::drill(bench, Face(face), *center, radius, n, depth); }, out, sides, points);
+    return made(g, why, [&](Bench &bench, Lists &) {
+        const Hole found = drilling::drill(bench, Face(face), *center, radius, n, depth);
+        *out = {found.other.number(), found.loop.number()};
+        put(found.sides, sides);
+        std::copy(found.points.begin(), found.points.end(), points);
+    });
 }
 
 gwb_kind gwb_notch(gwb *g, uint32_t face, const gwb_point *points, size_t n, int64_t depth, gwb_refusal *why)
 {
-    return listed(g, why, [&](Bench &bench) { return shaping::cut_in_face(bench, Face(face), {points, n}, shaping::notch_tool, depth); });
+    return made(g, why, [&](Bench &bench, Lists &lists) { list(shaping::cut_in_face(bench, Face(face), {points, n}, shaping::notch_tool, depth), lists); });
 }
 
 gwb_kind gwb_slot(gwb *g, uint32_t face, const gwb_point *start, const gwb_point *end, int64_t width, int64_t depth, gwb_refusal *why)
 {
-    return listed(g, why, [&](Bench &bench) { return shaping::cut_in_face(bench, Face(face), {*start, *end}, shaping::slot_tool, width, depth); });
+    return made(g, why, [&](Bench &bench, Lists &lists) {
+        list(shaping::cut_in_face(bench, Face(face), {*start, *end}, shaping::slot_tool, width, depth), lists);
+    });
 }
 
 gwb_kind gwb_groove(gwb *g, uint32_t face, const gwb_point *start, const gwb_point *end, int64_t width, int64_t depth, gwb_refusal *why)
 {
-    return listed(g, why, [&](Bench &bench) { return shaping::cut_in_face(bench, Face(face), {*start, *end}, shaping::groove_tool, width, depth); });
+    return made(g, why, [&](Bench &bench, Lists &lists) {
+        list(shaping::cut_in_face(bench, Face(face), {*start, *end}, shaping::groove_tool, width, depth), lists);
+    });
 }
 
 gwb_kind gwb_shoulder(gwb *g, uint32_t face, uint32_t edge, int64_t width, int64_t depth, gwb_refusal *why)
 {
-    return listed(g, why, [&](Bench &bench) { return shaping::cut_shoulder(bench, Face(face), Edge(edge), width, depth); });
+    return made(g, why, [&](Bench &bench, Lists &lists) { list(shaping::cut_shoulder(bench, Face(face), Edge(edge), width, depth), lists); });
 }
 
 gwb_kind gwb_chamfer(gwb *g, uint32_t edge, int64_t width, int64_t other, uint32_t *face, gwb_refusal *why)
 {
-    return made(g, why, [&](Bench &bench, Lists &) { return shaping::make_chamfers(bench, {Edge(edge)}, width, other); }, face);
+    return made(g, why, [&](Bench &bench, Lists &) { put(shaping::make_chamfers(bench, {Edge(edge)}, width, other), face); });
 }
 
 gwb_kind gwb_chamfer_edges(gwb *g, const uint32_t *edges, size_t n, int64_t width, uint32_t *faces, gwb_refusal *why)
 {
     if (n == 0 || !are_different(edges, n))
         return no_call(g);
-    return made(g, why, [&](Bench &bench, Lists &) { return shaping::make_chamfers(bench, std::vector<Edge>(edges, edges + n), width, width); }, faces);
+    return made(g, why, [&](Bench &bench, Lists &) { put(shaping::make_chamfers(bench, std::vector<Edge>(edges, edges + n), width, width), faces); });
 }
 
 gwb_kind gwb_find_faces(const gwb *g, const gwb_face_query *query, uint32_t *buf, size_t room, size_t *found, gwb_refusal *why)

@@ -12,12 +12,16 @@ tried rattle_alloc(std::size_t size, std::size_t align);
 void rattle_dealloc(void *at);
 }
 
-void *operator new(std::size_t size)
+void *operator new(std::size_t size, const std::nothrow_t &) noexcept
 {
     const tried block = rattle_alloc(size, 16);
-    if (!block.ok)
-        throw std::bad_alloc();
-    return block.at;
+    return block.ok ? block.at : nullptr;
+}
+void *operator new(std::size_t size)
+{
+    if (void *at = operator new(size, std::nothrow_t()))
+        return at;
+    throw std::bad_alloc();
 }
 void operator delete(void *at) noexcept
 {
@@ -25,6 +29,7 @@ void operator delete(void *at) noexcept
         rattle_dealloc(at);
 }
 void operator delete(void *at, std::size_t) noexcept { operator delete(at); }
+void operator delete(void *at, const std::nothrow_t &) noexcept { operator delete(at); }
 
 // What of the C++ library would bring much more of it along. A container asks for too much where memory would be refused too.
 namespace std {
@@ -39,12 +44,6 @@ namespace std {
 namespace __gnu_cxx {
 void __verbose_terminate_handler() { std::abort(); }
 } // namespace __gnu_cxx
-void *operator new(std::size_t size, const std::nothrow_t &) noexcept
-{
-    const tried block = rattle_alloc(size, 16);
-    return block.ok ? block.at : nullptr;
-}
-void operator delete(void *at, const std::nothrow_t &) noexcept { operator delete(at); }
 extern "C" [[noreturn]] void __cxa_pure_virtual() { std::abort(); }
 
 // What is thrown is small, one at a time, so it needs no memory, and the pool that the C++ library keeps for it isn't brought along.

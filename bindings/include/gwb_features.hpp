@@ -417,11 +417,11 @@ template <class T> const T *pointer(const std::optional<T> &value) { return valu
 template <class Kind, class Policy, class Query, class Call>
 Answer<Policy, std::vector<Kind>> found(const Commands<Policy> &bench, const char *reader, const Query &query, Call call)
 {
-    std::vector<std::uint32_t> numbers(64);
-    std::size_t count = 0;
+    std::vector<std::uint32_t> numbers;
+    std::size_t count = 64;
     gwb_refusal why{};
-    gwb_kind kind = call(bench.handle(), &query, numbers.data(), numbers.size(), &count, &why);
-    if (kind == GWB_OK && count > numbers.size()) {
+    gwb_kind kind = GWB_OK;
+    while (kind == GWB_OK && count > numbers.size()) {
         numbers.resize(count);
         kind = call(bench.handle(), &query, numbers.data(), numbers.size(), &count, &why);
     }
