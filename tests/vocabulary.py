@@ -105,10 +105,10 @@ def cpp_calls() -> Calls:
 
 
 def rust_calls() -> Calls:
-    """Those in Rust, where a plane is four numbers."""
+    """Those in Rust, where a plane is four numbers: methods, and rows of `features!`."""
     text = text_of(*RUST_FILES)
     calls: Calls = {}
-    for found in re.finditer(r'^    pub fn (\w+)\((?=\s*&(?:mut )?self)', text, re.MULTILINE):
+    for found in re.finditer(r'^    (?:pub fn )?(\w+)\((?=this\b|\s*&(?:mut )?self)', text, re.MULTILINE):
         parts = parts_of(re.sub(r'\s+', ' ', in_brackets(text, found.end())))[1:]
         calls[found.group(1)] = tuple('plane' if part.startswith('[') else part.split(':')[0] for part in parts)
     return calls

@@ -2,7 +2,7 @@
 //! [`Error::Impossible`], or refused as a command would be, and then nothing has changed.
 use crate::rows::values;
 use crate::{minus, plus, Edge, Error, Face, HalfEdge, Id, Loop, Misfit, Operators, Point, Solid, Vertex};
-use gwb_sys::{kind, CutPlane, Gwb, OutlineMade, Refusal};
+use gwb_sys::{kind, Gwb, OutlineMade, Refusal};
 use std::collections::BTreeMap;
 use std::ops::Deref;
 
@@ -188,11 +188,6 @@ impl Parts {
 #[repr(u32)]
 enum List { Floor, Walls, Faces, Loops, Edges, Vertices, LowerCaps = 7, UpperCaps, Into, Solids }
 
-/// The calls that take a plane and a number for the solid above, an outline and a length, and a middle line.
-type Cut = unsafe extern "C" fn(*mut Gwb, u32, *const CutPlane, u32, *mut Refusal) -> u32;
-type Raise = unsafe extern "C" fn(*mut Gwb, u32, *const Point, usize, i64, *mut OutlineMade, *mut u32, *mut Refusal) -> u32;
-type Strip = unsafe extern "C" fn(*mut Gwb, u32, *const Point, *const Point, i64, i64, *mut Refusal) -> u32;
-
 /// More points of a polygon, and more solids of a row, are refused before any is written.
 const MOST: u32 = 1_000_000;
 
@@ -209,8 +204,24 @@ fn room<T: Clone + Default>(count: u32) -> Vec<T> {
     vec![T::default(); if count <= MOST { count as usize } else { 0 }]
 }
 
+/// An outline in a face, and what a call writes of it.
+struct Drawn {
+    points: Vec<Point>,
+    made: OutlineMade,
+    along: Vec<u32>,
+}
+
+impl Drawn {
+    fn new(points: &[impl Copy + Into<Point>]) -> Self {
+        Self { points: listed(points), made: OutlineMade::default(), along: vec![0; points.len()] }
+    }
+
+    fn pocket(self) -> Pocket {
+        Pocket { face: Face(self.made.face), of_loop: Loop(self.made.of_loop), sides: ids(self.along) }
+    }
+}
+
 // SAFETY, for all calls in this file: as in operators.rs; lists have as many items as there are points.
-#[allow(clippy::missing_errors_doc)] // (as gwb_features.h says)
 impl Operators {
     /// Gives a feature.
     pub(crate) fn feature(&mut self, call: impl FnOnce(*mut Gwb, *mut Refusal) -> u32) -> Result<(), Error> {
@@ -246,214 +257,150 @@ impl Operators {
         }
     }
 
-    fn outlined<N: Id>(
-        &mut self,
-        points: &[impl Copy + Into<Point>],
-        call: impl FnOnce(*mut Gwb, &[Point], *mut OutlineMade, *mut u32, *mut Refusal) -> u32,
-    ) -> Result<(Face, Loop, Vec<N>), Error> {
-        let (points, mut made, mut along) = (listed(points), OutlineMade::default(), vec![0; points.len()]);
-        self.feature(|g, why| call(g, &points, &mut made, along.as_mut_ptr(), why))?;
-        Ok((Face(made.face), Loop(made.of_loop), ids(along)))
+    fn made_notch(&self) -> Notch {
+        Notch { floor: self.made(List::Floor), walls: self.made(List::Walls) }
     }
 
-    fn raised(&mut self, call: Raise, face: Face, points: &[impl Copy + Into<Point>], length: i64) -> Result<Pocket, Error> {
-        let (face, of_loop, sides) = self.outlined(points, |g, points, made, sides, why| unsafe {
-            call(g, face.0, points.as_ptr(), points.len(), length, made, sides, why)
-        })?;
-        Ok(Pocket { face, of_loop, sides })
+    fn made_split(&self, above: Solid) -> Split {
+        Split { above, lower_caps: self.made(List::LowerCaps), upper_caps: self.made(List::UpperCaps) }
     }
+}
 
-    fn notched(&mut self, call: impl FnOnce(*mut Gwb, *mut Refusal) -> u32) -> Result<Notch, Error> {
-        self.feature(call)?;
-        Ok(Notch { floor: self.made(List::Floor), walls: self.made(List::Walls) })
-    }
+/// Makes a method of each row: after its arguments what comes back, what is made ready, what the call of the library is given, and what that gives.
+macro_rules! features {
+    ($(
+        $(#[$doc:meta])*
+        $name:ident($this:ident $(, $argument:ident: $of:ty)*) -> $back:ty {
+            $(let $ready:pat = $value:expr;)*
+            gwb_sys::$call:ident($($given:expr),*) => $made:expr
+        }
+    )+) => {
+        #[allow(clippy::missing_errors_doc)] // (as gwb_features.h says)
+        impl Operators {
+            $(
+                $(#[$doc])*
+                pub fn $name(&mut self, $($argument: $of),*) -> Result<$back, Error> {
+                    let $this = self;
+                    $(let $ready = $value;)*
+                    $this.feature(|g, why| unsafe { gwb_sys::$call(g, $($given,)* why) })?;
+                    Ok($made)
+                }
+            )+
+        }
+    };
+}
 
-    fn strip(&mut self, call: Strip, face: Face, [start, end]: [Point; 2], width: i64, depth: i64) -> Result<Notch, Error> {
-        self.notched(|g, why| unsafe { call(g, face.0, &start, &end, width, depth, why) })
-    }
-
-    fn parted(&mut self, call: Cut, solid: Solid, plane: [i64; 4], above: impl Into<Option<Solid>>) -> Result<Split, Error> {
-        let above = self.named(above);
-        self.feature(|g, why| unsafe { call(g, solid.0, &plane.into(), above.0, why) })?;
-        Ok(Split { above, lower_caps: self.made(List::LowerCaps), upper_caps: self.made(List::UpperCaps) })
-    }
-
-    /// Gives a feature that writes the new ones of so many solids.
-    fn row(&mut self, count: u32, call: impl FnOnce(*mut Gwb, *mut u32, *mut Refusal) -> u32) -> Result<Vec<Solid>, Error> {
-        let mut made = room(count.saturating_sub(1));
-        self.feature(|g, why| call(g, made.as_mut_ptr(), why))?;
-        Ok(ids(made))
-    }
-
+// (`Solid` and `Edge` are transparent u32)
+features! {
     /// A solid goes, with all its parts.
-    pub fn kill_solid(&mut self, solid: Solid) -> Result<(), Error> {
-        self.feature(|g, why| unsafe { gwb_sys::gwb_kill_solid(g, solid.0, why) })
-    }
-
+    kill_solid(this, solid: Solid) -> () { gwb_sys::gwb_kill_solid(solid.0) => () }
     /// A new solid, that is another moved; its numbers are free ones, above all in use as long as there are any.
-    pub fn copy_solid(&mut self, solid: Solid, motion: Motion) -> Result<Copied, Error> {
+    copy_solid(this, solid: Solid, motion: Motion) -> Copied {
         let mut made = 0;
-        self.feature(|g, why| unsafe { gwb_sys::gwb_copy_solid(g, solid.0, &motion.row(), &mut made, why) })?;
-        Ok(Copied { solid: Solid(made), parts: self.made_parts() })
+        gwb_sys::gwb_copy_solid(solid.0, &motion.row(), &mut made) => Copied { solid: Solid(made), parts: this.made_parts() }
     }
-
-    /// All numbers become as low as they can be, in their order: where none is left for what comes. [`Notes`](crate::Notes) follow by `renumbered`.
-    pub fn renumber(&mut self) -> Result<Renumbered, Error> {
-        self.feature(|g, why| unsafe { gwb_sys::gwb_renumber(g, why) })?;
-        Ok(Renumbered { solids: self.made_pairs(List::Solids), parts: self.made_parts() })
-    }
-
+    /// A solid lies elsewhere, with the numbers that it has.
+    move_solid(this, solid: Solid, motion: Motion) -> () { gwb_sys::gwb_move_solid(solid.0, &motion.row()) => () }
     /// A row of so many solids, of which this is the first, each by the step from the one before it: those that are new.
-    pub fn pattern(&mut self, solid: Solid, count: u32, step: impl Into<Point>) -> Result<Vec<Solid>, Error> {
-        let step = step.into();
-        self.row(count, |g, made, why| unsafe { gwb_sys::gwb_pattern(g, solid.0, count, &step, made, why) })
+    pattern(this, solid: Solid, count: u32, step: impl Into<Point>) -> Vec<Solid> {
+        let mut made = room(count.saturating_sub(1));
+        gwb_sys::gwb_pattern(solid.0, count, &step.into(), made.as_mut_ptr()) => ids(made)
     }
-
     /// So many solids around the axis through a point (0 x, 1 y, 2 z), of which this is the first, each so many quarter turns on from the one before it:
     /// those that are new.
-    pub fn pattern_around(&mut self, solid: Solid, count: u32, axis: u32, quarters: u32, about: impl Into<Point>) -> Result<Vec<Solid>, Error> {
-        let about = about.into();
-        self.row(count, |g, made, why| unsafe { gwb_sys::gwb_pattern_around(g, solid.0, count, axis, quarters, &about, made, why) })
+    pattern_around(this, solid: Solid, count: u32, axis: u32, quarters: u32, about: impl Into<Point>) -> Vec<Solid> {
+        let mut made = room(count.saturating_sub(1));
+        gwb_sys::gwb_pattern_around(solid.0, count, axis, quarters, &about.into(), made.as_mut_ptr()) => ids(made)
     }
-
     /// All coordinates times the factor; numbers stay.
-    pub fn scale(&mut self, factor: i64) -> Result<(), Error> {
-        self.feature(|g, why| unsafe { gwb_sys::gwb_scale(g, factor, why) })
-    }
-
+    scale(this, factor: i64) -> () { gwb_sys::gwb_scale(factor) => () }
+    /// All numbers become as low as they can be, in their order: where none is left for what comes. [`Notes`](crate::Notes) follow by `renumbered`.
+    renumber(this) -> Renumbered { gwb_sys::gwb_renumber() => Renumbered { solids: this.made_pairs(List::Solids), parts: this.made_parts() } }
     /// The solids become the first, glued along the faces that match.
-    pub fn glue_all(&mut self, solids: &[Solid]) -> Result<(), Error> {
-        // `Solid` is a transparent u32
-        self.feature(|g, why| unsafe { gwb_sys::gwb_glue_all(g, solids.as_ptr().cast(), solids.len(), why) })
-    }
-
+    glue_all(this, solids: &[Solid]) -> () { gwb_sys::gwb_glue_all(solids.as_ptr().cast(), solids.len()) => () }
     /// What [`split`](crate::Operators::split) does, with the faces that close both parts.
-    pub fn split_solid(&mut self, solid: Solid, plane: [i64; 4], above: impl Into<Option<Solid>>) -> Result<Split, Error> {
-        self.parted(gwb_sys::gwb_split_solid, solid, plane, above)
+    split_solid(this, solid: Solid, plane: [i64; 4], above: impl Into<Option<Solid>>) -> Split {
+        let above = this.named(above);
+        gwb_sys::gwb_split_solid(solid.0, &plane.into(), above.0) => this.made_split(above)
     }
-
     /// The same, also where split refuses the plane for what it touches or how it runs through faces and holes.
-    pub fn cut(&mut self, solid: Solid, plane: [i64; 4], above: impl Into<Option<Solid>>) -> Result<Split, Error> {
-        self.parted(gwb_sys::gwb_cut, solid, plane, above)
+    cut(this, solid: Solid, plane: [i64; 4], above: impl Into<Option<Solid>>) -> Split {
+        let above = this.named(above);
+        gwb_sys::gwb_cut(solid.0, &plane.into(), above.0) => this.made_split(above)
     }
-
     /// What lies above the plane goes: the faces that close what is left.
-    pub fn trim(&mut self, solid: Solid, plane: [i64; 4]) -> Result<Vec<Face>, Error> {
-        self.feature(|g, why| unsafe { gwb_sys::gwb_trim(g, solid.0, &plane.into(), why) })?;
-        Ok(self.made(List::LowerCaps))
-    }
-
+    trim(this, solid: Solid, plane: [i64; 4]) -> Vec<Face> { gwb_sys::gwb_trim(solid.0, &plane.into()) => this.made(List::LowerCaps) }
     /// The solids, which touch in faces, become the first: faces that became one with others, or several, each with one that it went into.
-    pub fn union(&mut self, solids: &[Solid]) -> Result<Vec<(Face, Face)>, Error> {
-        // `Solid` is a transparent u32
-        self.feature(|g, why| unsafe { gwb_sys::gwb_union(g, solids.as_ptr().cast(), solids.len(), why) })?;
-        Ok(self.made(List::Into).chunks_exact(2).map(|pair| (pair[0], pair[1])).collect())
+    union(this, solids: &[Solid]) -> Vec<(Face, Face)> {
+        gwb_sys::gwb_union(solids.as_ptr().cast(), solids.len()) => this.made(List::Into).chunks_exact(2).map(|pair| (pair[0], pair[1])).collect()
     }
-
-    /// A solid lies elsewhere, with the numbers that it has.
-    pub fn move_solid(&mut self, solid: Solid, motion: Motion) -> Result<(), Error> {
-        self.feature(|g, why| unsafe { gwb_sys::gwb_move_solid(g, solid.0, &motion.row(), why) })
-    }
-
     /// A new solid: the outline through the points, moved along the vector.
-    pub fn profile(&mut self, solid: impl Into<Option<Solid>>, points: &[impl Copy + Into<Point>], along: impl Into<Point>) -> Result<Profile, Error> {
-        let (solid, points, along) = (self.named(solid), listed(points), along.into());
-        let (mut made, mut sides) = (gwb_sys::ProfileMade::default(), vec![0; points.len()]);
-        self.feature(|g, why| unsafe {
-            gwb_sys::gwb_profile(g, solid.0, points.as_ptr(), points.len(), &along, &mut made, sides.as_mut_ptr(), why)
-        })?;
-        Ok(Profile { solid, far: Face(made.far), base: Face(made.base), sides: ids(sides) })
+    profile(this, solid: impl Into<Option<Solid>>, points: &[impl Copy + Into<Point>], along: impl Into<Point>) -> Profile {
+        let (solid, points, mut made) = (this.named(solid), listed(points), gwb_sys::ProfileMade::default());
+        let mut sides = vec![0; points.len()];
+        gwb_sys::gwb_profile(solid.0, points.as_ptr(), points.len(), &along.into(), &mut made, sides.as_mut_ptr())
+            => Profile { solid, far: Face(made.far), base: Face(made.base), sides: ids(sides) }
     }
-
     /// A new solid: points, and faces of so many corners each, by their places among the points from 0 on, counterclockwise as seen from outside.
     /// [`Error::NoCall`] where these aren't sound as a solid.
-    pub fn polyhedron(
-        &mut self,
-        solid: impl Into<Option<Solid>>,
-        points: &[impl Copy + Into<Point>],
-        corners: &[u32],
-        sizes: &[u32],
-    ) -> Result<Polyhedron, Error> {
-        let (solid, points, mut made) = (self.named(solid), listed(points), gwb_sys::PolyhedronMade::default());
-        if sizes.iter().map(|&size| size as usize).sum::<usize>() != corners.len() {
-            return Err(Error::NoCall);
-        }
-        self.feature(|g, why| unsafe {
-            gwb_sys::gwb_polyhedron(g, solid.0, points.as_ptr(), points.len(), corners.as_ptr(), sizes.as_ptr(), sizes.len(), &mut made, why)
-        })?;
-        Ok(Polyhedron { solid, first_vertex: Vertex(made.first_vertex), first_face: Face(made.first_face) })
+    polyhedron(this, solid: impl Into<Option<Solid>>, points: &[impl Copy + Into<Point>], corners: &[u32], sizes: &[u32]) -> Polyhedron {
+        let (solid, points, mut made) = (this.named(solid), listed(points), gwb_sys::PolyhedronMade::default());
+        let faces = if sizes.iter().map(|&size| size as usize).sum::<usize>() == corners.len() { sizes.len() } else { 0 };
+        gwb_sys::gwb_polyhedron(solid.0, points.as_ptr(), points.len(), corners.as_ptr(), sizes.as_ptr(), faces, &mut made)
+            => Polyhedron { solid, first_vertex: Vertex(made.first_vertex), first_face: Face(made.first_face) }
     }
-
     /// A face inside the face, with the outline through the points, and a ring around it.
-    pub fn ring(&mut self, face: Face, points: &[impl Copy + Into<Point>]) -> Result<Ring, Error> {
-        let mut vertices = vec![0; points.len()];
-        let (face, of_loop, edges) = self.outlined(points, |g, points, made, edges, why| unsafe {
-            gwb_sys::gwb_ring(g, face.0, points.as_ptr(), points.len(), made, edges, vertices.as_mut_ptr(), why)
-        })?;
-        Ok(Ring { face, of_loop, edges, vertices: ids(vertices) })
+    ring(this, face: Face, points: &[impl Copy + Into<Point>]) -> Ring {
+        let (mut drawn, mut vertices) = (Drawn::new(points), vec![0; points.len()]);
+        gwb_sys::gwb_ring(face.0, drawn.points.as_ptr(), drawn.points.len(), &mut drawn.made, drawn.along.as_mut_ptr(), vertices.as_mut_ptr())
+            => Ring { face: Face(drawn.made.face), of_loop: Loop(drawn.made.of_loop), edges: ids(drawn.along), vertices: ids(vertices) }
     }
-
     /// A pocket so deep behind the outline in the face.
-    pub fn pocket(&mut self, face: Face, points: &[impl Copy + Into<Point>], depth: i64) -> Result<Pocket, Error> {
-        self.raised(gwb_sys::gwb_pocket, face, points, depth)
+    pocket(this, face: Face, points: &[impl Copy + Into<Point>], depth: i64) -> Pocket {
+        let mut drawn = Drawn::new(points);
+        gwb_sys::gwb_pocket(face.0, drawn.points.as_ptr(), drawn.points.len(), depth, &mut drawn.made, drawn.along.as_mut_ptr()) => drawn.pocket()
     }
-
     /// A boss so high on the outline in the face.
-    pub fn boss(&mut self, face: Face, points: &[impl Copy + Into<Point>], height: i64) -> Result<Pocket, Error> {
-        self.raised(gwb_sys::gwb_boss, face, points, height)
+    boss(this, face: Face, points: &[impl Copy + Into<Point>], height: i64) -> Pocket {
+        let mut drawn = Drawn::new(points);
+        gwb_sys::gwb_boss(face.0, drawn.points.as_ptr(), drawn.points.len(), height, &mut drawn.made, drawn.along.as_mut_ptr()) => drawn.pocket()
     }
-
     /// A hole from the outline in the face through to the opposite face.
-    pub fn hole(&mut self, face: Face, points: &[impl Copy + Into<Point>]) -> Result<Hole, Error> {
-        let (other, of_loop, sides) = self.outlined(points, |g, points, made, sides, why| unsafe {
-            gwb_sys::gwb_hole(g, face.0, points.as_ptr(), points.len(), made, sides, why)
-        })?;
-        Ok(Hole { other, of_loop, sides, points: listed(points) })
+    hole(this, face: Face, points: &[impl Copy + Into<Point>]) -> Hole {
+        let mut drawn = Drawn::new(points);
+        gwb_sys::gwb_hole(face.0, drawn.points.as_ptr(), drawn.points.len(), &mut drawn.made, drawn.along.as_mut_ptr())
+            => Hole { other: Face(drawn.made.face), of_loop: Loop(drawn.made.of_loop), sides: ids(drawn.along), points: drawn.points }
     }
-
     /// A hole with a polygon of so many sides around the center, on whole numbers nearest to the circle of the radius: through, where the depth is 0,
     /// or so deep.
-    pub fn drill(&mut self, face: Face, center: impl Into<Point>, radius: i64, sides: u32, depth: i64) -> Result<Hole, Error> {
-        let (center, mut made, mut walls, mut points) = (center.into(), OutlineMade::default(), room(sides), room(sides));
-        self.feature(|g, why| unsafe {
-            gwb_sys::gwb_drill(g, face.0, &center, radius, sides, depth, &mut made, walls.as_mut_ptr(), points.as_mut_ptr(), why)
-        })?;
-        Ok(Hole { other: Face(made.face), of_loop: Loop(made.of_loop), sides: ids(walls), points })
+    drill(this, face: Face, center: impl Into<Point>, radius: i64, sides: u32, depth: i64) -> Hole {
+        let (mut made, mut walls, mut points) = (OutlineMade::default(), room(sides), room(sides));
+        gwb_sys::gwb_drill(face.0, &center.into(), radius, sides, depth, &mut made, walls.as_mut_ptr(), points.as_mut_ptr())
+            => Hole { other: Face(made.face), of_loop: Loop(made.of_loop), sides: ids(walls), points }
     }
-
     /// A pocket whose outline may reach the edges of the face.
-    pub fn notch(&mut self, face: Face, points: &[impl Copy + Into<Point>], depth: i64) -> Result<Notch, Error> {
+    notch(this, face: Face, points: &[impl Copy + Into<Point>], depth: i64) -> Notch {
         let points = listed(points);
-        self.notched(|g, why| unsafe { gwb_sys::gwb_notch(g, face.0, points.as_ptr(), points.len(), depth, why) })
+        gwb_sys::gwb_notch(face.0, points.as_ptr(), points.len(), depth) => this.made_notch()
     }
-
     /// A slot with a flat floor along a line from one point to another.
-    pub fn slot(&mut self, face: Face, start: impl Into<Point>, end: impl Into<Point>, width: i64, depth: i64) -> Result<Notch, Error> {
-        self.strip(gwb_sys::gwb_slot, face, [start.into(), end.into()], width, depth)
+    slot(this, face: Face, start: impl Into<Point>, end: impl Into<Point>, width: i64, depth: i64) -> Notch {
+        gwb_sys::gwb_slot(face.0, &start.into(), &end.into(), width, depth) => this.made_notch()
     }
-
     /// A groove like a V.
-    pub fn groove(&mut self, face: Face, start: impl Into<Point>, end: impl Into<Point>, width: i64, depth: i64) -> Result<Notch, Error> {
-        self.strip(gwb_sys::gwb_groove, face, [start.into(), end.into()], width, depth)
+    groove(this, face: Face, start: impl Into<Point>, end: impl Into<Point>, width: i64, depth: i64) -> Notch {
+        gwb_sys::gwb_groove(face.0, &start.into(), &end.into(), width, depth) => this.made_notch()
     }
-
     /// A step along an edge of the face.
-    pub fn shoulder(&mut self, face: Face, edge: Edge, width: i64, depth: i64) -> Result<Notch, Error> {
-        self.notched(|g, why| unsafe { gwb_sys::gwb_shoulder(g, face.0, edge.0, width, depth, why) })
-    }
-
+    shoulder(this, face: Face, edge: Edge, width: i64, depth: i64) -> Notch { gwb_sys::gwb_shoulder(face.0, edge.0, width, depth) => this.made_notch() }
     /// The edge becomes a sloping face.
-    pub fn chamfer(&mut self, edge: Edge, width: i64, other: impl Into<Option<i64>>) -> Result<Face, Error> {
-        let (other, mut face) = (other.into().unwrap_or(width), 0);
-        self.feature(|g, why| unsafe { gwb_sys::gwb_chamfer(g, edge.0, width, other, &mut face, why) })?;
-        Ok(Face(face))
+    chamfer(this, edge: Edge, width: i64, other: impl Into<Option<i64>>) -> Face {
+        let mut face = 0;
+        gwb_sys::gwb_chamfer(edge.0, width, other.into().unwrap_or(width), &mut face) => Face(face)
     }
-
     /// Different edges become slopes at once, as far into the faces on both sides, which meet where the edges do: the slope of each.
-    pub fn chamfer_edges(&mut self, edges: &[Edge], width: i64) -> Result<Vec<Face>, Error> {
+    chamfer_edges(this, edges: &[Edge], width: i64) -> Vec<Face> {
         let mut faces = vec![0; edges.len()];
-        // `Edge` is a transparent u32
-        self.feature(|g, why| unsafe { gwb_sys::gwb_chamfer_edges(g, edges.as_ptr().cast(), edges.len(), width, faces.as_mut_ptr(), why) })?;
-        Ok(ids(faces))
+        gwb_sys::gwb_chamfer_edges(edges.as_ptr().cast(), edges.len(), width, faces.as_mut_ptr()) => ids(faces)
     }
 }
