@@ -151,7 +151,7 @@ public:
 
     Model model;
     std::unordered_map<HalfEdge, Loop> loop_of; ///< none of a half-edge of the rest
-    std::vector<Cycle> rest; ///< the half-edges of the rest at the open edges, in cycles
+    std::vector<Cycle> rest;                    ///< the half-edges of the rest at the open edges, in cycles
     std::multimap<Vector, Vertex> vertices_at;
 
 private:
@@ -181,13 +181,8 @@ private:
 
     [[nodiscard]] bool is_fixed(const Bench &bench, Vertex vertex) const
     {
-        std::size_t edges = 0;
-        bool is_of_rest = false;
-        for (HalfEdge half : bench.around(vertex)) {
-            edges++;
-            is_of_rest = is_of_rest || (!is_held(half) && !is_held(half.twin()));
-        }
-        return edges == 2 || is_of_rest;
+        const auto halves = bench.around(vertex);
+        return any(halves, [&](HalfEdge half) { return !is_held(half) && !is_held(half.twin()); }) || std::distance(halves.begin(), halves.end()) == 2;
     }
 
     std::set<Vector> fixed_;

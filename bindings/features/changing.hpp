@@ -79,7 +79,7 @@ private:
 /// A solid's part as it is and as it is to be.
 struct Pair {
     const Model &old, &made;
-    const std::set<Face> &fast; ///< faces that both have, which don't go on the way either
+    const std::set<Face> fast = {}; ///< faces that both have, which don't go on the way either
 
     /// The half-edges that the outer loops of a face have in both.
     [[nodiscard]] std::set<HalfEdge> same_outline(Face face) const
@@ -163,10 +163,7 @@ public:
     }
 
     /// Whether a loop runs along none of the edges between the faces.
-    [[nodiscard]] bool is_left(Loop loop) const
-    {
-        return !any(model_.loops.at(loop), [&](HalfEdge half) { return is_inner(half); });
-    }
+    [[nodiscard]] bool is_left(Loop loop) const { return !any(model_.loops.at(loop), [&](HalfEdge half) { return is_inner(half); }); }
 
     /// Takes them apart.
     void take(const std::set<Loop> &left, RingFaces &ring_faces)

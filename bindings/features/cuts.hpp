@@ -164,9 +164,7 @@ inline Split cut_by_faces(Bench &bench, Solid solid, const Plane &plane, const P
     if (is_wanted)
         upper = part_below(held, sheets, plane.turned(), above, names);
     require_apart(held.model, corners, {&lower.made.model, &upper.made.model});
-    const std::set<Face> fast;
-    const auto operators = changing::operators_between({held.model, lower.made.model, fast}, names);
-    if (operators)
+    if (const auto operators = changing::operators_between({held.model, lower.made.model}, names))
         give(bench, *operators);
     else
         make_anew(bench, lower.made.model);

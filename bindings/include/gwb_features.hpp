@@ -44,16 +44,16 @@ class Parts {
 public:
     /// What gwb_made has of them.
     explicit Parts(const gwb *g)
-        : faces_(features::pairs(g, GWB_MADE_FACES)), loops_(features::pairs(g, GWB_MADE_LOOPS)), edges_(features::pairs(g, GWB_MADE_EDGES)),
-          vertices_(features::pairs(g, GWB_MADE_VERTICES))
     {
+        for (gwb_list list : {GWB_MADE_SOLIDS, GWB_MADE_FACES, GWB_MADE_LOOPS, GWB_MADE_EDGES, GWB_MADE_VERTICES})
+            pairs_.push_back(features::pairs(g, list));
     }
 
     /// The part that is of this one: none of another one.
-    [[nodiscard]] Face of(Face face) const { return find(faces_, face); }
-    [[nodiscard]] Loop of(Loop loop) const { return find(loops_, loop); }
-    [[nodiscard]] Edge of(Edge edge) const { return find(edges_, edge); }
-    [[nodiscard]] Vertex of(Vertex vertex) const { return find(vertices_, vertex); }
+    [[nodiscard]] Face of(Face face) const { return find(face); }
+    [[nodiscard]] Loop of(Loop loop) const { return find(loop); }
+    [[nodiscard]] Edge of(Edge edge) const { return find(edge); }
+    [[nodiscard]] Vertex of(Vertex vertex) const { return find(vertex); }
     /// The half-edge from the vertex of this one to that of its other end.
     [[nodiscard]] HalfEdge of(HalfEdge half_edge) const
     {
@@ -62,15 +62,14 @@ public:
     }
 
 protected:
-    /// Old numbers, rising, each with the new one.
-    using Pairs = std::vector<std::array<std::uint32_t, 2>>;
-    template <class Kind> static Kind find(const Pairs &pairs, Kind old)
+    template <class Kind> [[nodiscard]] Kind find(Kind old) const
     {
+        const auto &pairs = pairs_[Kind::kind];
         const auto found = std::lower_bound(pairs.begin(), pairs.end(), std::array<std::uint32_t, 2>{old.number(), 0});
         return found != pairs.end() && (*found)[0] == old.number() ? Kind((*found)[1]) : Kind();
     }
 
-    Pairs faces_, loops_, edges_, vertices_;
+    std::vector<std::vector<std::array<std::uint32_t, 2>>> pairs_; ///< for each kind old numbers, rising, each with the new one
 };
 
 /// A copy of a solid, which it stands for, and its parts.
@@ -84,21 +83,17 @@ public:
 /// What all numbers have become.
 class Renumbered : public Parts {
 public:
-    explicit Renumbered(const gwb *g) : Parts(g), solids_(features::pairs(g, GWB_MADE_SOLIDS)) {}
-    using Parts::of;
-    [[nodiscard]] Solid of(Solid solid) const { return find(solids_, solid); }
+    using Parts::of, Parts::Parts;
+    [[nodiscard]] Solid of(Solid solid) const { return find(solid); }
     /// The same the other way, for what follows an undo: the new numbers rise as the old ones.
     [[nodiscard]] Renumbered back() const
     {
         Renumbered before = *this;
-        for (Pairs *pairs : {&before.faces_, &before.loops_, &before.edges_, &before.vertices_, &before.solids_})
-            for (auto &[old, made] : *pairs)
+        for (auto &pairs : before.pairs_)
+            for (auto &[old, made] : pairs)
                 std::swap(old, made);
         return before;
     }
-
-private:
-    Pairs solids_;
 };
 
 namespace features {
