@@ -22,12 +22,12 @@ struct Part {
 inline Part part_near(const Bench &bench, const Surface &surface, Solid solid, const Box &box, bool all_rings)
 {
     Part found{{solid, {}, {}, {}, {}, {}}, {}};
-    for (const auto &[face, near] : surface.loops_near(box)) {
+    for (const auto &[face, near] : surface.near(box)) {
         const Loop outer = bench.face(face).outer_loop;
         if (!std::binary_search(near.begin(), near.end(), outer))
             continue;
-        const FacePlane *plane = surface.plane(face);
-        const bool needs_all = all_rings || plane == nullptr || dot(plane->across(), area_vector(surface.path(outer))) <= 0;
+        const Plane *plane = surface.plane(face);
+        const bool needs_all = all_rings || plane == nullptr || dot(plane->across, area_vector(surface.path(outer))) <= 0;
         const auto rings = bench.rings(face);
         const auto is_far = [&](Loop ring) { return !std::binary_search(near.begin(), near.end(), ring); };
         const bool is_fast = !needs_all && any(rings, is_far);
@@ -139,7 +139,7 @@ inline std::optional<std::vector<Operator>> moves(const Bench &bench, const Surf
 {
     std::map<Face, Shape> shapes;
     for (const auto &[other, region] : became)
-        shapes.emplace(other, *region);
+        shapes.emplace(other, region->shape());
     std::vector<Operator> found;
     for (Loop ring : bench.rings(face)) {
         go_on();
@@ -189,7 +189,7 @@ inline void follow(Surface &surface, const Model &part, const Model &made, const
             surface.forget(loop);
     }
     for (const auto &[face, loops] : made.faces)
-        surface.put(face, mapped(made.cycles(face), points_of), loops);
+        surface.put(face, loops, mapped(made.cycles(face), points_of));
     for (const Operator &made_by : operators)
         if (made_by.moved)
             surface.move(made_by.moved->first, made_by.moved->second);

@@ -7,120 +7,6 @@ namespace gwb_session::contacts {
 
 using namespace sheets;
 
-/// A flat region, ready to be looked at.
-class Shape {
-public:
-    explicit Shape(const Sheet &sheet)
-        : across_(sheet.across), axes_(flat_axes(across_)), sides_(sheet.sides()), points_(sheet.points()), box_(Box::around(points_))
-    {
-        for (const Cycle &cycle : sheet.cycles)
-            loops_.emplace_back(Box::around(points_of(cycle)), outline(cycle, axes_));
-    }
-
-    [[nodiscard]] const Vector &across() const { return across_; }
-    [[nodiscard]] const Path &points() const { return points_; }
-    [[nodiscard]] const Box &box() const { return box_; }
-    [[nodiscard]] bool is_flat() const { return all(points_, [&](const Vector &at) { return height({at}) == 0; }); }
-    /// Positive before the plane, negative behind it: times the point's scale.
-    [[nodiscard]] Wide height(const ScaledPoint &point) const { return dot(across_, subtract(point.at, times(points_[0], point.scale))); }
-    /// Where a point of the plane lies: within an odd number of loops, of which those with a box around it count.
-    [[nodiscard]] Place locate(const ScaledPoint &point) const
-    {
-        return locate_in(loops_, [&](const auto &loop) {
-            return point.lies_in(loop.first) ? exact::locate(loop.second, point.spot(axes_)) : Place::outside;
-        });
-    }
-
-    /// Whether a part of a side in the plane lies within.
-    [[nodiscard]] bool has_part(const Side &whole) const
-    {
-        const Segment own = whole.seen(axes_);
-        std::vector<ScaledPoint> stops = {{whole.start}, {whole.end}};
-        for (const Side &side : sides_) {
-            const Segment seen = side.seen(axes_);
-            const Wide before = area_beside(seen, own.start), after = area_beside(seen, own.end);
-            if (sign(before) * sign(after) < 0)
-                stops.push_back(divided(whole, before, after));
-            else if (own.holds(seen.start))
-                stops.push_back({side.start});
-        }
-        return !parts_within(std::move(stops)).empty();
-    }
-
-    /// A point within: the middle of a triangle of corners.
-    [[nodiscard]] std::optional<ScaledPoint> inner_point() const
-    {
-        const std::size_t count = points_.size();
-        for (std::size_t step = 1; step < count; step++)
-            for (std::size_t first = 0; first < count; first++)
-                for (std::size_t second = first + 1; second < count; second++) {
-                    const ScaledPoint middle{add(add(points_[first], points_[second]), points_[(second + step) % count]), 3};
-                    if (locate(middle) == Place::inside)
-                        return middle;
-                }
-        return std::nullopt;
-    }
-
-    /// Where a plane, beside which points lie so far as a function says, and on both of whose sides it lies, runs within it.
-    using Span = std::pair<ScaledPoint, ScaledPoint>;
-    template <class Height> [[nodiscard]] std::vector<Span> cut_by(Height height) const
-    {
-        std::vector<ScaledPoint> stops;
-        bool is_below = false, is_above = false;
-        for (const Side &side : sides_) {
-            const Wide before = height(side.start), after = height(side.end);
-            is_below = is_below || before < 0;
-            is_above = is_above || before > 0;
-            if (before == 0 || sign(before) * sign(after) < 0)
-                stops.push_back(before == 0 ? ScaledPoint{side.start} : divided(side, before, after));
-        }
-        return is_below && is_above ? parts_within(std::move(stops)) : std::vector<Span>();
-    }
-
-    /// Whether both run along one line within, some of the way.
-    [[nodiscard]] bool passes_through(const Shape &other) const
-    {
-        const auto cut_by = [](const Shape &shape, const Shape &plane) {
-            return shape.cut_by([&](const Vector &at) { return plane.height({at}); });
-        };
-        const std::vector<Span> own = are_parallel(across_, other.across_) ? std::vector<Span>() : cut_by(*this, other);
-        const std::vector<Span> beyond = own.empty() ? std::vector<Span>() : cut_by(other, *this);
-        return any(own, [&](const Span &one) {
-            return any(beyond, [&](const Span &other) { return one.first < other.second && other.first < one.second; });
-        });
-    }
-
-    /// Where a ray meets it, seen along the ray.
-    [[nodiscard]] Place hit(const ScaledPoint &start, const Vector &ray) const
-    {
-        if (sign(height(start)) * sign(dot(across_, ray)) >= 0)
-            return Place::outside;
-        const Sight sight(ray, Vector{});
-        const Spot from = sight.spot(start.at);
-        const Outline seen = mapped(sides_, [&](const Side &side) { return Segment(sight.spot(side.start), sight.spot(side.end)); });
-        return exact::locate(seen, {from.x, from.y, start.scale});
-    }
-
-private:
-    /// The parts between points of one line, each from one of them to the next, that lie within.
-    [[nodiscard]] std::vector<Span> parts_within(std::vector<ScaledPoint> stops) const
-    {
-        std::sort(stops.begin(), stops.end());
-        std::vector<Span> found;
-        for (std::size_t at = 1; at < stops.size(); at++)
-            if (stops[at - 1] < stops[at] && locate(stops[at - 1].between(stops[at])) == Place::inside)
-                found.emplace_back(stops[at - 1], stops[at]);
-        return found;
-    }
-
-    Vector across_;
-    Axes axes_;
-    std::vector<Side> sides_;
-    Path points_;
-    Box box_;
-    std::vector<std::pair<Box, Outline>> loops_;
-};
-
 /// Whether a point lies in the room that walls bound, and on none of them: by the parity of crossings of a ray that meets no edge. Of the rays
 /// (1, k, k k) at most two lie in any plane through the point, so only finitely many meet an edge.
 inline bool is_bound(const std::vector<Shape> &walls, const ScaledPoint &point)
@@ -143,13 +29,13 @@ inline bool is_bound(const std::vector<Shape> &walls, const ScaledPoint &point)
 inline bool comes_into(const std::vector<Sheet> &held, const std::vector<Sheet> &added)
 {
     const Box around = box_of(added);
-    const std::vector<Shape> walls(added.begin(), added.end());
+    const std::vector<Shape> walls = mapped(added, [](const Sheet &sheet) { return sheet.shape(); });
     BoxIndex boxes;
     for (std::size_t at = 0; at < walls.size(); at++)
         boxes.put(walls[at].box(), at);
     for (const Sheet &sheet : held) {
         go_on();
-        const Shape shape(sheet);
+        const Shape shape = sheet.shape();
         if (!shape.is_flat())
             continue;
         if (any(boxes.meeting(shape.box()), [&](std::size_t at) { return walls[at].passes_through(shape); }))
@@ -228,7 +114,7 @@ private:
             for (const Side &side : cycle)
                 take(face, side);
         if (const Vector across = area_of(near); !is_zero(across))
-            if (const Shape shape(Sheet(face, reduced(across), near)); shape.is_flat()) {
+            if (const Shape shape(Plane::through(near[0][0].start, reduced(across)), near); shape.is_flat()) {
                 boxes_.put(shape.box(), faces_.size());
                 faces_.push_back({face, shape});
             }

@@ -31,7 +31,7 @@ inline std::vector<Side> sides_below(const Sheet &sheet, const Plane &plane)
 inline std::vector<Side> cuts_of(const Sheet &sheet, const Plane &plane)
 {
     const Vector along = cross(sheet.across, plane.across);
-    return mapped(Shape(sheet).cut_by([&](const Vector &at) { return plane.height(at); }), [&](const auto &span) {
+    return mapped(sheet.shape().cut_by(plane), [&](const auto &span) {
         const Side side{*span.first.whole(), *span.second.whole()};
         return dot(along, side.way()) > 0 ? side : side.turned();
     });

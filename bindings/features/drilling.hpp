@@ -48,8 +48,7 @@ constexpr std::array<std::int64_t, 2> corner(std::uint32_t place, std::uint32_t 
 /// The corners of the polygon around a center in a face across an axis. Refused: NoFace, NotFlat. Not possible: NotAcross.
 inline std::vector<Point> polygon(const Bench &bench, Face face, Point center, std::int64_t radius, std::uint32_t sides)
 {
-    const machining::FacePlane plane = machining::plane_of(bench, face);
-    const Vector &across = plane.across();
+    const Vector across = machining::plane_of(bench, face).across;
     if (std::count(across.begin(), across.end(), 0) != 2)
         throw machining::impossible(Misfit::not_across, face.number());
     if (!is_in_range(vector(center)) || radius > 2 * farthest)

@@ -135,6 +135,8 @@ struct Plane {
     Wide offset;
 
     static Plane of(const gwb_cut_plane &row) { return {{row.a, row.b, row.c}, row.d}; }
+    /// The one through a point.
+    static Plane through(const Vector &at, const Vector &across) { return {across, -dot(across, at)}; }
     /// As it was given, where its numbers are in range.
     [[nodiscard]] gwb_cut_plane row() const
     {

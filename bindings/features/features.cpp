@@ -127,7 +127,7 @@ template <class Make> void make_at_once(gwb *g, Make make)
     const struct beside &of = *beside_of(g);
     machining::Surroundings &known = machining::Surroundings::at(*beside_of(g));
     const std::uint64_t before = of.changes;
-    const bool was_known = known.is_of(before);
+    const bool was_known = known.changes == before;
     for (auto &list : known.lists)
         list.clear();
     try {
@@ -136,8 +136,8 @@ template <class Make> void make_at_once(gwb *g, Make make)
         make(session, known.lists);
         commands.keep();
     } catch (const Failure &) {
-        if (was_known && known.is_of(before)) // it is again what it was
-            known.is_again(of.changes);
+        if (was_known && known.changes == before) // it is again what it was
+            known.changes = of.changes;
         throw;
     }
 }

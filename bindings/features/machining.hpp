@@ -4,28 +4,10 @@
 /// first two. A feature compares what lies near. What was read of a solid for one feature is known to the next ones, until another command comes.
 #ifndef GWB_FEATURES_MACHINING_HPP
 #define GWB_FEATURES_MACHINING_HPP
-#include "exact.hpp"
-#include "solids.hpp"
+#include "shapes.hpp"
 #include <set>
 
-namespace gwb_session {
-
-namespace machining {
-
-using namespace exact;
-using Path = std::vector<Vector>;
-
-inline Failure impossible(Misfit why, std::uint32_t value) { return {Problem::impossible, static_cast<std::uint32_t>(why), value}; }
-inline Failure refused(gwb_why why, std::uint32_t value) { return {Problem::refused, static_cast<std::uint32_t>(why), value}; }
-/// What is whole at a face. Not possible where it isn't: OffLattice.
-inline Vector whole(Face face, const std::optional<Vector> &found)
-{
-    if (!found)
-        throw impossible(Misfit::off_lattice, face.number());
-    return *found;
-}
-/// The number of a place in a list, from 1 on.
-inline std::uint32_t place(std::size_t at) { return static_cast<std::uint32_t>(at) + 1; }
+namespace gwb_session::machining {
 
 // ---- outlines
 
@@ -40,16 +22,10 @@ inline void require_sizes(std::initializer_list<std::int64_t> sizes)
 /// Points of the caller; refused where one lies out of range.
 inline Path path_of(Items<Point> points)
 {
-    Path path(points.size());
-    std::transform(points.begin(), points.end(), path.begin(), vector);
-    if (!std::all_of(path.begin(), path.end(), is_in_range))
+    Path path = mapped(points, vector);
+    if (!all(path, is_in_range))
         throw refused(GWB_WHY_POINT_RANGE, 0);
     return path;
-}
-
-inline Outline flattened(const Path &path, Axes axes)
-{
-    return outline_of(path, [&](const Vector &at) { return Spot{at[axes[0]], at[axes[1]]}; });
 }
 
 /// Whether two sides of an outline meet otherwise than neighbours do, at their common end.
@@ -75,36 +51,13 @@ inline void require_simple(const Outline &sides)
     }
 }
 
-/// The plane of a face, or of an outline.
-class FacePlane {
-public:
-    FacePlane(const Vector &across, const Vector &origin) : across_(across), origin_(origin) {}
-    /// That of a face with these loops: none where one is lone, the face has no area, a vertex lies off its plane or an edge has no length.
-    static std::optional<FacePlane> of(const std::vector<Path> &loops)
-    {
-        const Vector sum = area_vector(loops);
-        if (is_zero(sum))
-            return std::nullopt;
-        const FacePlane plane(reduced(sum), loops[0][0]);
-        const auto is_off = [&](const Vector &start, const Vector &end) { return plane.height(start) != 0 || start == end; };
-        return std::any_of(loops.begin(), loops.end(), [&](const Path &path) { return any_side(path, is_off); }) ? std::nullopt : std::optional(plane);
-    }
-
-    /// Its normal: of a face as short as it can be.
-    [[nodiscard]] const Vector &across() const { return across_; }
-    /// Positive where the point lies before it, negative behind it.
-    [[nodiscard]] Wide height(const Vector &at) const { return dot(across_, subtract(at, origin_)); }
-    /// Refuses points off it.
-    void require(const Path &path) const
-    {
-        const auto off = std::find_if(path.begin(), path.end(), [&](const Vector &at) { return height(at) != 0; });
-        if (off != path.end())
-            throw impossible(Misfit::not_in_plane, place(static_cast<std::size_t>(off - path.begin())));
-    }
-
-private:
-    Vector across_, origin_;
-};
+/// Refuses points off a plane.
+inline void require_in(const Plane &plane, const Path &path)
+{
+    const auto off = std::find_if(path.begin(), path.end(), [&](const Vector &at) { return plane.height(at) != 0; });
+    if (off != path.end())
+        throw impossible(Misfit::not_in_plane, place(static_cast<std::size_t>(off - path.begin())));
+}
 
 /// The normal of the flat simple outline through points.
 inline Vector simple_normal(const Path &path)
@@ -118,13 +71,13 @@ inline Vector simple_normal(const Path &path)
     const Vector across = area_vector(path);
     if (is_zero(across))
         throw impossible(Misfit::no_area, 0);
-    FacePlane(across, path[0]).require(path);
-    require_simple(flattened(path, flat_axes(across)));
+    require_in(Plane::through(path[0], across), path);
+    require_simple(outline(cycle_of(path), flat_axes(across)));
     return across;
 }
 
-/// The path the other way round, from the same point on.
-inline Path turned(Path path)
+/// A path, or what belongs to its points, the other way round, from the same point on.
+template <class Item> std::vector<Item> turned(std::vector<Item> path)
 {
     std::reverse(path.begin() + 1, path.end());
     return path;
@@ -138,90 +91,36 @@ template <class Item> std::vector<Item> by_points(std::vector<Item> along, bool 
     return along;
 }
 
-/// The whole vector of this length along a normal that is as short as it can be, where there is one that reaches from one point to another.
-inline std::optional<Vector> steps_along(const Vector &across, std::int64_t length)
+/// The whole vector of this length along a normal of a face that is as short as it can be. Not possible where there is none that reaches from one
+/// point to another: OffLattice.
+inline Vector steps_along(Face face, const Vector &across, std::int64_t length)
 {
-    if (longest(across) > 2 * farthest)
-        return std::nullopt;
-    const Wide square = dot(across, across), root = square_root(square);
-    if (root * root != square || length % root != 0)
-        return std::nullopt;
+    const bool is_short = longest(across) <= 2 * farthest;
+    const Wide square = is_short ? dot(across, across) : 0, root = square_root(square);
+    if (!is_short || root * root != square || length % root != 0)
+        throw impossible(Misfit::off_lattice, face.number());
     return times(across, length / root);
 }
 
 // ---- faces
 
-/// The points of the loops of a face, and where they are wanted the loops. A lone loop has one.
-inline std::vector<Path> loops_at(const Bench &bench, Face face, std::vector<Loop> *numbers = nullptr)
+/// The points of a loop: of a lone one one.
+inline Path path_at(const Bench &bench, Loop loop)
+{
+    Path path;
+    if (const std::optional<Vertex> vertex = bench.lone_vertex(loop))
+        path.push_back(vector(bench.vertex(*vertex)));
+    for (HalfEdge half : bench.around(loop))
+        path.push_back(vector(bench.vertex(bench.start_of(half))));
+    return path;
+}
+inline std::vector<Path> loops_at(const Bench &bench, Face face)
 {
     std::vector<Path> loops;
-    std::uint32_t last = 0;
-    const auto begin = [&](Loop loop) {
-        loops.emplace_back();
-        if (numbers != nullptr)
-            numbers->push_back(loop);
-    };
-    for (const gwb_half_edge_row &row : bench.half_edge_rows(face)) {
-        if (std::exchange(last, row.loop) != row.loop)
-            begin(Loop(row.loop));
-        loops.back().push_back(vector(bench.vertex(Vertex(row.start))));
-    }
     for (Loop loop : bench.loops_of(face))
-        if (const std::optional<Vertex> vertex = bench.lone_vertex(loop)) {
-            begin(loop);
-            loops.back().push_back(vector(bench.vertex(*vertex)));
-        }
+        loops.push_back(path_at(bench, loop));
     return loops;
 }
-
-/// A flat face as a region of its plane, so far as its loops tell that lie near a place.
-class Region {
-public:
-    Region(const FacePlane &plane, const std::vector<Path> &loops) : plane_(plane), axes_(flat_axes(plane.across()))
-    {
-        for (const Path &path : loops)
-            loops_.push_back(flattened(path, axes_));
-    }
-
-    [[nodiscard]] const FacePlane &plane() const { return plane_; }
-
-    /// Where the point of a segment that lies on the face's plane lies against the face: so far along as its start's height says of the
-    /// difference to that of its end.
-    [[nodiscard]] Place locate_between(const Vector &start, const Vector &end) const
-    {
-        const Wide before = plane_.height(start), after = plane_.height(end), scale = before == after ? 1 : magnitude(before - after);
-        const Wide along = before == after ? 0 : magnitude(before);
-        const auto part = [&](std::size_t axis) { return start[axis] * scale + along * (end[axis] - start[axis]); };
-        return locate({part(axes_[0]), part(axes_[1]), scale});
-    }
-
-    /// Refuses an outline of its plane that doesn't lie strictly inside the face, which has this number, or has a ring of it inside.
-    void require_inside(Face face, const Outline &own) const
-    {
-        bool is_around = false;
-        for (const Outline &sides : loops_) {
-            for (const Segment &side : sides)
-                for (const Segment &other : own)
-                    if (side.is_near(other) && side.meets(other))
-                        throw impossible(Misfit::outline_outside, face.number());
-            is_around = is_around || exact::locate(own, sides[0].start) == Place::inside;
-        }
-        if (locate(own[0].start) != Place::inside)
-            throw impossible(Misfit::outline_outside, face.number());
-        if (is_around)
-            throw impossible(Misfit::outline_around_ring, face.number());
-    }
-
-private:
-    [[nodiscard]] Place locate(const Spot &spot) const
-    {
-        return locate_in(loops_, [&](const Outline &sides) { return exact::locate(sides, spot); });
-    }
-
-    FacePlane plane_;
-    Axes axes_;
-    std::vector<Outline> loops_;
-};
 
 // ---- what lies near
 
@@ -239,15 +138,15 @@ public:
     /// Takes in a face that is new.
     void put(const Bench &bench, Face face)
     {
-        std::vector<Loop> loops;
-        put(face, loops_at(bench, face, &loops), loops);
+        const auto loops = bench.loops_of(face);
+        put(face, {loops.begin(), loops.end()}, loops_at(bench, face));
     }
     /// The same, of some of its loops, where the others are known.
-    void put(Face face, const std::vector<Path> &paths, const std::vector<Loop> &loops)
+    void put(Face face, const std::vector<Loop> &loops, const std::vector<Path> &paths)
     {
         for (std::size_t at = 0; at < loops.size(); at++)
             put(face, loops[at], paths[at]);
-        if (const std::optional<FacePlane> plane = FacePlane::of(paths))
+        if (const std::optional<Plane> plane = flat_plane(paths))
             planes_.emplace(face, *plane);
     }
 
@@ -275,31 +174,26 @@ public:
     void move(Loop ring, Face face) { loops_.at(ring).first = face; }
 
     /// The plane of a face, where that is plain and flat.
-    [[nodiscard]] const FacePlane *plane(Face face) const { return look_up(planes_, face); }
+    [[nodiscard]] const Plane *plane(Face face) const { return look_up(planes_, face); }
+    /// Such a face, so far as some of its loops tell.
+    [[nodiscard]] Shape shape(Face face, const std::vector<Loop> &loops) const
+    {
+        return {planes_.at(face), mapped(loops, [&](Loop loop) { return cycle_of(path(loop)); })};
+    }
+    [[nodiscard]] const Path &path(Loop loop) const { return loops_.at(loop).second; }
 
     /// A box around the part of a ray that lies in the box around the solid.
     [[nodiscard]] Box box_of_ray(const Vector &start, const Vector &way) const
     {
-        Box ray{start, start};
-        for (std::size_t axis = 0; axis < 3; axis++) {
-            if (way[axis] > 0)
-                ray.high[axis] = around_->high[axis];
-            if (way[axis] < 0)
-                ray.low[axis] = around_->low[axis];
-        }
-        return ray;
+        Vector end = start;
+        for (std::size_t axis = 0; axis < 3; axis++)
+            if (way[axis] != 0)
+                end[axis] = (way[axis] > 0 ? around_->high : around_->low)[axis];
+        return Box::between(start, end);
     }
 
     /// The loops that meet a box, by faces.
-    using Near = std::map<Face, std::vector<Path>>;
-    [[nodiscard]] Near near(const Box &box) const
-    {
-        Near found;
-        for (const auto &[face, loops] : loops_near(box))
-            std::transform(loops.begin(), loops.end(), std::back_inserter(found[face]), [&](Loop loop) { return path(loop); });
-        return found;
-    }
-    [[nodiscard]] std::map<Face, std::vector<Loop>> loops_near(const Box &box) const
+    [[nodiscard]] std::map<Face, std::vector<Loop>> near(const Box &box) const
     {
         std::map<Face, std::vector<Loop>> found;
         for (std::size_t number : boxes_.meeting(box)) {
@@ -308,22 +202,20 @@ public:
         }
         return found;
     }
-    [[nodiscard]] const Path &path(Loop loop) const { return loops_.at(loop).second; }
 
     /// The points of an outline strictly inside a plain flat face, turned so that they run as a ring does; the first stays the first.
     [[nodiscard]] Path ring_path(Face face, const Path &path) const
     {
-        const FacePlane &plane = planes_.at(face);
-        plane.require(path);
-        (void)simple_normal(path);
-        const Outline own = flattened(path, flat_axes(plane.across()));
-        Region(plane, near(Box::around(path))[face]).require_inside(face, own);
-        return twice_area(own) < 0 ? path : turned(path);
+        const Plane &plane = planes_.at(face);
+        require_in(plane, path);
+        const Vector across = simple_normal(path);
+        shape(face, near(Box::around(path))[face]).require_inside(face, path);
+        return dot(across, plane.across) < 0 ? path : turned(path);
     }
 
 private:
     std::unordered_map<Loop, std::pair<Face, Path>> loops_;
-    std::map<Face, FacePlane> planes_;
+    std::map<Face, Plane> planes_;
     BoxIndex boxes_;
     std::optional<Box> around_;
 };
@@ -336,7 +228,7 @@ public:
     {
         const struct beside &of = *beside_of(bench.handle());
         Surroundings &known = *static_cast<Surroundings *>(of.known);
-        if (std::exchange(known.changes_, of.changes) != of.changes)
+        if (std::exchange(known.changes, of.changes) != of.changes)
             known.surfaces_.clear();
         return known;
     }
@@ -349,26 +241,21 @@ public:
         return *static_cast<Surroundings *>(session.known);
     }
 
-    /// Whether it is of the model that was changed so many times.
-    [[nodiscard]] bool is_of(std::uint64_t changes) const { return changes_ == changes; }
-    /// The model is again what it was, after so many changes.
-    void is_again(std::uint64_t changes) { changes_ = changes; }
-
     /// The surface of a solid, which is read where it isn't known.
     const Surface &surface(const Bench &bench, Solid solid) { return surfaces_.try_emplace(solid, bench, solid).first->second; }
 
     /// Takes in what a command did to a solid, and that it did nothing else to the model.
     template <class Put> void follow(const Bench &bench, Solid solid, Put put)
     {
-        changes_ = UINT64_MAX;
+        changes = UINT64_MAX;
         put(surfaces_.at(solid));
-        changes_ = beside_of(bench.handle())->changes;
+        changes = beside_of(bench.handle())->changes;
     }
 
     Lists lists; ///< what the last feature made
+    std::uint64_t changes = UINT64_MAX; ///< after which what is known was read; the greatest where it is of no model
 
 private:
-    std::uint64_t changes_ = UINT64_MAX; ///< after which it was read; the greatest where it is of no model
     std::map<Solid, Surface> surfaces_;
 };
 
@@ -398,40 +285,20 @@ inline std::set<Edge> edges_of(const Bench &bench, Solid solid)
 }
 
 /// The plane of a face. Refused: NoFace, NotFlat.
-inline FacePlane plane_of(const Bench &bench, Face face)
+inline Plane plane_of(const Bench &bench, Face face)
 {
-    const FacePlane *plane = Surroundings::of(bench).surface(bench, solid_of(bench, face)).plane(face);
+    const Plane *plane = Surroundings::of(bench).surface(bench, solid_of(bench, face)).plane(face);
     if (plane == nullptr)
         throw refused(GWB_WHY_NOT_FLAT, face.number());
     return *plane;
 }
-
-/// Points as seen along a vector: as spots, exactly.
-class Sight {
-public:
-    Sight(const Vector &along, const Vector &origin) : along_(along), origin_(origin), axes_(flat_axes(along)), third_(widest(along)) {}
-    [[nodiscard]] Spot spot(const Vector &at) const
-    {
-        const Vector way = subtract(at, origin_);
-        return {way[axes_[0]] * along_[third_] - way[third_] * along_[axes_[0]], way[axes_[1]] * along_[third_] - way[third_] * along_[axes_[1]]};
-    }
-    [[nodiscard]] Outline outline(const Path &path) const
-    {
-        return outline_of(path, [&](const Vector &at) { return spot(at); });
-    }
-
-private:
-    Vector along_, origin_;
-    Axes axes_;
-    std::size_t third_;
-};
 
 /// An outline in a face moved along the face's normal, away from the face; `is_open` where it ends in another face.
 class Prism {
 public:
     Prism(const Vector &across, const Path &path, const Vector &way, bool is_open)
         : path_(path), far_(moved(path, way)), way_(way), up_(dot(across, way) > 0 ? across : negative(across)), top_(dot(up_, way)), is_open_(is_open),
-          sight_(up_, path[0]), sides_(sight_.outline(path)), box_(Box::around(path))
+          sight_{up_}, sides_(outline_of(path, sight_)), box_(Box::around(path))
     {
         box_.take(Box::around(far_));
     }
@@ -457,21 +324,17 @@ public:
         if (high < 0 || low > top_)
             return false;
         const bool only_outline = high == 0 || (is_open_ && low == top_);
-        const Segment part = within(sight_.spot(start), sight_.spot(end), low, high);
+        const Segment part = within(sight_(start), sight_(end), low, high);
         if (!only_outline && locate(sides_, part.start) != Place::outside)
             return true;
-        return std::any_of(sides_.begin(), sides_.end(), [&](const Segment &side) { return side.meets(part); });
+        return any(sides_, [&](const Segment &side) { return side.meets(part); });
     }
 
     /// Whether an edge of the prism meets a face none of whose edges meets the prism.
-    [[nodiscard]] bool meets_face(const Region &region) const
+    [[nodiscard]] bool meets_face(const Shape &shape) const
     {
-        const auto meets = [&](const Vector &start, const Vector &end) {
-            const FacePlane &plane = region.plane();
-            return sign(plane.height(start)) * sign(plane.height(end)) <= 0 && region.locate_between(start, end) != Place::outside;
-        };
-        const auto is_met = [&](const Vector &at) { return meets(at, add(at, way_)); };
-        return any_side(path_, meets) || any_side(far_, meets) || std::any_of(path_.begin(), path_.end(), is_met);
+        const auto is_met = [&](const Vector &start, const Vector &end) { return shape.meets({start, end}); };
+        return any_side(path_, is_met) || any_side(far_, is_met) || any(path_, [&](const Vector &at) { return is_met(at, add(at, way_)); });
     }
 
 private:
@@ -500,23 +363,19 @@ private:
 /// Refuses a feature that would meet or touch the solid elsewhere than in the face, or in the other one where it ends there.
 inline void require_room(const Surface &surface, const Prism &prism, Face face, Face other = Face())
 {
-    const Surface::Near near = surface.near(prism.box());
-    const auto has_edge = [&](const auto &of) {
-        return std::any_of(of.second.begin(), of.second.end(), [&](const Path &path) { return prism.meets_loop(path); });
+    const auto is_met = [&](const auto &beside) {
+        const auto &[of, loops] = beside;
+        return any(loops, [&](Loop loop) { return prism.meets_loop(surface.path(loop)); }) ||
+               (of != face && of != other && surface.plane(of) != nullptr && prism.meets_face(surface.shape(of, loops)));
     };
-    const auto is_face = [&](const auto &of) {
-        const FacePlane *plane = of.first != face && of.first != other ? surface.plane(of.first) : nullptr;
-        return plane != nullptr && prism.meets_face(Region(*plane, of.second));
-    };
-    if (std::any_of(near.begin(), near.end(), has_edge) || std::any_of(near.begin(), near.end(), is_face))
+    if (any(surface.near(prism.box()), is_met))
         throw impossible(Misfit::meets, face.number());
 }
 
-/// How far along a vector a face lies.
+/// How far along a vector a face lies: the first divided by the second, which is above zero.
 struct Reach {
-    Wide height, slope; ///< the first divided by the second, which is above zero
+    Wide height, slope;
     Face face;
-    Vector across;
 };
 
 /// The face that a ray from a point of a face goes out through, which is parallel, and the way to it.
@@ -524,23 +383,19 @@ inline std::pair<Face, Vector> opposite(const Surface &surface, Face face, const
 {
     if (longest(across) > 2 * farthest)
         throw impossible(Misfit::off_lattice, face.number());
-    const Sight sight(across, start);
     const Vector back = negative(across);
-    const auto is_seen = [&](const std::vector<Path> &loops) { // where the ray goes through a face, or its outline
-        return locate_in(loops, [&](const Path &path) { return locate(sight.outline(path), Spot()); }) != Place::outside;
-    };
     std::optional<Reach> nearest;
     for (const auto &[other, loops] : surface.near(surface.box_of_ray(start, back))) {
-        const FacePlane *plane = other != face ? surface.plane(other) : nullptr;
-        const Wide slope = plane != nullptr ? dot(plane->across(), back) : 0, height = plane != nullptr ? plane->height(start) : 0;
-        if (sign(height) * sign(slope) >= 0 || !is_seen(loops))
+        const Plane *plane = other != face ? surface.plane(other) : nullptr;
+        if (plane == nullptr || surface.shape(other, loops).hit({start}, back) == Place::outside)
             continue;
-        if (!nearest || compare_products(magnitude(height), nearest->slope, nearest->height, magnitude(slope)) < 0)
-            nearest = Reach{magnitude(height), magnitude(slope), other, plane->across()};
+        const Wide height = magnitude(plane->height(start)), slope = magnitude(dot(plane->across, back));
+        if (!nearest || compare_products(height, nearest->slope, nearest->height, slope) < 0)
+            nearest = Reach{height, slope, other};
     }
     if (!nearest)
         throw impossible(Misfit::no_opposite, face.number());
-    if (!are_parallel(nearest->across, back))
+    if (!are_parallel(surface.plane(nearest->face)->across, back))
         throw impossible(Misfit::not_parallel, nearest->face.number());
     if (nearest->height % nearest->slope != 0)
         throw impossible(Misfit::off_lattice, nearest->face.number());
@@ -607,44 +462,35 @@ inline Profile make_profile(Bench &bench, Solid solid, Items<Point> points, Poin
 
 /// An outline that is ready to be drawn in a face.
 struct Drawing {
-    Surroundings *known;
     Solid solid;
     Vector across;
-    Path path;
-    bool is_turned;
-};
+    Surroundings &known;
+    Path given, path;
 
-inline Drawing drawing(const Bench &bench, Face face, Items<Point> points)
-{
-    const Solid solid = solid_of(bench, face);
-    const Vector across = plane_of(bench, face).across();
-    Surroundings &known = Surroundings::of(bench);
-    const Path given = path_of(points);
-    Path path = known.surface(bench, solid).ring_path(face, given);
-    const bool is_turned = path != given;
-    return Drawing{&known, solid, across, std::move(path), is_turned};
-}
+    Drawing(const Bench &bench, Face face, Items<Point> points)
+        : solid(solid_of(bench, face)), across(plane_of(bench, face).across), known(Surroundings::of(bench)), given(path_of(points)),
+          path(known.surface(bench, solid).ring_path(face, given))
+    {
+    }
+    [[nodiscard]] bool is_turned() const { return path != given; }
+};
 
 inline Ring make_ring(Bench &bench, Face face, Items<Point> points)
 {
-    const Drawing drawn = drawing(bench, face, points);
+    const Drawing drawn(bench, face, points);
     Ring made = draw(bench, face, drawn.path);
-    drawn.known->follow(bench, drawn.solid, [&](Surface &surface) {
+    drawn.known.follow(bench, drawn.solid, [&](Surface &surface) {
         surface.put(face, made.loop, drawn.path);
         surface.put(bench, made.face);
     });
-    if (drawn.is_turned) {
-        std::reverse(made.edges.begin(), made.edges.end());
-        std::reverse(made.vertices.begin() + 1, made.vertices.end());
-    }
-    return made;
+    return drawn.is_turned() ? Ring{made.face, made.loop, by_points(made.edges, true), turned(made.vertices)} : made;
 }
 
 /// Moves an outline in a face along the face's normal, as far as another face where it is to end in that.
 inline Pocket move_outline(Bench &bench, Face face, const Drawing &drawn, const Vector &way, Face other = Face())
 {
     const Prism prism(drawn.across, drawn.path, way, other != Face());
-    const Surface &surface = drawn.known->surface(bench, drawn.solid);
+    const Surface &surface = drawn.known.surface(bench, drawn.solid);
     if (other != Face())
         (void)surface.ring_path(other, prism.far());
     require_room(surface, prism, face, other);
@@ -653,7 +499,7 @@ inline Pocket move_outline(Bench &bench, Face face, const Drawing &drawn, const 
     const Loop far_ring = bench.face(ring.face).outer_loop;
     if (other != Face())
         bench.kfmrh(other, ring.face);
-    drawn.known->follow(bench, drawn.solid, [&](Surface &of) {
+    drawn.known.follow(bench, drawn.solid, [&](Surface &of) {
         of.put(face, ring.loop, drawn.path);
         for (Face side : sides)
             of.put(bench, side);
@@ -662,39 +508,30 @@ inline Pocket move_outline(Bench &bench, Face face, const Drawing &drawn, const 
         else
             of.put(bench, ring.face);
     });
-    return Pocket{other != Face() ? other : ring.face, ring.loop, by_points(sides, drawn.is_turned)};
+    return Pocket{other != Face() ? other : ring.face, ring.loop, by_points(sides, drawn.is_turned())};
 }
 
-/// The same by a length, which is below zero for a pocket. Refused, where a point would lie out of range, for what the caller says.
-inline Pocket move_so_far(Bench &bench, Face face, Items<Point> points, std::int64_t length, const Failure &far_out)
+/// The same by a length: up for a boss, down for a pocket. Where points would lie out of range a boss is refused, and a pocket would meet the far side.
+inline Pocket move_so_far(Bench &bench, Face face, Items<Point> points, std::int64_t length, bool is_boss)
 {
-    const Drawing drawn = drawing(bench, face, points);
-    const Vector way = whole(face, steps_along(drawn.across, length));
-    if (!std::all_of(drawn.path.begin(), drawn.path.end(), [&](const Vector &at) { return is_in_range(add(at, way)); }))
-        throw far_out;
+    require_sizes({length});
+    const Drawing drawn(bench, face, points);
+    const Vector way = steps_along(face, drawn.across, is_boss ? length : -length);
+    if (!all(moved(drawn.path, way), is_in_range))
+        throw is_boss ? refused(GWB_WHY_POINT_RANGE, 0) : impossible(Misfit::meets, face.number());
     return move_outline(bench, face, drawn, way);
 }
 
-inline Pocket make_pocket(Bench &bench, Face face, Items<Point> points, std::int64_t depth)
-{
-    require_sizes({depth});
-    return move_so_far(bench, face, points, -depth, impossible(Misfit::meets, face.number()));
-}
-
-inline Pocket make_boss(Bench &bench, Face face, Items<Point> points, std::int64_t height)
-{
-    require_sizes({height});
-    return move_so_far(bench, face, points, height, refused(GWB_WHY_POINT_RANGE, 0));
-}
+inline Pocket make_pocket(Bench &bench, Face face, Items<Point> points, std::int64_t depth) { return move_so_far(bench, face, points, depth, false); }
+inline Pocket make_boss(Bench &bench, Face face, Items<Point> points, std::int64_t height) { return move_so_far(bench, face, points, height, true); }
 
 /// A hole: the face is the one that it ends in.
 inline Pocket make_hole(Bench &bench, Face face, Items<Point> points)
 {
-    const Drawing drawn = drawing(bench, face, points);
-    const auto [end, way] = opposite(drawn.known->surface(bench, drawn.solid), face, drawn.across, drawn.path[0]);
+    const Drawing drawn(bench, face, points);
+    const auto [end, way] = opposite(drawn.known.surface(bench, drawn.solid), face, drawn.across, drawn.path[0]);
     return move_outline(bench, face, drawn, way, end);
 }
 
-} // namespace machining
-} // namespace gwb_session
+} // namespace gwb_session::machining
 #endif

@@ -67,8 +67,8 @@ private:
     [[nodiscard]] bool is_flat() const { return lies_in(across_, -dot(across_, loops_[0][0])); }
     [[nodiscard]] bool holds(const Vector &at) const
     {
-        const std::optional<machining::FacePlane> plane = machining::FacePlane::of(loops_);
-        return plane && is_in_range(at) && plane->height(at) == 0 && machining::Region(*plane, loops_).locate_between(at, at) != Place::outside;
+        const std::optional<Plane> plane = machining::flat_plane(loops_);
+        return plane && is_in_range(at) && plane->height(at) == 0 && machining::Shape(*plane, mapped(loops_, machining::cycle_of)).meets({at, at});
     }
 
     std::vector<Path> loops_;

@@ -70,38 +70,35 @@ inline Tool wedge(const Corner &start, const Corner &end)
     return made;
 }
 
-/// The shortest normal of a face that is plain and flat.
-inline Vector flat_normal(const Bench &bench, Face face) { return plane_of(bench, face).across(); }
-
-inline Tool notch_tool(Face face, const FacePlane &plane, const Path &points, std::int64_t depth)
+inline Tool notch_tool(Face face, const Plane &plane, const Path &points, std::int64_t depth)
 {
-    plane.require(points);
+    require_in(plane, points);
     (void)simple_normal(points);
-    return prism(points, whole(face, steps_along(plane.across(), -depth)));
+    return prism(points, steps_along(face, plane.across, -depth));
 }
 
 /// The way from a line in a face to the right side of a strip around it.
-inline Vector side_of_strip(Face face, const FacePlane &plane, const Path &ends, std::int64_t width)
+inline Vector side_of_strip(Face face, const Plane &plane, const Path &ends, std::int64_t width)
 {
     const Vector line = subtract(ends[1], ends[0]);
     if (is_zero(line))
         throw refused(GWB_WHY_REPEATED_POINT, 2);
-    if (dot(line, plane.across()) != 0)
+    if (dot(line, plane.across) != 0)
         throw impossible(Misfit::not_in_plane, 2);
     if (width % 2 != 0)
         throw impossible(Misfit::off_lattice, face.number());
-    return whole(face, steps_along(reduced(cross(plane.across(), line)), width / 2));
+    return steps_along(face, reduced(cross(plane.across, line)), width / 2);
 }
 
-inline Tool slot_tool(Face face, const FacePlane &plane, const Path &ends, std::int64_t width, std::int64_t depth)
+inline Tool slot_tool(Face face, const Plane &plane, const Path &ends, std::int64_t width, std::int64_t depth)
 {
     const Vector side = side_of_strip(face, plane, ends, width);
     return notch_tool(face, plane, {subtract(ends[0], side), subtract(ends[1], side), add(ends[1], side), add(ends[0], side)}, depth);
 }
 
-inline Tool groove_tool(Face face, const FacePlane &plane, const Path &ends, std::int64_t width, std::int64_t depth)
+inline Tool groove_tool(Face face, const Plane &plane, const Path &ends, std::int64_t width, std::int64_t depth)
 {
-    const Vector side = side_of_strip(face, plane, ends, width), way = whole(face, steps_along(plane.across(), -depth));
+    const Vector side = side_of_strip(face, plane, ends, width), way = steps_along(face, plane.across, -depth);
     const auto corner = [&](const Vector &at) { return Corner{add(at, way), subtract(at, side), add(at, side)}; };
     Tool made = wedge(corner(ends[0]), corner(ends[1])); // whose slope lies in the face
     made.walls.insert(made.walls.begin(), made.lids.front());
@@ -137,7 +134,7 @@ inline Vector inwards(const Bench &bench, HalfEdge half, std::int64_t length)
 {
     const Face face = bench.face_of(half);
     const Vector side = subtract(start_of(bench, half.twin()), start_of(bench, half));
-    return whole(face, steps_along(reduced(cross(flat_normal(bench, face), side)), length));
+    return steps_along(face, reduced(cross(plane_of(bench, face).across, side)), length);
 }
 
 /// The points where the line at a distance from a half-edge, in its face, meets the sides before and after it; of those that have such a line too
@@ -160,7 +157,7 @@ inline Tool shoulder_tool(const Bench &bench, HalfEdge half, std::int64_t width,
 {
     const Face face = bench.face_of(half);
     const auto ends = setbacks(bench, half, width);
-    const Vector way = whole(face, steps_along(flat_normal(bench, face), -depth));
+    const Vector way = steps_along(face, plane_of(bench, face).across, -depth);
     return prism({start_of(bench, half), start_of(bench, half.twin()), ends[1], ends[0]}, way);
 }
 
@@ -247,7 +244,7 @@ inline Tool chamfer_tool(const Bench &bench, const std::vector<Edge> &edges, std
 /// Whether the solid has less than half of the room around an edge; refused where its faces lie in one plane.
 inline bool bends_outwards(const Bench &bench, HalfEdge half)
 {
-    const Vector across = flat_normal(bench, bench.face_of(half)), beyond = flat_normal(bench, bench.face_of(half.twin()));
+    const Vector across = plane_of(bench, bench.face_of(half)).across, beyond = plane_of(bench, bench.face_of(half.twin())).across;
     if (are_parallel(across, beyond))
         throw impossible(Misfit::flat_edge, half.edge().number());
     // (what is across both normals runs along the edge, so one part of it tells which way)
@@ -284,11 +281,9 @@ inline std::vector<Sheet> sheets_of(const Tool &tool, bool are_cut)
 /// Whether the faces of a tool meet or touch each other elsewhere than at their sides.
 inline bool meets_itself(const Bench &bench, Solid solid, const std::vector<Sheet> &sheets)
 {
-    std::vector<sheets::Region> regions;
-    std::transform(sheets.begin(), sheets.end(), std::back_inserter(regions), sheets::unchanged);
     const Held nothing(bench, Model{solid, {}, {}, {}, {}, {}});
     AllNames names(bench);
-    const std::optional<Made> made = Assembly(nothing, regions, names).made(solid);
+    const std::optional<Made> made = Assembly(nothing, sheets, names).made(solid);
     return !made || !findings_near(made->model, box_of(sheets)).empty();
 }
 
@@ -327,7 +322,7 @@ inline Notch cut_out(Bench &bench, Face face, const Tool &tool)
 template <class MakeTool, class... Sizes> Notch cut_in_face(Bench &bench, Face face, Items<Point> points, MakeTool make, Sizes... sizes)
 {
     require_sizes({sizes...});
-    const FacePlane plane = plane_of(bench, face);
+    const Plane plane = plane_of(bench, face);
     return cut_out(bench, face, make(face, plane, path_of(points), sizes...));
 }
 

@@ -5,73 +5,11 @@
 #include "machining.hpp"
 #include <limits>
 #include <map>
-#include <tuple>
 #include <unordered_map>
 
 namespace gwb_session::sheets {
 
 using namespace machining;
-
-// ---- sides and sheets
-
-/// A directed side, with the region on its left: its ends, and the half-edge that it is, or is a part of, or none.
-struct Side {
-    Vector start, end;
-    HalfEdge half = HalfEdge();
-
-    [[nodiscard]] bool is_old() const { return half != HalfEdge(); }
-    [[nodiscard]] Vector way() const { return subtract(end, start); }
-    [[nodiscard]] Box box() const { return Box::between(start, end); }
-    [[nodiscard]] Side turned() const { return {end, start, is_old() ? half.twin() : half}; }
-    /// As it is seen in a plane.
-    [[nodiscard]] Segment seen(Axes axes) const { return {{start[axes[0]], start[axes[1]]}, {end[axes[0]], end[axes[1]]}}; }
-    friend bool operator<(const Side &a, const Side &b) { return std::tie(a.start, a.end, a.half) < std::tie(b.start, b.end, b.half); }
-    friend bool operator==(const Side &a, const Side &b) { return a.start == b.start && a.end == b.end && a.half == b.half; }
-};
-
-using Cycle = std::vector<Side>;
-
-/// The points that a cycle goes through.
-inline Path points_of(const Cycle &cycle) { return mapped(cycle, [](const Side &side) { return side.start; }); }
-
-/// Twice the area that cycles go round, as a vector.
-inline Vector area_of(const std::vector<Cycle> &cycles)
-{
-    Vector sum{};
-    for (const Cycle &cycle : cycles)
-        sum = add(sum, area_vector(points_of(cycle)));
-    return sum;
-}
-
-/// Sides as they are seen in a plane.
-inline Outline outline(const std::vector<Side> &sides, Axes axes) { return mapped(sides, [&](const Side &side) { return side.seen(axes); }); }
-
-/// A point whose coordinates are divided by the scale, which is above zero.
-struct ScaledPoint {
-    Vector at;
-    Wide scale = 1;
-
-    [[nodiscard]] Spot spot(Axes axes) const { return {at[axes[0]], at[axes[1]], scale}; }
-    [[nodiscard]] bool lies_in(const Box &box) const { return Box{times(box.low, scale), times(box.high, scale)}.meets(Box{at, at}); }
-    /// Between this one and another.
-    [[nodiscard]] ScaledPoint between(const ScaledPoint &other) const { return {add(at, other.at), scale + other.scale}; }
-    /// The point, where it is whole.
-    [[nodiscard]] std::optional<Vector> whole() const { return on_way({}, at, 1, scale); }
-    friend bool operator<(const ScaledPoint &a, const ScaledPoint &b)
-    {
-        int order = 0;
-        for (std::size_t axis = 0; axis < 3 && order == 0; axis++)
-            order = compare_products(a.at[axis], b.scale, b.at[axis], a.scale);
-        return order < 0;
-    }
-};
-
-/// Where a side crosses a plane, or a line, that lies so far from its ends, on one side of it and on the other.
-inline ScaledPoint divided(const Side &side, Wide before, Wide after)
-{
-    const Wide scale = magnitude(before - after);
-    return {add(times(side.start, scale), times(side.way(), magnitude(before))), scale};
-}
 
 /// A plane, whichever way it is looked at: its reduced normal, the first part of which that isn't zero is positive, and its height.
 using Level = std::pair<Vector, Wide>;
@@ -109,15 +47,12 @@ struct Sheet {
         return found;
     }
     [[nodiscard]] Path points() const { return points_of(sides()); }
+    [[nodiscard]] Shape shape() const { return {Plane::through(cycles[0][0].start, across), cycles}; }
     [[nodiscard]] bool lies_in(const Level &level) const
     {
         return all(points(), [&](const Vector &at) { return dot(level.first, at) == level.second; });
     }
 };
-
-/// What sheets came to.
-using Region = Sheet;
-inline const Region &unchanged(const Sheet &sheet) { return sheet; }
 
 /// The box around all of some sheets.
 inline Box box_of(const std::vector<Sheet> &sheets)
@@ -242,12 +177,6 @@ public:
 private:
     std::unordered_map<Member, Member> above_; ///< of those that aren't the name of their set
 };
-
-/// Twice the area between a segment and a point, positive where that lies left.
-inline Wide area_beside(const Segment &segment, const Spot &at)
-{
-    return segment.x * (at.y - segment.start.y) - segment.y * (at.x - segment.start.x);
-}
 
 /// The sheets of one plane, cut up.
 class Overlay {
