@@ -94,42 +94,39 @@ struct Combined {
     }
 };
 
-/// The solid of held sheets with the others added. Not possible: OffLattice; NothingLeft; what the caller says where they make no faces.
-inline Combined combined(const Bench &bench, Solid solid, const Held &held, const std::vector<Sheet> &sheets,
-                         const std::vector<Sheet> &added, AllNames &names, const Failure &why)
-{
-    Result<std::vector<Sheet>> regions = tried([&] { return overlaid(sheets, added); });
-    if (!regions)
-        throw regions.error().is(Misfit::off_lattice) ? regions.error() : why;
-    if (regions->empty() && all(bench.faces(solid), [&](Face face) { return held.model.faces.count(face) != 0; }))
-        throw impossible(Misfit::nothing_left, solid.number());
-    std::optional<Made> made = Assembly(held, *regions, names).made(solid);
-    if (!made)
-        throw why;
-    return Combined{std::move(*regions), std::move(*made)};
-}
-
-/// What the faces of a model near a box do.
-inline std::set<Findings::Finding> findings_near(const Model &model, const Box &box) { return Findings(model, box).all(); }
-
 /// Whether near a box models meet or touch themselves as none of those before did.
 inline bool touch_anew(std::initializer_list<const Model *> before, std::initializer_list<const Model *> after, const Box &box)
 {
     std::set<Findings::Finding> found;
     for (const Model *model : after)
-        found.merge(findings_near(*model, box));
+        found.merge(Findings(*model, box).found);
     for (const Model *model : before)
         if (!found.empty())
-            for (const Findings::Finding &known : findings_near(*model, box))
+            for (const Findings::Finding &known : Findings(*model, box).found)
                 found.erase(known);
     return !found.empty();
 }
 
-/// Whether near what is added the solid meets or touches itself as none of the models before did, or sheets pass through each other.
-inline bool has_contact(std::initializer_list<const Model *> before, const Model &after, const std::vector<Sheet> &held,
-                        const std::vector<Sheet> &added)
+/// A part of a solid with sheets added, which may be the faces of another solid. Not possible: OffLattice; NothingLeft; what `check` says; what the caller says
+/// where they make no faces, or where what comes of them meets or touches itself as nothing did before, or sheets pass through each other.
+template <class Check>
+Combined combined(const Bench &bench, const Model &part, const std::vector<Sheet> &added, const Model &other, AllNames &names, const Failure &why, Check check)
 {
-    return touch_anew(before, {&after}, box_of(added)) || comes_into(held, added);
+    const std::vector<Sheet> sheets = sheets_of(part);
+    Result<std::vector<Sheet>> regions = tried([&] { return overlaid(sheets, added); });
+    if (!regions)
+        throw regions.error().is(Misfit::off_lattice) ? regions.error() : why;
+    if (regions->empty() && all(bench.faces(part.solid), [&](Face face) { return part.faces.count(face) != 0; }))
+        throw impossible(Misfit::nothing_left, part.solid.number());
+    const Held held(bench, part.with({}, other));
+    std::optional<Made> made = Assembly(held, *regions, names).made(part.solid);
+    if (!made)
+        throw why;
+    Combined found{std::move(*regions), std::move(*made)};
+    check(found, sheets);
+    if (touch_anew({&part, &other}, {&found.made.model}, box_of(added)) || comes_into(sheets, added))
+        throw why;
+    return found;
 }
 
 /// The operators that move rings of a face that weren't looked at to those faces that it went into in which they lie; none where all corners of one
@@ -183,11 +180,8 @@ inline std::optional<std::vector<Operator>> operators_for(const Bench &bench, co
 /// Takes in that a part became another one.
 inline void follow(Surface &surface, const Model &part, const Model &made, const std::vector<Operator> &operators)
 {
-    for (const auto &[face, loops] : part.faces) {
-        surface.forget(face);
-        for (Loop loop : loops)
-            surface.forget(loop);
-    }
+    for (const auto &[face, loops] : part.faces)
+        surface.forget(face, loops);
     for (const auto &[face, loops] : made.faces)
         surface.put(face, loops, mapped(made.cycles(face), points_of));
     for (const Operator &made_by : operators)
@@ -203,20 +197,22 @@ inline void give(Bench &bench, const std::vector<Operator> &operators)
     }
 }
 
-/// Makes what comes of the faces of a solid near a box: by operators on those that differ, without the rings elsewhere, else with all rings; where
-/// that can't be, all of the solid is made anew. `combine` makes it of the part that it is given, and `before` gives what comes first.
-template <class Combine, class Before> Combined make_near(Bench &bench, Solid solid, const Box &box, Combine combine, Before before)
+/// Makes what comes of the faces of a solid near sheets that are added: by operators on those that differ, without the rings elsewhere, else with all
+/// rings; where that can't be, all of the solid is made anew. The solid whose faces are added, where they are any's, is taken away.
+template <class Check>
+Combined make_near(Bench &bench, Solid solid, const std::vector<Sheet> &added, const Model &other, const Failure &why, Check check)
 {
     Surroundings &known = Surroundings::of(bench);
     for (bool all_rings = false;; all_rings = true) {
         const Surface &surface = known.surface(bench, solid);
-        const Part part = part_near(bench, surface, solid, box, all_rings);
+        const Part part = part_near(bench, surface, solid, box_of(added), all_rings);
         AllNames names(bench);
-        Combined found = combine(part, names);
+        Combined found = combined(bench, part.model, added, other, names, why, check);
         const auto operators = operators_for(bench, surface, part, found, names);
         if (!operators && !part.fast.empty())
             continue;
-        before();
+        if (!other.faces.empty())
+            take_away(bench, other.solid);
         if (!operators) {
             make_anew(bench, Model::whole(bench, solid).with(part.model, found.made.model));
             return found;

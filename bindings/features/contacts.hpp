@@ -58,10 +58,12 @@ public:
 
     Findings(const Model &model, const Box &box) : model_(model), box_(box)
     {
+        const auto is_near = [&](const Cycle &cycle) { return !cycle.empty() && Box::around(points_of(cycle)).meets(box); };
         for (const auto &[face, loops] : model.faces) {
             go_on();
-            if (const std::vector<Cycle> cycles = model.cycles(face); !cycles[0].empty() && is_near(cycles[0]))
-                take(face, cycles);
+            const std::vector<Cycle> cycles = model.cycles(face);
+            if (is_near(cycles[0]))
+                take(face, filtered(cycles, is_near));
         }
         compare_vertices();
         compare_edges();
@@ -73,7 +75,7 @@ public:
         compare_faces();
     }
 
-    [[nodiscard]] const std::set<Finding> &all() const { return found_; }
+    std::set<Finding> found;
 
 private:
     struct NearFace {
@@ -104,12 +106,8 @@ private:
         }
     };
 
-    [[nodiscard]] bool is_near(const Cycle &cycle) const { return Box::around(points_of(cycle)).meets(box_); }
-
-    void take(Face face, const std::vector<Cycle> &cycles)
+    void take(Face face, const std::vector<Cycle> &near)
     {
-        std::vector<Cycle> near = {cycles[0]};
-        std::copy_if(cycles.begin() + 1, cycles.end(), std::back_inserter(near), [&](const Cycle &ring) { return is_near(ring); });
         for (const Cycle &cycle : near)
             for (const Side &side : cycle)
                 take(face, side);
@@ -127,7 +125,7 @@ private:
             vertices_.take(model_.start(side.half), corner, face);
     }
 
-    template <class One, class Other> void find(Kind kind, One one, Other other) { found_.insert({kind, one.number(), other.number()}); }
+    template <class One, class Other> void find(Kind kind, One one, Other other) { found.insert({kind, one.number(), other.number()}); }
 
     void compare_vertices()
     {
@@ -193,15 +191,14 @@ private:
     {
         for (const NearFace &one : faces_) {
             go_on();
-            std::vector<const NearFace *> beside;
-            for (std::size_t at : boxes_.meeting(one.shape.box()))
-                if (const NearFace &other = faces_[at]; one.face != other.face && are_parallel(one.shape.across(), other.shape.across()) &&
-                                                        one.shape.height({other.shape.points()[0]}) == 0)
-                    beside.push_back(&other);
+            const std::vector<std::size_t> beside = filtered(boxes_.meeting(one.shape.box()), [&](std::size_t at) {
+                const auto &[face, shape] = faces_[at];
+                return face != one.face && are_parallel(one.shape.across(), shape.across()) && one.shape.height({shape.points()[0]}) == 0;
+            });
             const std::optional<ScaledPoint> inner = beside.empty() ? std::nullopt : one.shape.inner_point();
-            for (const NearFace *other : beside)
-                if (inner && other->shape.locate(*inner) == Place::inside)
-                    find(Kind::faces_overlap, std::min(one.face, other->face), std::max(one.face, other->face));
+            for (std::size_t at : beside)
+                if (inner && faces_[at].shape.locate(*inner) == Place::inside)
+                    find(Kind::faces_overlap, std::min(one.face, faces_[at].face), std::max(one.face, faces_[at].face));
         }
     }
 
@@ -211,7 +208,6 @@ private:
     BoxIndex boxes_; ///< of faces, by their places
     NearSides<Edge> edges_;
     NearSides<Vertex> vertices_;
-    std::set<Finding> found_;
 };
 
 } // namespace gwb_session::contacts

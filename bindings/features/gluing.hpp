@@ -27,14 +27,13 @@ inline std::vector<Match> matches(const Bench &bench, Items<Solid> solids)
     std::map<Path, std::vector<Side>> seen;
     std::vector<Match> found;
     for (Solid solid : solids) {
-        if (bench.faces(solid).empty())
-            throw machining::refused(GWB_WHY_NO_SOLID, solid.number());
+        machining::require_solid(bench, solid);
         for (Face face : bench.faces(solid)) {
             go_on();
             if (!bench.rings(face).empty())
                 continue;
             const Path path = from_least(machining::loops_at(bench, face)[0]);
-            for (const Side &side : seen[from_least(Path(path.rbegin(), path.rend()))])
+            for (const Side &side : seen[from_least(machining::backwards(path))])
                 if (side.solid != solid)
                     found.push_back({side, {solid, face}});
             seen[path].push_back({solid, face});
@@ -50,10 +49,10 @@ inline void glue_all(Bench &bench, Items<Solid> solids)
     std::set<Solid> joined = {*solids.begin()};
     const auto has_one = [&](const Match &match) { return joined.count(match.one.solid) != joined.count(match.other.solid); };
     for (auto next = left.begin(); (next = std::find_if(left.begin(), left.end(), has_one)) != left.end(); left.erase(next)) {
-        const bool is_first = joined.count(next->one.solid) != 0;
-        const auto [stays, goes] = is_first ? std::pair(next->one.face, next->other.face) : std::pair(next->other.face, next->one.face);
-        bench.glue(stays, goes);
-        joined.insert({next->one.solid, next->other.solid});
+        if (joined.count(next->one.solid) == 0)
+            std::swap(next->one, next->other);
+        bench.glue(next->one.face, next->other.face);
+        joined.insert(next->other.solid);
     }
     for (Solid solid : solids)
         if (joined.count(solid) == 0)

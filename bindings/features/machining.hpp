@@ -76,19 +76,12 @@ inline Vector simple_normal(const Path &path)
     return across;
 }
 
-/// A path, or what belongs to its points, the other way round, from the same point on.
-template <class Item> std::vector<Item> turned(std::vector<Item> path)
+/// What belongs to the sides of a path, the other way round, and what belongs to its points: from the same point on.
+template <class Item> std::vector<Item> backwards(const std::vector<Item> &sides) { return {sides.rbegin(), sides.rend()}; }
+template <class Item> std::vector<Item> turned(std::vector<Item> points)
 {
-    std::reverse(path.begin() + 1, path.end());
-    return path;
-}
-
-/// What belongs to the segments of a path, in the order of the points that were given.
-template <class Item> std::vector<Item> by_points(std::vector<Item> along, bool is_turned)
-{
-    if (is_turned)
-        std::reverse(along.begin(), along.end());
-    return along;
+    std::reverse(points.begin() + 1, points.end());
+    return points;
 }
 
 /// The whole vector of this length along a normal of a face that is as short as it can be. Not possible where there is none that reaches from one
@@ -161,15 +154,15 @@ public:
         around_->take(box);
     }
 
-    /// A loop is gone, or runs elsewhere.
-    void forget(Loop loop)
+    /// A face is gone, or lies elsewhere, and so do these loops.
+    void forget(Face face, const std::vector<Loop> &loops)
     {
-        const auto found = loops_.find(loop);
-        boxes_.take_away(Box::around(found->second.second), loop.number());
-        loops_.erase(found);
+        planes_.erase(face);
+        for (Loop loop : loops) {
+            boxes_.take_away(Box::around(path(loop)), loop.number());
+            loops_.erase(loop);
+        }
     }
-    /// A face is gone, or lies elsewhere.
-    void forget(Face face) { planes_.erase(face); }
     /// A ring is one of another face.
     void move(Loop ring, Face face) { loops_.at(ring).first = face; }
 
@@ -457,7 +450,7 @@ inline Profile make_profile(Bench &bench, Solid solid, Items<Point> points, Poin
     bench.mvfs(solid, far, loop, first, point(drawn[0]));
     const Ring flat = close_path(bench, loop, first, drawn);
     const std::vector<Face> sides = sides_of_sweep(bench, far, way, flat.edges, true);
-    return Profile{solid, far, flat.face, by_points(sides, side < 0)};
+    return Profile{solid, far, flat.face, side < 0 ? backwards(sides) : sides};
 }
 
 /// An outline that is ready to be drawn in a face.
@@ -483,7 +476,7 @@ inline Ring make_ring(Bench &bench, Face face, Items<Point> points)
         surface.put(face, made.loop, drawn.path);
         surface.put(bench, made.face);
     });
-    return drawn.is_turned() ? Ring{made.face, made.loop, by_points(made.edges, true), turned(made.vertices)} : made;
+    return drawn.is_turned() ? Ring{made.face, made.loop, backwards(made.edges), turned(made.vertices)} : made;
 }
 
 /// Moves an outline in a face along the face's normal, as far as another face where it is to end in that.
@@ -508,7 +501,7 @@ inline Pocket move_outline(Bench &bench, Face face, const Drawing &drawn, const 
         else
             of.put(bench, ring.face);
     });
-    return Pocket{other != Face() ? other : ring.face, ring.loop, by_points(sides, drawn.is_turned())};
+    return Pocket{other != Face() ? other : ring.face, ring.loop, drawn.is_turned() ? backwards(sides) : sides};
 }
 
 /// The same by a length: up for a boss, down for a pocket. Where points would lie out of range a boss is refused, and a pocket would meet the far side.

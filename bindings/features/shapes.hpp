@@ -45,6 +45,7 @@ using Cycle = std::vector<Side>;
 inline Cycle cycle_of(const Path &path)
 {
     Cycle cycle;
+    cycle.reserve(path.size());
     for (std::size_t at = 0; at < path.size(); at++)
         if (const Vector &next = path[(at + 1) % path.size()]; next != path[at])
             cycle.push_back({path[at], next});
@@ -225,7 +226,7 @@ public:
             return false;
         const std::vector<Span> own = cut_by(other.plane_), beyond = own.empty() ? own : other.cut_by(plane_);
         return any(own, [&](const Span &one) {
-            return any(beyond, [&](const Span &other) { return one.first < other.second && other.first < one.second; });
+            return any(beyond, [&](const Span &two) { return one.first < two.second && two.first < one.second; });
         });
     }
 

@@ -7,9 +7,7 @@
 #define GWB_FEATURES_SHAPING_HPP
 #include "combining.hpp"
 
-namespace gwb_session {
-
-namespace shaping {
+namespace gwb_session::shaping {
 
 using namespace combining;
 
@@ -31,12 +29,6 @@ struct Corner {
     bool is_shared = false;
     std::optional<Vector> between = {};
 };
-
-inline Path backwards(Path path)
-{
-    std::reverse(path.begin(), path.end());
-    return path;
-}
 
 /// The prism under an outline, as deep as the vector says.
 inline Tool prism(const Path &outline, const Vector &way)
@@ -66,7 +58,7 @@ inline Tool wedge(const Corner &start, const Corner &end)
         made.walls.push_back({end.point, end.second, end.first});
     if (dot(area_vector(slope), subtract(start.first, start.point)) <= 0)
         for (std::vector<Path> *part : {&made.lids, &made.floors, &made.walls})
-            std::transform(part->begin(), part->end(), part->begin(), backwards);
+            *part = mapped(*part, backwards<Vector>);
     return made;
 }
 
@@ -260,20 +252,15 @@ inline std::vector<Sheet> sheets_of(const Tool &tool, bool are_cut)
     std::vector<Path> paths = tool.lids;
     append(paths, tool.floors);
     append(paths, tool.walls);
-    for (const Path &path : paths)
-        if (!std::all_of(path.begin(), path.end(), is_in_range))
-            throw refused(GWB_WHY_POINT_RANGE, 0);
+    if (!all(paths, [](const Path &path) { return all(path, is_in_range); }))
+        throw refused(GWB_WHY_POINT_RANGE, 0);
     std::vector<Sheet> sheets;
     for (const Path &seen : paths) {
         const Path path = are_cut ? backwards(seen) : seen;
         const Vector across = area_vector(path);
-        if (is_zero(across) || !std::all_of(path.begin(), path.end(), [&](const Vector &at) { return dot(across, subtract(at, path[0])) == 0; }))
+        if (is_zero(across) || !all(path, [&](const Vector &at) { return dot(across, subtract(at, path[0])) == 0; }))
             throw refused(GWB_WHY_NOT_FLAT, 0);
-        Cycle cycle; // (a strip may end in a point)
-        for (std::size_t at = 0; at < path.size(); at++)
-            if (const Vector &next = path[(at + 1) % path.size()]; next != path[at])
-                cycle.push_back({path[at], next});
-        sheets.push_back({Face(), reduced(across), {cycle}, sheets.size()});
+        sheets.push_back({Face(), reduced(across), {cycle_of(path)}, sheets.size()}); // (a strip may end in a point)
     }
     return sheets;
 }
@@ -284,7 +271,7 @@ inline bool meets_itself(const Bench &bench, Solid solid, const std::vector<Shee
     const Held nothing(bench, Model{solid, {}, {}, {}, {}, {}});
     AllNames names(bench);
     const std::optional<Made> made = Assembly(nothing, sheets, names).made(solid);
-    return !made || !findings_near(made->model, box_of(sheets)).empty();
+    return !made || !Findings(made->model, box_of(sheets)).found.empty();
 }
 
 /// Cuts a tool out of the solid of a face, in which its first lid lies, or puts it on.
@@ -297,16 +284,10 @@ inline Combined change(Bench &bench, Face face, const Tool &tool, bool is_cut)
     const Solid solid = bench.face(face).solid;
     if (tool.lids.size() > 1 && meets_itself(bench, solid, *added))
         throw meets;
-    const auto combine = [&](const Part &part, AllNames &names) {
-        const std::vector<Sheet> sheets = combining::sheets_of(part.model);
-        Combined found = combined(bench, solid, Held(bench, part.model), sheets, *added, names, meets);
+    return make_near(bench, solid, *added, Model(), meets, [&](const Combined &found, const std::vector<Sheet> &) {
         if (!found.marked(0, tool.lids.size()).empty())
             throw impossible(Misfit::outline_outside, face.number());
-        if (has_contact({&part.model}, found.made.model, sheets, *added))
-            throw meets;
-        return found;
-    };
-    return make_near(bench, solid, box_of(*added), combine, [] {});
+    });
 }
 
 /// The same, with the floors and walls that the tool leaves.
@@ -368,6 +349,5 @@ inline std::vector<Face> make_chamfers(Bench &bench, const std::vector<Edge> &ed
     return slopes;
 }
 
-} // namespace shaping
-} // namespace gwb_session
+} // namespace gwb_session::shaping
 #endif

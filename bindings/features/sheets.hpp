@@ -281,13 +281,9 @@ private:
     /// The old half-edge that a piece is a part of, as it runs: that of the sheet, or of another one, or none.
     static HalfEdge old_half(std::size_t place, const std::vector<Part> &parts, const Side &run)
     {
-        const auto is_own = [&](const Part &part) { return part.place == place && part.side.is_old() && part.side.start == run.start; };
-        auto found = std::find_if(parts.begin(), parts.end(), is_own);
-        if (found == parts.end())
-            found = std::find_if(parts.begin(), parts.end(), [](const Part &part) { return part.side.is_old(); });
-        if (found == parts.end())
-            return HalfEdge();
-        return found->side.start == run.start ? found->side.half : found->side.half.twin();
+        const auto rank = [&](const Part &part) { return part.side.is_old() + (part.side.is_old() && part.place == place && part.side.start == run.start); };
+        const Side &found = std::max_element(parts.begin(), parts.end(), [&](const Part &a, const Part &b) { return rank(a) < rank(b); })->side;
+        return found.start == run.start ? found.half : found.turned().half;
     }
 
     /// A held and an added sheet that look one way on both sides of a piece become one.
@@ -319,15 +315,10 @@ private:
     /// Whether the sheet lies on this side of the piece.
     [[nodiscard]] bool covers(std::size_t place, const Ends &ends, const std::vector<Part> &parts, bool on_left) const
     {
-        bool has_part = false;
-        for (const Part &part : parts)
-            if (part.place == place) {
-                has_part = true;
-                if ((part.side.start == ends.first) == (on_left == sheets_[place].is_facing()))
-                    return true;
-            }
-        const Segment piece = Side{ends.first, ends.second}.seen(axes_);
-        return !has_part && locate(outlines_[place], {piece.start.x + piece.end.x, piece.start.y + piece.end.y, 2}) == Place::inside;
+        const bool is_along = on_left == sheets_[place].is_facing();
+        if (any(parts, [&](const Part &part) { return part.place == place; }))
+            return any(parts, [&](const Part &part) { return part.place == place && (part.side.start == ends.first) == is_along; });
+        return locate(outlines_[place], ScaledPoint{add(ends.first, ends.second), 2}.spot(axes_)) == Place::inside;
     }
 
     /// The parts of sides near added sheets; the other sides are kept as they are.
@@ -375,10 +366,7 @@ private:
                 throw impossible(Misfit::off_lattice, one.side.half.edge().number());
             points.insert(*at_crossing);
         }
-        Path path(points.begin(), points.end());
-        if (one.side.end < one.side.start)
-            std::reverse(path.begin(), path.end());
-        return path;
+        return one.side.end < one.side.start ? Path(points.rbegin(), points.rend()) : Path(points.begin(), points.end());
     }
 
     std::vector<Sheet> sheets_;

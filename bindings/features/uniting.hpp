@@ -59,17 +59,10 @@ inline Combined add(Bench &bench, Solid solid, Solid gone)
     std::vector<Sheet> added = sheets_of(other);
     for (std::size_t at = 0; at < added.size(); at++)
         added[at].marks = {at};
-    const Failure overlap = impossible(Misfit::overlap, solid.number());
-    const auto combine = [&](const Part &part, AllNames &names) {
-        const std::vector<Sheet> sheets = sheets_of(part.model);
-        Combined found = combined(bench, solid, Held(bench, part.model.with({}, other)), sheets, added, names, overlap);
+    return make_near(bench, solid, added, other, impossible(Misfit::overlap, solid.number()), [&](const Combined &found, const std::vector<Sheet> &sheets) {
         if (size_of(found.regions) == size_of(sheets) + size_of(added))
             throw impossible(Misfit::no_contact, gone.number());
-        if (has_contact({&part.model, &other}, found.made.model, sheets, added))
-            throw overlap;
-        return found;
-    };
-    return make_near(bench, solid, box_of(added), combine, [&] { take_away(bench, gone); });
+    });
 }
 
 /// Adds the first of some solids that touches another one to it, and takes it out. Not possible: NoContact: none does.
@@ -89,8 +82,7 @@ inline Combined add_first(Bench &bench, Solid solid, std::vector<Solid> &others)
 inline Became unite(Bench &bench, const std::vector<Solid> &solids)
 {
     for (Solid solid : solids)
-        if (bench.faces(solid).empty())
-            throw refused(GWB_WHY_NO_SOLID, solid.number());
+        require_solid(bench, solid);
     std::vector<Solid> left(solids.begin() + 1, solids.end());
     Became became;
     while (!left.empty())
