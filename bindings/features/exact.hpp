@@ -341,18 +341,6 @@ struct Segment {
 
 using Outline = std::vector<Segment>;
 
-/// The sides of a closed path as a function sees its points: from each to the next.
-template <class See> Outline outline_of(const std::vector<Vector> &path, See see)
-{
-    std::vector<Spot> spots(path.size());
-    std::transform(path.begin(), path.end(), spots.begin(), see);
-    Outline sides;
-    sides.reserve(path.size());
-    for (std::size_t at = 0; at < path.size(); at++)
-        sides.emplace_back(spots[at], spots[(at + 1) % path.size()]);
-    return sides;
-}
-
 /// Where a point lies against an outline of sides without a scale, by the parity of crossings of a ray to the right.
 inline Place locate(const Outline &sides, const Spot &point)
 {
@@ -378,15 +366,6 @@ template <class Loops, class Of> Place locate_in(const Loops &loops, Of of)
         is_within = is_within != (place == Place::inside);
     }
     return is_within ? Place::inside : Place::outside;
-}
-
-/// Twice the area of a closed path without a scale, negative where it runs clockwise.
-inline Wide twice_area(const Outline &sides)
-{
-    Wide sum = 0;
-    for (const Segment &side : sides)
-        sum += (side.start.x - sides[0].start.x) * side.y - (side.start.y - sides[0].start.y) * side.x;
-    return sum;
 }
 
 } // namespace gwb_session::exact

@@ -291,7 +291,7 @@ class Prism {
 public:
     Prism(const Vector &across, const Path &path, const Vector &way, bool is_open)
         : path_(path), far_(moved(path, way)), way_(way), up_(dot(across, way) > 0 ? across : negative(across)), top_(dot(up_, way)), is_open_(is_open),
-          sight_{up_}, sides_(outline_of(path, sight_)), box_(Box::around(path))
+          sight_{up_}, sides_(sight_(cycle_of(path))), box_(Box::around(path))
     {
         box_.take(Box::around(far_));
     }

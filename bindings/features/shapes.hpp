@@ -94,7 +94,7 @@ inline ScaledPoint divided(const Side &side, Wide before, Wide after)
     return {add(times(side.start, scale), times(side.way(), magnitude(before))), scale};
 }
 
-/// Points as seen along a vector: as spots, exactly.
+/// Points, and sides, as seen along a vector: as spots, exactly.
 struct Sight {
     Vector along;
     Axes axes = flat_axes(along);
@@ -103,6 +103,10 @@ struct Sight {
     Spot operator()(const Vector &at) const
     {
         return {at[axes[0]] * along[third] - at[third] * along[axes[0]], at[axes[1]] * along[third] - at[third] * along[axes[1]]};
+    }
+    Outline operator()(const std::vector<Side> &sides) const
+    {
+        return mapped(sides, [&](const Side &side) { return Segment((*this)(side.start), (*this)(side.end)); });
     }
 };
 
@@ -238,7 +242,7 @@ public:
         const Sight sight{ray};
         Spot from = sight(start.at);
         from.scale = start.scale;
-        return exact::locate(mapped(sides_, [&](const Side &side) { return Segment(sight(side.start), sight(side.end)); }), from);
+        return exact::locate(sight(sides_), from);
     }
 
 private:

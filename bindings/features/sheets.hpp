@@ -81,7 +81,7 @@ inline bool comes_before(const Segment &from, const Segment &one, const Segment 
 class Traced {
 public:
     /// Thrown is what the caller says where the sides make no outlines, or a hole lies in none.
-    Traced(std::vector<Side> sides, const Vector &across, const Failure &why) : sides_(std::move(sides)), axes_(flat_axes(across)), why_(why)
+    Traced(std::vector<Side> sides, const Vector &across, const Failure &why) : sides_(std::move(sides)), across_(across), axes_(flat_axes(across)), why_(why)
     {
         std::sort(sides_.begin(), sides_.end());
         sides_.erase(std::unique(sides_.begin(), sides_.end()), sides_.end());
@@ -93,7 +93,7 @@ public:
         std::vector<std::pair<Wide, Cycle>> outer;
         std::vector<Cycle> holes;
         for (const Cycle &cycle : cycles())
-            if (const Wide area = twice_area(outline(cycle, axes_)); area > 0)
+            if (const Wide area = dot(area_of({cycle}), across_); area > 0)
                 outer.emplace_back(-area, cycle);
             else
                 holes.push_back(cycle);
@@ -150,6 +150,7 @@ private:
     }
 
     std::vector<Side> sides_; ///< rising
+    Vector across_;
     Axes axes_;
     Failure why_;
 };
