@@ -57,7 +57,7 @@ inline std::vector<Sheet> sheets_of(const Model &model)
         const Vector across = area_of(cycles);
         if (!has_lengths || is_zero(across) || longest(reduced(across)) > steepest)
             throw refused(GWB_WHY_NOT_FLAT, face.number());
-        sheets.emplace_back(face, reduced(across), std::move(cycles));
+        sheets.push_back({{face}, {}, reduced(across), std::move(cycles)});
     }
     return sheets;
 }
@@ -65,7 +65,7 @@ inline std::vector<Sheet> sheets_of(const Model &model)
 // ---- what is made
 
 /// Faces with their regions.
-using Regions = std::map<Face, const Sheet *>;
+using Regions = std::map<Face, Shape>;
 
 /// The regions that sheets came to, and the faces that they are.
 struct Combined {
@@ -89,7 +89,7 @@ struct Combined {
         Regions found;
         for (std::size_t at = 0; at < regions.size(); at++)
             if (std::find(regions[at].owners.begin(), regions[at].owners.end(), face) != regions[at].owners.end())
-                found.emplace(made.of_regions[at], &regions[at]);
+                found.emplace(made.of_regions[at], regions[at].shape());
         return found;
     }
 };
@@ -134,19 +134,16 @@ Combined combined(const Bench &bench, const Model &part, const std::vector<Sheet
 inline std::optional<std::vector<Operator>> moves(const Bench &bench, const Surface &surface, Face face, const std::vector<Loop> &looked_at,
                                                   const Regions &became)
 {
-    std::map<Face, Shape> shapes;
-    for (const auto &[other, region] : became)
-        shapes.emplace(other, region->shape());
     std::vector<Operator> found;
     for (Loop ring : bench.rings(face)) {
         go_on();
         if (std::binary_search(looked_at.begin() + 1, looked_at.end(), ring))
             continue;
         const Path &path = surface.path(ring);
-        const auto around = std::find_if(shapes.begin(), shapes.end(), [&](const auto &shape) {
-            return any(path, [&](const Vector &at) { return shape.second.locate({at}) == Place::inside; });
+        const auto around = std::find_if(became.begin(), became.end(), [&](const auto &region) {
+            return any(path, [&](const Vector &at) { return region.second.locate({at}) == Place::inside; });
         });
-        if (around == shapes.end())
+        if (around == became.end())
             return std::nullopt;
         if (around->first != face)
             found.push_back(Operator::ring_in(ring, around->first));
@@ -159,21 +156,16 @@ inline std::optional<std::vector<Operator>> moves(const Bench &bench, const Surf
 inline std::optional<std::vector<Operator>> operators_for(const Bench &bench, const Surface &surface, const Part &part, const Combined &combined,
                                                           AllNames &names)
 {
-    std::map<Face, Regions> split;
-    for (Face face : part.fast) {
-        const Regions became = combined.became(face);
-        if (became.count(face) == 0)
-            return std::nullopt;
-        if (became.size() > 1)
-            split.emplace(face, became);
-    }
+    if (any(part.fast, [&](Face face) { return combined.became(face).count(face) == 0; }))
+        return std::nullopt;
     auto operators = changing::operators_between(changing::Pair{part.model, combined.made.model, part.fast}, names);
-    for (const auto &[face, became] : split) {
-        const auto moved = operators ? moves(bench, surface, face, part.model.faces.at(face), became) : std::nullopt;
-        if (!moved)
-            return std::nullopt;
-        append(*operators, *moved);
-    }
+    for (Face face : part.fast)
+        if (const Regions became = combined.became(face); operators && became.size() > 1) {
+            const auto moved = moves(bench, surface, face, part.model.faces.at(face), became);
+            if (!moved)
+                return std::nullopt;
+            append(*operators, *moved);
+        }
     return operators;
 }
 

@@ -13,16 +13,9 @@ inline bool is_bound(const std::vector<Shape> &walls, const ScaledPoint &point)
 {
     if (any(walls, [&](const Shape &wall) { return wall.height(point) == 0 && wall.locate(point) != Place::outside; }))
         return false;
-    for (Wide k = 3;; k++) {
-        std::size_t inside = 0, on = 0;
-        for (const Shape &wall : walls) {
-            const Place place = wall.hit(point, {1, k, k * k});
-            inside += place == Place::inside;
-            on += place == Place::on;
-        }
-        if (on == 0)
-            return inside % 2 == 1;
-    }
+    for (Wide k = 3;; k++)
+        if (const Place place = locate_in(walls, [&](const Shape &wall) { return wall.hit(point, {1, k, k * k}); }); place != Place::on)
+            return place == Place::inside;
 }
 
 /// Whether a held sheet comes into the room that closed walls bound, otherwise than through their edges.

@@ -50,7 +50,7 @@ inline void put_below(const Sheet &sheet, const Plane &plane, const Failure &why
     std::vector<Side> sides = sides_below(sheet, plane);
     append(sides, cuts_of(sheet, plane));
     for (const std::vector<Cycle> &cycles : Traced(sides, sheet.across, why).regions())
-        left.emplace_back(sheet.owners[0], sheet.across, cycles);
+        left.push_back({{sheet.owners[0]}, {}, sheet.across, cycles});
 }
 
 /// The sides in the plane that have no other beside them, turned round.
@@ -80,7 +80,7 @@ inline Combined part_below(const Held &held, const std::vector<Sheet> &sheets, c
         put_below(sheet, plane, meets, left);
     }
     for (const std::vector<Cycle> &cycles : Traced(open_sides(left, plane), plane.across, meets).regions())
-        caps.emplace_back(Face(), reduced(plane.across), cycles, caps.size());
+        caps.push_back({{Face()}, {caps.size()}, reduced(plane.across), cycles});
     Result<std::vector<Sheet>> laid = tried([&] { return overlaid(left, caps); });
     std::optional<Made> made = laid ? Assembly(held, *laid, names).made(solid) : std::nullopt;
     if (!made)
@@ -170,8 +170,8 @@ inline Split cut_by_faces(Bench &bench, Solid solid, const Plane &plane, const P
         make_anew(bench, lower.made.model);
     if (is_wanted)
         bench.load(upper.made.model.listing());
-    Split made{above, lower.marked(0, no_mark), {}};
-    made.upper_caps = upper.marked(0, no_mark);
+    Split made{above, lower.marked(0, SIZE_MAX), {}};
+    made.upper_caps = upper.marked(0, SIZE_MAX);
     return made;
 }
 

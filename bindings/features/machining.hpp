@@ -290,8 +290,8 @@ inline Plane plane_of(const Bench &bench, Face face)
 class Prism {
 public:
     Prism(const Vector &across, const Path &path, const Vector &way, bool is_open)
-        : path_(path), far_(moved(path, way)), way_(way), up_(dot(across, way) > 0 ? across : negative(across)), top_(dot(up_, way)), is_open_(is_open),
-          sight_{up_}, sides_(sight_(cycle_of(path))), box_(Box::around(path))
+        : path_(path), far_(moved(path, way)), way_(way), base_(Plane::through(path[0], dot(across, way) > 0 ? across : negative(across))),
+          top_(dot(base_.across, way)), is_open_(is_open), sight_{base_.across}, sides_(sight_.outline(cycle_of(path))), box_(Box::around(path))
     {
         box_.take(Box::around(far_));
     }
@@ -307,20 +307,20 @@ public:
     }
 
     /// Whether a point of the segment lies in the prism or on it; in the face, and in the other one, only what is on the outline counts.
-    [[nodiscard]] bool meets_edge(Vector start, Vector end) const
+    [[nodiscard]] bool meets_edge(const Vector &start, const Vector &end) const
     {
-        Wide low = height(start), high = height(end);
-        if (low > high) {
-            std::swap(start, end);
-            std::swap(low, high);
-        }
+        const Wide low = base_.height(start), high = base_.height(end);
+        if (low > high)
+            return meets_edge(end, start);
         if (high < 0 || low > top_)
             return false;
+        const Side edge{start, end};
+        const ScaledPoint first = low < 0 ? divided(edge, low, high) : ScaledPoint{start};
+        const ScaledPoint last = high > top_ ? divided(edge, low - top_, high - top_) : ScaledPoint{end};
+        const Segment between(sight_.spot(first), sight_.spot(last), sight_.segment(edge));
         const bool only_outline = high == 0 || (is_open_ && low == top_);
-        const Segment part = within(sight_(start), sight_(end), low, high);
-        if (!only_outline && locate(sides_, part.start) != Place::outside)
-            return true;
-        return any(sides_, [&](const Segment &side) { return side.meets(part); });
+        return (!only_outline && locate(sides_, between.start) != Place::outside) ||
+               any(sides_, [&](const Segment &side) { return side.meets(between); });
     }
 
     /// Whether an edge of the prism meets a face none of whose edges meets the prism.
@@ -331,21 +331,9 @@ public:
     }
 
 private:
-    [[nodiscard]] Wide height(const Vector &at) const { return dot(up_, subtract(at, path_[0])); }
-
-    /// The part of a segment between these heights that lies between the prism's ends.
-    [[nodiscard]] Segment within(const Spot &start, const Spot &end, Wide low, Wide high) const
-    {
-        const Segment whole(start, end);
-        const Wide length = high - low;
-        const auto on_way = [&](Wide height) {
-            return Spot{start.x * length + (height - low) * whole.x, start.y * length + (height - low) * whole.y, length};
-        };
-        return Segment(low < 0 ? on_way(0) : start, high > top_ ? on_way(top_) : end, whole);
-    }
-
     Path path_, far_;
-    Vector way_, up_;
+    Vector way_;
+    Plane base_; ///< whose normal points into it
     Wide top_;
     bool is_open_;
     Sight sight_;
@@ -427,9 +415,7 @@ inline Ring draw(Bench &bench, Face face, const Path &path)
 inline std::vector<Face> sides_of_sweep(Bench &bench, Face face, const Vector &way, const std::vector<Edge> &edges, bool of_first)
 {
     bench.sweep(face, point(way));
-    std::vector<Face> sides(edges.size());
-    std::transform(edges.begin(), edges.end(), sides.begin(), [&](Edge edge) { return bench.face_of(of_first ? plus(edge) : minus(edge)); });
-    return sides;
+    return mapped(edges, [&](Edge edge) { return bench.face_of(of_first ? plus(edge) : minus(edge)); });
 }
 
 inline Profile make_profile(Bench &bench, Solid solid, Items<Point> points, Point along)
@@ -476,7 +462,11 @@ inline Ring make_ring(Bench &bench, Face face, Items<Point> points)
         surface.put(face, made.loop, drawn.path);
         surface.put(bench, made.face);
     });
-    return drawn.is_turned() ? Ring{made.face, made.loop, backwards(made.edges), turned(made.vertices)} : made;
+    if (drawn.is_turned()) {
+        made.edges = backwards(made.edges);
+        made.vertices = turned(made.vertices);
+    }
+    return made;
 }
 
 /// Moves an outline in a face along the face's normal, as far as another face where it is to end in that.

@@ -100,14 +100,13 @@ struct Sight {
     Axes axes = flat_axes(along);
     std::size_t third = widest(along);
 
-    Spot operator()(const Vector &at) const
+    [[nodiscard]] Spot spot(const ScaledPoint &point) const
     {
-        return {at[axes[0]] * along[third] - at[third] * along[axes[0]], at[axes[1]] * along[third] - at[third] * along[axes[1]]};
+        const auto part = [&](std::size_t axis) { return point.at[axis] * along[third] - point.at[third] * along[axis]; };
+        return {part(axes[0]), part(axes[1]), point.scale};
     }
-    Outline operator()(const std::vector<Side> &sides) const
-    {
-        return mapped(sides, [&](const Side &side) { return Segment((*this)(side.start), (*this)(side.end)); });
-    }
+    [[nodiscard]] Segment segment(const Side &side) const { return {spot({side.start}), spot({side.end})}; }
+    [[nodiscard]] Outline outline(const std::vector<Side> &sides) const { return mapped(sides, [&](const Side &side) { return segment(side); }); }
 };
 
 // ---- faces
@@ -240,9 +239,7 @@ public:
         if (sign(height(start)) * sign(dot(across(), ray)) >= 0)
             return Place::outside;
         const Sight sight{ray};
-        Spot from = sight(start.at);
-        from.scale = start.scale;
-        return exact::locate(sight(sides_), from);
+        return exact::locate(sight.outline(sides_), sight.spot(start));
     }
 
 private:

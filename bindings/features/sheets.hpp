@@ -3,7 +3,6 @@
 #ifndef GWB_FEATURES_SHEETS_HPP
 #define GWB_FEATURES_SHEETS_HPP
 #include "machining.hpp"
-#include <limits>
 #include <map>
 #include <unordered_map>
 
@@ -14,8 +13,6 @@ using namespace machining;
 /// A plane, whichever way it is looked at: its reduced normal, the first part of which that isn't zero is positive, and its height.
 using Level = std::pair<Vector, Wide>;
 
-constexpr std::size_t no_mark = std::numeric_limits<std::size_t>::max();
-
 /// A flat region: the faces that it is of, none of an added one that is no face; where it is added, or added ones went into it, their places among the
 /// added ones; its reduced normal; its cycles, the outline first.
 struct Sheet {
@@ -23,13 +20,6 @@ struct Sheet {
     std::vector<std::size_t> marks;
     Vector across;
     std::vector<Cycle> cycles;
-
-    Sheet(Face owner, const Vector &normal, std::vector<Cycle> around, std::size_t mark = no_mark)
-        : owners{owner}, across(normal), cycles(std::move(around))
-    {
-        if (mark != no_mark)
-            marks.push_back(mark);
-    }
 
     [[nodiscard]] bool is_added() const { return !marks.empty(); }
     /// Whether it looks the way of its plane's normal.
@@ -282,7 +272,7 @@ private:
     /// The old half-edge that a piece is a part of, as it runs: that of the sheet, or of another one, or none.
     static HalfEdge old_half(std::size_t place, const std::vector<Part> &parts, const Side &run)
     {
-        const auto rank = [&](const Part &part) { return part.side.is_old() + (part.side.is_old() && part.place == place && part.side.start == run.start); };
+        const auto rank = [&](const Part &part) { return !part.side.is_old() ? 0 : part.place == place && part.side.start == run.start ? 2 : 1; };
         const Side &found = std::max_element(parts.begin(), parts.end(), [&](const Part &a, const Part &b) { return rank(a) < rank(b); })->side;
         return found.start == run.start ? found.half : found.turned().half;
     }
@@ -300,8 +290,8 @@ private:
     [[nodiscard]] Places left_over(const Ends &ends, const std::vector<Part> &parts, bool on_left) const
     {
         go_on();
-        const Places near = boxes_.meeting(Box::between(ends.first, ends.second));
-        Places found = filtered(near, [&](std::size_t place) { return covers(place, ends, parts, on_left); });
+        const Box box = Box::between(ends.first, ends.second);
+        Places found = filtered(boxes_.meeting(box), [&](std::size_t place) { return covers(place, ends, parts, on_left); });
         for (std::size_t place : filtered(found, [&](std::size_t of) { return sheets_[of].is_added(); })) {
             if (any(found, [&](std::size_t other) { return other != place && sheets_[other].is_facing() == sheets_[place].is_facing(); }))
                 throw impossible(Misfit::meets, 0);

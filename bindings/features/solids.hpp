@@ -111,12 +111,10 @@ public:
             for (Loop ring : bench_.rings(face))
                 ring_out(ring);
         edges_out(faces_out(rows));
-        std::optional<Face> first;
-        for (Face face : bench_.faces(solid)) // of one vertex each
-            if (first)
-                part_out(*first, face);
-            else
-                first = face;
+        const auto faces = bench_.faces(solid); // of one vertex each
+        for (Face face : faces)
+            if (const Face first = *faces.begin(); face != first)
+                part_out(first, face);
         bench_.kvfs(solid);
     }
 

@@ -15,11 +15,10 @@ public:
     {
         std::map<Face, std::set<Face>> now;
         for (std::size_t at = 0; at < combined.regions.size(); at++)
-            for (Face owner : combined.regions[at].owners)
-                if (const auto known = sources_.find(owner); known != sources_.end())
-                    now[combined.made.of_regions[at]].insert(known->second.begin(), known->second.end());
-                else
-                    now[combined.made.of_regions[at]].insert(owner);
+            for (Face owner : combined.regions[at].owners) {
+                const std::set<Face> &known = sources_.try_emplace(owner, std::set<Face>{owner}).first->second;
+                now[combined.made.of_regions[at]].insert(known.begin(), known.end());
+            }
         for (const auto &[face, sources] : std::exchange(sources_, now))
             if (has(bench.attempt().face(face))) // what isn't there went into others, or nothing is left of it
                 sources_.emplace(face, sources);
