@@ -47,7 +47,7 @@ inline bool comes_into(const std::vector<Sheet> &held, const std::vector<Sheet> 
 class Findings {
 public:
     enum class Kind { equal_points, equal_edges, vertex_on_edge, edges_cross, vertex_on_face, edge_through_face, edge_along_face, faces_overlap };
-    using Finding = std::tuple<Kind, std::uint32_t, std::uint32_t>;
+    using Finding = std::tuple<Kind, std::size_t, std::size_t>;
 
     Findings(const Model &model, const Box &box) : model_(model), box_(box)
     {
@@ -75,27 +75,21 @@ private:
         Face face;
         Shape shape;
     };
-    /// Edges or vertices as sides, with the faces that they are of.
-    template <class Kind> struct NearSides {
+    /// Edges or vertices as sides, by their numbers, with the faces that they are of.
+    struct NearSides {
         struct Row {
             Side side;
             std::set<Face> faces;
         };
-        std::map<Kind, Row> rows;
+        std::map<std::size_t, Row> rows;
         BoxIndex boxes;
 
-        void take(Kind number, const Side &side, Face face)
+        void take(std::size_t number, const Side &side, Face face)
         {
-            const auto [row, is_new] = rows.try_emplace(number);
-            if (is_new) {
-                row->second.side = side;
-                boxes.put(side.box(), number.number());
-            }
+            const auto [row, is_new] = rows.try_emplace(number, Row{side, {}});
+            if (is_new)
+                boxes.put(side.box(), number);
             row->second.faces.insert(face);
-        }
-        [[nodiscard]] std::vector<Kind> near(const Box &box) const
-        {
-            return mapped(boxes.meeting(box), [](std::size_t number) { return Kind(static_cast<std::uint32_t>(number)); });
         }
     };
 
@@ -113,43 +107,41 @@ private:
     void take(Face face, const Side &side)
     {
         if (side.box().meets(box_))
-            edges_.take(side.half.edge(), side.half.is_second() ? side.turned() : side, face);
+            edges_.take(side.half.edge().number(), side.half.is_second() ? side.turned() : side, face);
         if (const Side corner{side.start, side.start}; corner.box().meets(box_))
-            vertices_.take(model_.start(side.half), corner, face);
+            vertices_.take(model_.start(side.half).number(), corner, face);
     }
-
-    template <class One, class Other> void find(Kind kind, One one, Other other) { found.insert({kind, one.number(), other.number()}); }
 
     void compare_vertices()
     {
-        std::map<Vector, Vertex> first;
+        std::map<Vector, std::size_t> first;
         for (const auto &[vertex, row] : vertices_.rows)
             if (const auto [old, is_new] = first.emplace(row.side.start, vertex); !is_new)
-                find(Kind::equal_points, old->second, vertex);
+                found.insert({Kind::equal_points, old->second, vertex});
     }
 
     void compare_edges()
     {
         for (const auto &[edge, row] : edges_.rows) {
             go_on();
-            for (Edge other : edges_.near(row.side.box()))
+            for (std::size_t other : edges_.boxes.meeting(row.side.box()))
                 if (edge < other)
                     compare_edges(edge, row.side, other, edges_.rows.at(other).side);
-            for (Vertex vertex : vertices_.near(row.side.box()))
+            for (std::size_t vertex : vertices_.boxes.meeting(row.side.box()))
                 if (lies_between(row.side, vertices_.rows.at(vertex).side.start))
-                    find(Kind::vertex_on_edge, vertex, edge);
+                    found.insert({Kind::vertex_on_edge, vertex, edge});
         }
     }
-    void compare_edges(Edge one, const Side &first, Edge other, const Side &second)
+    void compare_edges(std::size_t one, const Side &first, std::size_t other, const Side &second)
     {
         if (std::minmax(first.start, first.end) == std::minmax(second.start, second.end))
-            find(Kind::equal_edges, one, other);
+            found.insert({Kind::equal_edges, one, other});
         const Vector across = cross(first.way(), second.way());
         if (is_zero(across) || dot(across, subtract(second.start, first.start)) != 0)
             return;
         const Axes axes = flat_axes(across);
         if (first.seen(axes).crosses(second.seen(axes)))
-            find(Kind::edges_cross, one, other);
+            found.insert({Kind::edges_cross, one, other});
     }
     static bool lies_between(const Side &side, const Vector &at)
     {
@@ -159,23 +151,23 @@ private:
 
     void compare_with_vertices(const NearFace &face)
     {
-        for (Vertex vertex : vertices_.near(face.shape.box())) {
+        for (std::size_t vertex : vertices_.boxes.meeting(face.shape.box())) {
             const auto &[side, faces] = vertices_.rows.at(vertex);
             if (faces.count(face.face) == 0 && face.shape.height({side.start}) == 0 && face.shape.locate({side.start}) == Place::inside)
-                find(Kind::vertex_on_face, vertex, face.face);
+                found.insert({Kind::vertex_on_face, vertex, face.face.number()});
         }
     }
     void compare_with_edges(const NearFace &face)
     {
-        for (Edge edge : edges_.near(face.shape.box())) {
+        for (std::size_t edge : edges_.boxes.meeting(face.shape.box())) {
             const auto &[side, faces] = edges_.rows.at(edge);
             if (faces.count(face.face) != 0)
                 continue;
             const Wide before = face.shape.height({side.start}), after = face.shape.height({side.end});
             if (sign(before) * sign(after) < 0 && face.shape.locate(divided(side, before, after)) == Place::inside)
-                find(Kind::edge_through_face, edge, face.face);
+                found.insert({Kind::edge_through_face, edge, face.face.number()});
             else if (before == 0 && after == 0 && face.shape.has_part(side))
-                find(Kind::edge_along_face, edge, face.face);
+                found.insert({Kind::edge_along_face, edge, face.face.number()});
         }
     }
 
@@ -191,7 +183,7 @@ private:
             const std::optional<ScaledPoint> inner = beside.empty() ? std::nullopt : one.shape.inner_point();
             for (std::size_t at : beside)
                 if (inner && faces_[at].shape.locate(*inner) == Place::inside)
-                    find(Kind::faces_overlap, std::min(one.face, faces_[at].face), std::max(one.face, faces_[at].face));
+                    found.insert({Kind::faces_overlap, std::min(one.face, faces_[at].face).number(), std::max(one.face, faces_[at].face).number()});
         }
     }
 
@@ -199,8 +191,7 @@ private:
     const Box &box_;
     std::vector<NearFace> faces_;
     BoxIndex boxes_; ///< of faces, by their places
-    NearSides<Edge> edges_;
-    NearSides<Vertex> vertices_;
+    NearSides edges_, vertices_;
 };
 
 } // namespace gwb_session::contacts

@@ -10,7 +10,6 @@
 #include "polyhedra.hpp"
 #include "selection.hpp"
 #include "shaping.hpp"
-#include "stopping.hpp"
 #include "uniting.hpp"
 #include <numeric>
 

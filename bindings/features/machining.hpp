@@ -97,7 +97,7 @@ inline Vector steps_along(Face face, const Vector &across, std::int64_t length)
 
 // ---- faces
 
-/// The points of a loop: of a lone one one.
+/// The points of a loop, of which a lone one has one.
 inline Path path_at(const Bench &bench, Loop loop)
 {
     Path path;

@@ -3,7 +3,6 @@
 #define GWB_FEATURES_SOLIDS_HPP
 #include "exact.hpp"
 #include "gwb_made.hpp"
-#include "stopping.hpp"
 #include "throwing.hpp"
 #include <set>
 

@@ -1,7 +1,11 @@
-/// @file throwing.hpp What a feature is refused for, or why it isn't possible, is thrown as a Failure: that takes no memory.
+/// @file throwing.hpp How a feature ends that isn't made. What it is refused for, or why it isn't possible, is thrown as a Failure: that takes no memory.
+/// Its caller ends what takes long (gwb_stop_by).
 #ifndef GWB_FEATURES_THROWING_HPP
 #define GWB_FEATURES_THROWING_HPP
 #include "gwb.hpp"
+extern "C" {
+#include "beside.h"
+}
 
 namespace gwb_session {
 
@@ -27,6 +31,12 @@ template <class Call> auto tried(Call call) -> Result<decltype(call())>
         return failure;
     }
 }
+
+/// Thrown where the caller ends a feature.
+struct EndedByCaller {};
+
+/// Throws EndedByCaller where the caller ends what this thread makes. What takes long calls it between its parts; not each call asks the caller.
+void go_on();
 
 } // namespace gwb_session
 #endif

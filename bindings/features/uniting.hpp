@@ -56,8 +56,8 @@ inline Combined add(Bench &bench, Solid solid, Solid gone)
 {
     const Model other = Model::whole(bench, gone);
     std::vector<Sheet> added = sheets_of(other);
-    for (std::size_t at = 0; at < added.size(); at++)
-        added[at].marks = {at};
+    for (Sheet &sheet : added)
+        sheet.marks = {0};
     return make_near(bench, solid, added, other, impossible(Misfit::overlap, solid.number()), [&](const Combined &found, const std::vector<Sheet> &sheets) {
         if (size_of(found.regions) == size_of(sheets) + size_of(added))
             throw impossible(Misfit::no_contact, gone.number());
