@@ -339,7 +339,7 @@ private:
     {
         const Axes axes = flat_axes(way);
         const auto normal = [&](const Placed *placed) {
-            const Vector &across = placed->region->across;
+            const Vector &across = placed->region->plane.across;
             return Side{{}, placed->runs_back(way) ? negative(across) : across}.seen(axes);
         };
         const Segment from({}, {1, 0});

@@ -50,14 +50,14 @@ inline std::vector<Sheet> sheets_of(const Model &model)
     std::vector<Sheet> sheets;
     for (const auto &[face, loops] : model.faces) {
         go_on();
-        std::vector<Cycle> cycles = model.cycles(face);
+        const std::vector<Cycle> cycles = model.cycles(face);
         const bool has_lengths = all(cycles, [](const Cycle &cycle) {
             return !cycle.empty() && all(cycle, [](const Side &side) { return side.start != side.end; });
         });
         const Vector across = area_of(cycles);
         if (!has_lengths || is_zero(across) || longest(reduced(across)) > steepest)
             throw refused(GWB_WHY_NOT_FLAT, face.number());
-        sheets.push_back({{face}, {}, reduced(across), std::move(cycles)});
+        sheets.push_back({{Plane::through(cycles[0][0].start, reduced(across)), cycles}, {face}, {}});
     }
     return sheets;
 }
@@ -65,7 +65,7 @@ inline std::vector<Sheet> sheets_of(const Model &model)
 // ---- what is made
 
 /// Faces with their regions.
-using Regions = std::map<Face, Shape>;
+using Regions = std::map<Face, const Sheet *>;
 
 /// The regions that sheets came to, and the faces that they are.
 struct Combined {
@@ -89,7 +89,7 @@ struct Combined {
         Regions found;
         for (std::size_t at = 0; at < regions.size(); at++)
             if (std::find(regions[at].owners.begin(), regions[at].owners.end(), face) != regions[at].owners.end())
-                found.emplace(made.of_regions[at], regions[at].shape());
+                found.emplace(made.of_regions[at], &regions[at]);
         return found;
     }
 };
@@ -141,7 +141,7 @@ inline std::optional<std::vector<Operator>> moves(const Bench &bench, const Surf
             continue;
         const Path &path = surface.path(ring);
         const auto around = std::find_if(became.begin(), became.end(), [&](const auto &region) {
-            return any(path, [&](const Vector &at) { return region.second.locate({at}) == Place::inside; });
+            return any(path, [&](const Vector &at) { return region.second->locate({at}) == Place::inside; });
         });
         if (around == became.end())
             return std::nullopt;

@@ -9,12 +9,12 @@ using namespace sheets;
 
 /// Whether a point lies in the room that walls bound, and on none of them: by the parity of crossings of a ray that meets no edge. Of the rays
 /// (1, k, k k) at most two lie in any plane through the point, so only finitely many meet an edge.
-inline bool is_bound(const std::vector<Shape> &walls, const ScaledPoint &point)
+inline bool is_bound(const std::vector<Sheet> &walls, const ScaledPoint &point)
 {
-    if (any(walls, [&](const Shape &wall) { return wall.height(point) == 0 && wall.locate(point) != Place::outside; }))
+    if (any(walls, [&](const Sheet &wall) { return wall.height(point) == 0 && wall.locate(point) != Place::outside; }))
         return false;
     for (Wide k = 3;; k++)
-        if (const Place place = locate_in(walls, [&](const Shape &wall) { return wall.hit(point, {1, k, k * k}); }); place != Place::on)
+        if (const Place place = locate_in(walls, [&](const Sheet &wall) { return wall.hit(point, {1, k, k * k}); }); place != Place::on)
             return place == Place::inside;
 }
 
@@ -22,20 +22,18 @@ inline bool is_bound(const std::vector<Shape> &walls, const ScaledPoint &point)
 inline bool comes_into(const std::vector<Sheet> &held, const std::vector<Sheet> &added)
 {
     const Box around = box_of(added);
-    const std::vector<Shape> walls = mapped(added, [](const Sheet &sheet) { return sheet.shape(); });
     BoxIndex boxes;
-    for (std::size_t at = 0; at < walls.size(); at++)
-        boxes.put(walls[at].box(), at);
+    for (std::size_t at = 0; at < added.size(); at++)
+        boxes.put(added[at].box, at);
     for (const Sheet &sheet : held) {
         go_on();
-        const Shape shape = sheet.shape();
-        if (!shape.is_flat())
+        if (!sheet.is_flat())
             continue;
-        if (any(boxes.meeting(shape.box()), [&](std::size_t at) { return walls[at].passes_through(shape); }))
+        if (any(boxes.meeting(sheet.box), [&](std::size_t at) { return added[at].passes_through(sheet); }))
             return true;
-        const bool is_within = all(shape.points(), [&](const Vector &at) { return Box{at, at}.meets(around); });
-        const std::optional<ScaledPoint> inner = is_within ? shape.inner_point() : std::nullopt;
-        if (inner && is_bound(walls, *inner))
+        const bool is_within = all(sheet.points, [&](const Vector &at) { return Box{at, at}.meets(around); });
+        const std::optional<ScaledPoint> inner = is_within ? sheet.inner_point() : std::nullopt;
+        if (inner && is_bound(added, *inner))
             return true;
     }
     return false;
@@ -100,7 +98,7 @@ private:
                 take(face, side);
         if (const Vector across = area_of(near); !is_zero(across))
             if (const Shape shape(Plane::through(near[0][0].start, reduced(across)), near); shape.is_flat()) {
-                boxes_.put(shape.box(), faces_.size());
+                boxes_.put(shape.box, faces_.size());
                 faces_.push_back({face, shape});
             }
     }
@@ -151,7 +149,7 @@ private:
 
     void compare_with_vertices(const NearFace &face)
     {
-        for (std::size_t vertex : vertices_.boxes.meeting(face.shape.box())) {
+        for (std::size_t vertex : vertices_.boxes.meeting(face.shape.box)) {
             const auto &[side, faces] = vertices_.rows.at(vertex);
             if (faces.count(face.face) == 0 && face.shape.height({side.start}) == 0 && face.shape.locate({side.start}) == Place::inside)
                 found.insert({Kind::vertex_on_face, vertex, face.face.number()});
@@ -159,7 +157,7 @@ private:
     }
     void compare_with_edges(const NearFace &face)
     {
-        for (std::size_t edge : edges_.boxes.meeting(face.shape.box())) {
+        for (std::size_t edge : edges_.boxes.meeting(face.shape.box)) {
             const auto &[side, faces] = edges_.rows.at(edge);
             if (faces.count(face.face) != 0)
                 continue;
@@ -176,9 +174,9 @@ private:
     {
         for (const NearFace &one : faces_) {
             go_on();
-            const std::vector<std::size_t> beside = filtered(boxes_.meeting(one.shape.box()), [&](std::size_t at) {
+            const std::vector<std::size_t> beside = filtered(boxes_.meeting(one.shape.box), [&](std::size_t at) {
                 const auto &[face, shape] = faces_[at];
-                return face != one.face && are_parallel(one.shape.across(), shape.across()) && one.shape.height({shape.points()[0]}) == 0;
+                return face != one.face && are_parallel(one.shape.plane.across, shape.plane.across) && one.shape.height({shape.points[0]}) == 0;
             });
             const std::optional<ScaledPoint> inner = beside.empty() ? std::nullopt : one.shape.inner_point();
             for (std::size_t at : beside)

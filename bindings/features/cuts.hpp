@@ -16,12 +16,12 @@ using exact::Plane;
 inline std::vector<Side> sides_below(const Sheet &sheet, const Plane &plane)
 {
     std::vector<Side> found;
-    for (Side side : sheet.sides()) {
+    for (Side side : sheet.sides) {
         const Wide start = plane.height(side.start), end = plane.height(side.end);
         if (sign(start) * sign(end) < 0)
             (start < 0 ? side.end : side.start) = *divided(side, start, end).whole();
         const bool is_in_plane = start == 0 && end == 0;
-        if (is_in_plane ? dot(plane.across, cross(sheet.across, side.way())) < 0 : std::min(start, end) < 0)
+        if (is_in_plane ? dot(plane.across, cross(sheet.plane.across, side.way())) < 0 : std::min(start, end) < 0)
             found.push_back(side);
     }
     return found;
@@ -30,8 +30,8 @@ inline std::vector<Side> sides_below(const Sheet &sheet, const Plane &plane)
 /// The sides along which the plane cuts a face, as those of the part below it.
 inline std::vector<Side> cuts_of(const Sheet &sheet, const Plane &plane)
 {
-    const Vector along = cross(sheet.across, plane.across);
-    return mapped(sheet.shape().cut_by(plane), [&](const auto &span) {
+    const Vector along = cross(sheet.plane.across, plane.across);
+    return mapped(sheet.cut_by(plane), [&](const auto &span) {
         const Side side{*span.first.whole(), *span.second.whole()};
         return dot(along, side.way()) > 0 ? side : side.turned();
     });
@@ -40,17 +40,16 @@ inline std::vector<Side> cuts_of(const Sheet &sheet, const Plane &plane)
 /// Puts in what is left of a face below the plane. A face in the plane is left where it looks upwards.
 inline void put_below(const Sheet &sheet, const Plane &plane, const Failure &why, std::vector<Sheet> &left)
 {
-    const Path points = sheet.points();
-    const bool is_below = any(points, [&](const Vector &at) { return plane.height(at) < 0; });
-    const bool is_above = any(points, [&](const Vector &at) { return plane.height(at) > 0; });
-    if (!is_above && (is_below || dot(sheet.across, plane.across) > 0))
+    const bool is_below = any(sheet.points, [&](const Vector &at) { return plane.height(at) < 0; });
+    const bool is_above = any(sheet.points, [&](const Vector &at) { return plane.height(at) > 0; });
+    if (!is_above && (is_below || dot(sheet.plane.across, plane.across) > 0))
         left.push_back(sheet);
     if (!is_above || !is_below)
         return;
     std::vector<Side> sides = sides_below(sheet, plane);
     append(sides, cuts_of(sheet, plane));
-    for (const std::vector<Cycle> &cycles : Traced(sides, sheet.across, why).regions())
-        left.push_back({{sheet.owners[0]}, {}, sheet.across, cycles});
+    for (const std::vector<Cycle> &cycles : Traced(sides, sheet.plane.across, why).regions())
+        left.push_back({{sheet.plane, cycles}, {sheet.owners[0]}, {}});
 }
 
 /// The sides in the plane that have no other beside them, turned round.
@@ -58,7 +57,7 @@ inline std::vector<Side> open_sides(const std::vector<Sheet> &left, const Plane 
 {
     std::map<std::pair<Vector, Vector>, int> times;
     for (const Sheet &sheet : left)
-        for (const Side &side : sheet.sides())
+        for (const Side &side : sheet.sides)
             if (plane.height(side.start) == 0 && plane.height(side.end) == 0) {
                 times[{side.start, side.end}]++;
                 times[{side.end, side.start}]--;
@@ -80,7 +79,7 @@ inline Combined part_below(const Held &held, const std::vector<Sheet> &sheets, c
         put_below(sheet, plane, meets, left);
     }
     for (const std::vector<Cycle> &cycles : Traced(open_sides(left, plane), plane.across, meets).regions())
-        caps.push_back({{Face()}, {caps.size()}, reduced(plane.across), cycles});
+        caps.push_back({{Plane::through(cycles[0][0].start, reduced(plane.across)), cycles}, {Face()}, {caps.size()}});
     Result<std::vector<Sheet>> laid = tried([&] { return overlaid(left, caps); });
     std::optional<Made> made = laid ? Assembly(held, *laid, names).made(solid) : std::nullopt;
     if (!made)

@@ -126,23 +126,26 @@ inline std::optional<Plane> flat_plane(const std::vector<Path> &loops)
 /// A flat face, or so much of it as some of its loops tell.
 class Shape {
 public:
-    Shape(const Plane &plane, const std::vector<Cycle> &cycles) : plane_(plane), axes_(flat_axes(plane.across))
+    Plane plane;
+    std::vector<Cycle> cycles;
+    std::vector<Side> sides; ///< of all of these
+    Path points;             ///< of all sides
+    Box box;                 ///< around them
+
+    Shape(const Plane &in, std::vector<Cycle> around) : plane(in), cycles(std::move(around)), axes_(flat_axes(in.across))
     {
         for (const Cycle &cycle : cycles) {
             loops_.emplace_back(Box::around(points_of(cycle)), outline(cycle, axes_));
-            append(sides_, cycle);
+            append(sides, cycle);
         }
-        points_ = points_of(sides_);
-        if (!points_.empty())
-            box_ = Box::around(points_);
+        points = points_of(sides);
+        if (!points.empty())
+            box = Box::around(points);
     }
 
-    [[nodiscard]] const Vector &across() const { return plane_.across; }
-    [[nodiscard]] const Path &points() const { return points_; }
-    [[nodiscard]] const Box &box() const { return box_; }
-    [[nodiscard]] bool is_flat() const { return all(points_, [&](const Vector &at) { return plane_.height(at) == 0; }); }
+    [[nodiscard]] bool is_flat() const { return all(points, [&](const Vector &at) { return plane.height(at) == 0; }); }
     /// Positive before the plane, negative behind it: times the point's scale.
-    [[nodiscard]] Wide height(const ScaledPoint &point) const { return dot(plane_.across, point.at) + plane_.offset * point.scale; }
+    [[nodiscard]] Wide height(const ScaledPoint &point) const { return dot(plane.across, point.at) + plane.offset * point.scale; }
     /// Where a point of the plane lies: within an odd number of loops, of which those with a box around it count.
     [[nodiscard]] Place locate(const ScaledPoint &point) const
     {
@@ -162,13 +165,13 @@ public:
     {
         const Outline own = outline(cycle_of(path), axes_);
         bool is_around = false;
-        for (const auto &[box, sides] : loops_) {
+        for (const auto &[around, segments] : loops_) {
             const auto is_met = [&](const Segment &side) {
                 return any(own, [&](const Segment &other) { return side.is_near(other) && side.meets(other); });
             };
-            if (any(sides, is_met))
+            if (any(segments, is_met))
                 throw impossible(Misfit::outline_outside, face.number());
-            is_around = is_around || exact::locate(own, sides[0].start) == Place::inside;
+            is_around = is_around || exact::locate(own, segments[0].start) == Place::inside;
         }
         if (locate({path[0]}) != Place::inside)
             throw impossible(Misfit::outline_outside, face.number());
@@ -181,7 +184,7 @@ public:
     {
         const Segment own = whole.seen(axes_);
         std::vector<ScaledPoint> stops = {{whole.start}, {whole.end}};
-        for (const Side &side : sides_) {
+        for (const Side &side : sides) {
             const Segment seen = side.seen(axes_);
             const Wide before = area_beside(seen, own.start), after = area_beside(seen, own.end);
             if (sign(before) * sign(after) < 0)
@@ -195,11 +198,11 @@ public:
     /// A point within: the middle of a triangle of corners.
     [[nodiscard]] std::optional<ScaledPoint> inner_point() const
     {
-        const std::size_t count = points_.size();
+        const std::size_t count = points.size();
         for (std::size_t step = 1; step < count; step++)
             for (std::size_t first = 0; first < count; first++)
                 for (std::size_t second = first + 1; second < count; second++) {
-                    const ScaledPoint middle{add(add(points_[first], points_[second]), points_[(second + step) % count]), 3};
+                    const ScaledPoint middle{add(add(points[first], points[second]), points[(second + step) % count]), 3};
                     if (locate(middle) == Place::inside)
                         return middle;
                 }
@@ -208,12 +211,12 @@ public:
 
     /// Where a plane, on both of whose sides it lies, runs within it.
     using Span = std::pair<ScaledPoint, ScaledPoint>;
-    [[nodiscard]] std::vector<Span> cut_by(const Plane &plane) const
+    [[nodiscard]] std::vector<Span> cut_by(const Plane &other) const
     {
         std::vector<ScaledPoint> stops;
         bool is_below = false, is_above = false;
-        for (const Side &side : sides_) {
-            const Wide before = plane.height(side.start), after = plane.height(side.end);
+        for (const Side &side : sides) {
+            const Wide before = other.height(side.start), after = other.height(side.end);
             is_below = is_below || before < 0;
             is_above = is_above || before > 0;
             if (before == 0 || sign(before) * sign(after) < 0)
@@ -225,9 +228,9 @@ public:
     /// Whether both run along one line within, some of the way.
     [[nodiscard]] bool passes_through(const Shape &other) const
     {
-        if (are_parallel(across(), other.across()))
+        if (are_parallel(plane.across, other.plane.across))
             return false;
-        const std::vector<Span> own = cut_by(other.plane_), beyond = own.empty() ? own : other.cut_by(plane_);
+        const std::vector<Span> own = cut_by(other.plane), beyond = own.empty() ? own : other.cut_by(plane);
         return any(own, [&](const Span &one) {
             return any(beyond, [&](const Span &two) { return one.first < two.second && two.first < one.second; });
         });
@@ -236,10 +239,10 @@ public:
     /// Where a ray meets it, seen along the ray.
     [[nodiscard]] Place hit(const ScaledPoint &start, const Vector &ray) const
     {
-        if (sign(height(start)) * sign(dot(across(), ray)) >= 0)
+        if (sign(height(start)) * sign(dot(plane.across, ray)) >= 0)
             return Place::outside;
         const Sight sight{ray};
-        return exact::locate(sight.outline(sides_), sight.spot(start));
+        return exact::locate(sight.outline(sides), sight.spot(start));
     }
 
 private:
@@ -254,12 +257,8 @@ private:
         return found;
     }
 
-    Plane plane_;
     Axes axes_;
-    std::vector<Side> sides_;
-    Path points_;
-    Box box_;
-    std::vector<std::pair<Box, Outline>> loops_;
+    std::vector<std::pair<Box, Outline>> loops_; ///< the cycles as they are seen in the plane, with boxes around them
 };
 
 } // namespace gwb_session::machining

@@ -260,7 +260,7 @@ inline std::vector<Sheet> sheets_of(const Tool &tool, bool are_cut)
         const Vector across = area_vector(path);
         if (is_zero(across) || !all(path, [&](const Vector &at) { return dot(across, subtract(at, path[0])) == 0; }))
             throw refused(GWB_WHY_NOT_FLAT, 0);
-        sheets.push_back({{Face()}, {sheets.size()}, reduced(across), {cycle_of(path)}}); // (a strip may end in a point)
+        sheets.push_back({{Plane::through(path[0], reduced(across)), {cycle_of(path)}}, {Face()}, {sheets.size()}}); // (a strip may end in a point)
     }
     return sheets;
 }

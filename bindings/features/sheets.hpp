@@ -10,47 +10,32 @@ namespace gwb_session::sheets {
 
 using namespace machining;
 
-/// A plane, whichever way it is looked at: its reduced normal, the first part of which that isn't zero is positive, and its height.
+/// A plane, whichever way it is looked at: its reduced normal, the first part of which that isn't zero is positive, and its offset.
 using Level = std::pair<Vector, Wide>;
 
-/// A flat region: the faces that it is of, none of an added one that is no face; where it is added, or added ones went into it, their places among the
-/// added ones; its reduced normal; its cycles, the outline first.
-struct Sheet {
+/// A flat region, the outline first: the faces that it is of, none of an added one that is no face; where it is added, or added ones went into it, their
+/// places among the added ones. Its normal is reduced.
+struct Sheet : Shape {
     std::vector<Face> owners;
     std::vector<std::size_t> marks;
-    Vector across;
-    std::vector<Cycle> cycles;
 
     [[nodiscard]] bool is_added() const { return !marks.empty(); }
     /// Whether it looks the way of its plane's normal.
-    [[nodiscard]] bool is_facing() const { return across > Vector{}; }
+    [[nodiscard]] bool is_facing() const { return plane.across > Vector{}; }
     [[nodiscard]] Level level() const
     {
-        const Vector normal = is_facing() ? across : negative(across);
-        return {normal, dot(normal, cycles[0][0].start)};
-    }
-    [[nodiscard]] std::vector<Side> sides() const
-    {
-        std::vector<Side> found;
-        for (const Cycle &cycle : cycles)
-            append(found, cycle);
-        return found;
-    }
-    [[nodiscard]] Path points() const { return points_of(sides()); }
-    [[nodiscard]] Shape shape() const { return {Plane::through(cycles[0][0].start, across), cycles}; }
-    [[nodiscard]] bool lies_in(const Level &level) const
-    {
-        return all(points(), [&](const Vector &at) { return dot(level.first, at) == level.second; });
+        const Plane facing = is_facing() ? plane : plane.turned();
+        return {facing.across, facing.offset};
     }
 };
 
 /// The box around all of some sheets.
 inline Box box_of(const std::vector<Sheet> &sheets)
 {
-    Path points;
+    Box box = sheets[0].box;
     for (const Sheet &sheet : sheets)
-        append(points, sheet.points());
-    return Box::around(points);
+        box.take(sheet.box);
+    return box;
 }
 
 // ---- sides traced as cycles
@@ -176,10 +161,8 @@ public:
     Overlay(std::vector<Sheet> sheets, const Box &box)
         : sheets_(std::move(sheets)), box_(box), axes_(flat_axes(sheets_[0].level().first)), kept_(sheets_.size())
     {
-        for (const Sheet &sheet : sheets_) {
-            boxes_.put(Box::around(sheet.points()), outlines_.size());
-            outlines_.push_back(outline(sheet.sides(), axes_));
-        }
+        for (std::size_t at = 0; at < sheets_.size(); at++)
+            boxes_.put(sheets_[at].box, at);
     }
 
     /// The regions that they come to. Refused: Overlap, as Meets: two that look one way have room in common; OffLattice: two sides cross
@@ -220,16 +203,14 @@ private:
             append(made.owners, sheets_[*place].owners);
             append(made.marks, sheets_[*place].marks);
         }
-        const std::vector<Side> own = made.sides();
+        const std::vector<Side> &own = made.sides;
         if (places.size() == 1 && std::set<Side>(sides.begin(), sides.end()) == std::set<Side>(own.begin(), own.end())) {
             found.push_back(made);
             return;
         }
-        const Traced traced(places.size() > 2 ? without_seams(sides) : sides, made.across, impossible(Misfit::meets, 0));
-        for (const std::vector<Cycle> &cycles : traced.regions()) {
-            made.cycles = cycles;
-            found.push_back(made);
-        }
+        const Traced traced(places.size() > 2 ? without_seams(sides) : sides, made.plane.across, impossible(Misfit::meets, 0));
+        for (const std::vector<Cycle> &cycles : traced.regions())
+            found.push_back({{made.plane, cycles}, made.owners, made.marks});
     }
 
     /// The sides without those that are there in both directions.
@@ -309,7 +290,7 @@ private:
         const bool is_along = on_left == sheets_[place].is_facing();
         if (any(parts, [&](const Part &part) { return part.place == place; }))
             return any(parts, [&](const Part &part) { return part.place == place && (part.side.start == ends.first) == is_along; });
-        return locate(outlines_[place], ScaledPoint{add(ends.first, ends.second), 2}.spot(axes_)) == Place::inside;
+        return sheets_[place].locate({add(ends.first, ends.second), 2}) == Place::inside;
     }
 
     /// The parts of sides near added sheets; the other sides are kept as they are.
@@ -318,7 +299,7 @@ private:
         std::vector<Part> near;
         BoxIndex index;
         for (std::size_t place = 0; place < sheets_.size(); place++)
-            for (const Side &side : sheets_[place].sides())
+            for (const Side &side : sheets_[place].sides)
                 if (side.box().meets(box_)) {
                     index.put(side.box(), near.size());
                     near.push_back({place, side});
@@ -365,7 +346,6 @@ private:
     Axes axes_;
     JoinedSets<std::size_t> joined_;
     std::vector<std::vector<Side>> kept_;
-    std::vector<Outline> outlines_;
     BoxIndex boxes_; ///< around the sheets, by their places
 };
 
@@ -391,7 +371,7 @@ inline std::vector<Sheet> overlaid(const std::vector<Sheet> &held, const std::ve
     for (const Sheet &sheet : held) {
         go_on();
         const auto place = places.find(sheet.level());
-        const bool is_near = place != places.end() && sheet.lies_in(place->first) && Box::around(sheet.points()).meets(planes[place->second].box);
+        const bool is_near = place != places.end() && sheet.is_flat() && sheet.box.meets(planes[place->second].box);
         (is_near ? planes[place->second].held : found).push_back(sheet);
     }
     for (InPlane &plane : planes) {
