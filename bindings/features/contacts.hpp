@@ -58,7 +58,7 @@ public:
         }
         compare_vertices();
         compare_edges();
-        for (const NearFace &face : faces_) {
+        for (const Sheet &face : faces_) {
             go_on();
             compare_with_vertices(face);
             compare_with_edges(face);
@@ -69,10 +69,6 @@ public:
     std::set<Finding> found;
 
 private:
-    struct NearFace {
-        Face face;
-        Shape shape;
-    };
     /// Edges or vertices as sides, by their numbers, with the faces that they are of.
     struct NearSides {
         struct Row {
@@ -97,9 +93,9 @@ private:
             for (const Side &side : cycle)
                 take(face, side);
         if (const Vector across = area_of(near); !is_zero(across))
-            if (const Shape shape(Plane::through(near[0][0].start, reduced(across)), near); shape.is_flat()) {
-                boxes_.put(shape.box, faces_.size());
-                faces_.push_back({face, shape});
+            if (const Sheet sheet{{Plane::through(near[0][0].start, reduced(across)), near}, {face}, {}}; sheet.is_flat()) {
+                boxes_.put(sheet.box, faces_.size());
+                faces_.push_back(sheet);
             }
     }
     void take(Face face, const Side &side)
@@ -147,47 +143,49 @@ private:
         return is_zero(cross(along, way)) && 0 < dot(along, way) && dot(along, way) < dot(along, along);
     }
 
-    void compare_with_vertices(const NearFace &face)
+    void compare_with_vertices(const Sheet &face)
     {
-        for (std::size_t vertex : vertices_.boxes.meeting(face.shape.box)) {
+        for (std::size_t vertex : vertices_.boxes.meeting(face.box)) {
             const auto &[side, faces] = vertices_.rows.at(vertex);
-            if (faces.count(face.face) == 0 && face.shape.height({side.start}) == 0 && face.shape.locate({side.start}) == Place::inside)
-                found.insert({Kind::vertex_on_face, vertex, face.face.number()});
+            if (faces.count(face.owners[0]) == 0 && face.height({side.start}) == 0 && face.locate({side.start}) == Place::inside)
+                found.insert({Kind::vertex_on_face, vertex, face.owners[0].number()});
         }
     }
-    void compare_with_edges(const NearFace &face)
+    void compare_with_edges(const Sheet &face)
     {
-        for (std::size_t edge : edges_.boxes.meeting(face.shape.box)) {
+        for (std::size_t edge : edges_.boxes.meeting(face.box)) {
             const auto &[side, faces] = edges_.rows.at(edge);
-            if (faces.count(face.face) != 0)
+            if (faces.count(face.owners[0]) != 0)
                 continue;
-            const Wide before = face.shape.height({side.start}), after = face.shape.height({side.end});
-            if (sign(before) * sign(after) < 0 && face.shape.locate(divided(side, before, after)) == Place::inside)
-                found.insert({Kind::edge_through_face, edge, face.face.number()});
-            else if (before == 0 && after == 0 && face.shape.has_part(side))
-                found.insert({Kind::edge_along_face, edge, face.face.number()});
+            const Wide before = face.height({side.start}), after = face.height({side.end});
+            if (sign(before) * sign(after) < 0 && face.locate(divided(side, before, after)) == Place::inside)
+                found.insert({Kind::edge_through_face, edge, face.owners[0].number()});
+            else if (before == 0 && after == 0 && face.has_part(side))
+                found.insert({Kind::edge_along_face, edge, face.owners[0].number()});
         }
     }
 
     /// Faces of one plane where one has a point within the other; edges that cross or run along faces are found by then.
     void compare_faces()
     {
-        for (const NearFace &one : faces_) {
+        for (const Sheet &one : faces_) {
             go_on();
-            const std::vector<std::size_t> beside = filtered(boxes_.meeting(one.shape.box), [&](std::size_t at) {
-                const auto &[face, shape] = faces_[at];
-                return face != one.face && are_parallel(one.shape.plane.across, shape.plane.across) && one.shape.height({shape.points[0]}) == 0;
+            const std::vector<std::size_t> beside = filtered(boxes_.meeting(one.box), [&](std::size_t at) {
+                const Sheet &other = faces_[at];
+                return other.owners != one.owners && are_parallel(one.plane.across, other.plane.across) && one.height({other.points[0]}) == 0;
             });
-            const std::optional<ScaledPoint> inner = beside.empty() ? std::nullopt : one.shape.inner_point();
+            const std::optional<ScaledPoint> inner = beside.empty() ? std::nullopt : one.inner_point();
             for (std::size_t at : beside)
-                if (inner && faces_[at].shape.locate(*inner) == Place::inside)
-                    found.insert({Kind::faces_overlap, std::min(one.face, faces_[at].face).number(), std::max(one.face, faces_[at].face).number()});
+                if (inner && faces_[at].locate(*inner) == Place::inside) {
+                    const auto [first, second] = std::minmax(one.owners[0], faces_[at].owners[0]);
+                    found.insert({Kind::faces_overlap, first.number(), second.number()});
+                }
         }
     }
 
     const Model &model_;
     const Box &box_;
-    std::vector<NearFace> faces_;
+    std::vector<Sheet> faces_;
     BoxIndex boxes_; ///< of faces, by their places
     NearSides edges_, vertices_;
 };
