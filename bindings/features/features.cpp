@@ -55,6 +55,7 @@ namespace {
 /// A session in the place of a handle, which is closed meanwhile.
 class Borrowed : public Bench {
 public:
+    using Bench::Steps;
     explicit Borrowed(gwb *g) : Commands(std::make_shared<State>()), g_(g) { std::swap(*handle(), *g_); }
     Borrowed(const Borrowed &) = delete;
     Borrowed &operator=(const Borrowed &) = delete;
@@ -131,7 +132,9 @@ template <class Make> void make_at_once(gwb *g, Make make)
         list.clear();
     try {
         Borrowed session(g);
-        Together commands(session);
+        const Borrowed::Steps commands(session.handle());
+        if (!commands.are_begun())
+            throw Failure{commands.kind() == GWB_MEMORY ? Problem::memory : Problem::closed};
         make(session, known.lists);
         commands.keep();
     } catch (const Failure &) {

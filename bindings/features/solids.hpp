@@ -1,4 +1,4 @@
-/// @file solids.hpp Whole solids taken away, free numbers, and commands that are one.
+/// @file solids.hpp Whole solids taken away, and free numbers.
 #ifndef GWB_FEATURES_SOLIDS_HPP
 #define GWB_FEATURES_SOLIDS_HPP
 #include "exact.hpp"
@@ -199,22 +199,6 @@ private:
 
 /// Takes a solid away in the draft that is open. Refused: NoSolid.
 inline void take_away(Bench &bench, Solid solid) { TakenApart(bench).take(solid); }
-
-// ---- commands that are one
-
-/// Commands that are one: in a draft of their own, or as steps of the draft that is open. Unless they are kept they are taken back.
-class Together : Bench {
-public:
-    explicit Together(Bench &bench) : steps_(bench.handle())
-    {
-        if (!steps_.are_begun())
-            throw Failure{steps_.kind() == GWB_MEMORY ? Problem::memory : Problem::closed};
-    }
-    void keep() { steps_.keep(); }
-
-private:
-    Steps steps_;
-};
 
 } // namespace gwb_session
 #endif
