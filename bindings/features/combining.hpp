@@ -22,7 +22,9 @@ struct Part {
 inline Part part_near(const Bench &bench, const Surface &surface, Solid solid, const Box &box, bool all_rings)
 {
     Part found{{solid, {}, {}, {}, {}, {}}, {}};
-    for (const auto &[face, near] : surface.near(box)) {
+    for (const auto &row : surface.near(box)) {
+        const Face face = row.first;
+        const std::vector<Loop> &near = row.second;
         const Loop outer = bench.face(face).outer_loop;
         if (!std::binary_search(near.begin(), near.end(), outer))
             continue;

@@ -48,20 +48,6 @@ struct Numbering {
     std::map<Edge, Edge> edges;
     std::map<Vertex, Vertex> vertices;
 
-    /// Free ones for the parts of a model, which are asked for as the old ones rise.
-    static Numbering of(const Model &model, AllNames &names)
-    {
-        Numbering numbers;
-        const auto put = [](auto &made, const auto &rows, auto &free) {
-            for (const auto &[old, row] : rows)
-                made.emplace_hint(made.end(), old, free.take());
-        };
-        put(numbers.faces, model.faces, names.faces);
-        put(numbers.loops, model.loops, names.loops);
-        put(numbers.edges, model.edges, names.edges);
-        put(numbers.vertices, model.vertices, names.vertices);
-        return numbers;
-    }
     [[nodiscard]] HalfEdge of(HalfEdge half) const
     {
         const Edge edge = edges.at(half.edge());
@@ -81,6 +67,15 @@ struct Numbering {
             list.insert(list.end(), {old.number(), made.number()});
     }
 };
+
+/// Free numbers for the parts of a kind, asked for as the old ones rise, by those.
+template <class Kind, class Row> std::map<Kind, Kind> taken(const std::map<Kind, Row> &parts, FreeNumbers<Kind> &free)
+{
+    std::map<Kind, Kind> numbers;
+    for (const auto &[old, row] : parts)
+        numbers.emplace_hint(numbers.end(), old, free.take());
+    return numbers;
+}
 
 /// All numbers in use of a kind as low as they can be, in their order, by what they are.
 template <class Kind> std::map<Kind, Kind> ranked(const Bench &bench)
@@ -143,7 +138,8 @@ inline Solid make(Bench &bench, const Model &model, Lists &lists)
 {
     AllNames names(bench);
     const Solid solid = names.solids.take();
-    const Numbering numbers = Numbering::of(model, names);
+    const Numbering numbers{taken(model.faces, names.faces), taken(model.loops, names.loops), taken(model.edges, names.edges),
+                            taken(model.vertices, names.vertices)};
     names.require_enough();
     const Result<void> made = bench.attempt().load(numbered(model, numbers, solid).listing());
     if (made.error().is(GWB_WHY_NUMBER_RANGE)) { // what comes on the way and goes again has none
