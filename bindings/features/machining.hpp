@@ -353,34 +353,29 @@ inline void require_room(const Surface &surface, const Prism &prism, Face face, 
         throw impossible(Misfit::meets, face.number());
 }
 
-/// How far along a vector a face lies: the first divided by the second, which is above zero.
-struct Reach {
-    Wide height, slope;
-    Face face;
-};
-
 /// The face that a ray from a point of a face goes out through, which is parallel, and the way to it.
 inline std::pair<Face, Vector> opposite(const Surface &surface, Face face, const Vector &across, const Vector &start)
 {
     if (longest(across) > 2 * farthest)
         throw impossible(Misfit::off_lattice, face.number());
     const Vector back = negative(across);
-    std::optional<Reach> nearest;
+    Face nearest;
+    Wide height = 0, slope = 0; // how far it lies: the first divided by the second
     for (const auto &[other, loops] : surface.near(surface.box_of_ray(start, back))) {
         const Plane *plane = other != face ? surface.plane(other) : nullptr;
         if (plane == nullptr || surface.shape(other, loops).hit({start}, back) == Place::outside)
             continue;
-        const Wide height = magnitude(plane->height(start)), slope = magnitude(dot(plane->across, back));
-        if (!nearest || compare_products(height, nearest->slope, nearest->height, slope) < 0)
-            nearest = Reach{height, slope, other};
+        const Wide own_height = magnitude(plane->height(start)), own_slope = magnitude(dot(plane->across, back));
+        if (nearest == Face() || compare_products(own_height, slope, height, own_slope) < 0)
+            std::tie(nearest, height, slope) = std::tuple(other, own_height, own_slope);
     }
-    if (!nearest)
+    if (nearest == Face())
         throw impossible(Misfit::no_opposite, face.number());
-    if (!are_parallel(surface.plane(nearest->face)->across, back))
-        throw impossible(Misfit::not_parallel, nearest->face.number());
-    if (nearest->height % nearest->slope != 0)
-        throw impossible(Misfit::off_lattice, nearest->face.number());
-    return {nearest->face, times(back, nearest->height / nearest->slope)};
+    if (!are_parallel(surface.plane(nearest)->across, back))
+        throw impossible(Misfit::not_parallel, nearest.number());
+    if (height % slope != 0)
+        throw impossible(Misfit::off_lattice, nearest.number());
+    return {nearest, times(back, height / slope)};
 }
 
 // ---- what is drawn and moved
