@@ -327,10 +327,8 @@ private:
             const Segment across = other.side.seen(axes_);
             if (sheets_[other.place].is_added() == sheets_[one.place].is_added())
                 continue;
-            if (own.holds(across.start))
+            if (own.holds(across.start)) // (where the other one ends another side starts)
                 points.insert(other.side.start);
-            if (own.holds(across.end))
-                points.insert(other.side.end);
             if (!own.crosses(across))
                 continue;
             const std::optional<Vector> at_crossing = divided(one.side, area_beside(across, own.start), area_beside(across, own.end)).whole();
