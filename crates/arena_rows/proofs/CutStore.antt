@@ -1,19 +1,6 @@
 -- The store after a cut and after a join.
-use Rattle.std.proofs.Common.{◌≡◌, ◌≢◌, ℕ, true, cond, List, [], ◌∷◌, length, Option, Some, is_some, refl, sym, ap, subst, ◌∙◌, eq-eqb, ne_eqb, inl, inr}
-use Rattle.std.proofs.lemmas.Bool.Decides.{eqb_tells}
-use Rattle.std.proofs.lemmas.Option.{same_Some}
-use Rattle.arena_rows.specs.declared.rows.LoopCell.{LoopCell}
-use Rattle.arena_rows.specs.declared.rows.StoredContent.TheVariants.{Empty, At}
-use Rattle.boundary_model.specs.Table.{Table, get, put, remove, tabulate}
-use Rattle.raw_cells.specs.Rows.{row_at}
-use Rattle.arena_rows.specs.Common.{ArenaRows, table_of, Store, loosened, Spots, live, next, label, ring, spliced, labelled, store_of, RowsAreTied, stored_content, loop_row, StandsAt, cut, cut_loose, cut_to, join, join_loops, join_loose, loose_ring, loose_row, codes, held_row, Fits}
-use Rattle.boundary_model.specs.Model.{LoopRow, cycle}
-use Rattle.boundary_model.specs.Items.{IsIn}
-use Rattle.boundary_model.specs.Rings.{cut_left, cut_right, joined, successor, predecessor}
-use Rattle.boundary_model.proofs.Rings.{successor-predecessor}
-use Rattle.boundary_model.proofs.Members.{IsIn_one}
+use Rattle.arena_rows.proofs.Prelude.{◌≡◌, ◌≢◌, ℕ, true, cond, List, [], ◌∷◌, length, Option, Some, is_some, refl, sym, ap, subst, ◌∙◌, eq-eqb, ne_eqb, inl, inr, eqb_tells, same_Some, LoopCell, Empty, At, Table, get, put, remove, tabulate, row_at, ArenaRows, table_of, Store, loosened, Spots, live, next, label, ring, spliced, labelled, store_of, RowsAreTied, stored_content, loop_row, StandsAt, cut, cut_loose, cut_to, join, join_loops, join_loose, loose_ring, loose_row, codes, held_row, Fits, LoopRow, cycle, IsIn, cut_left, cut_right, joined, successor, predecessor, successor-predecessor, IsIn_one, has_half, loop_of, items_of, content, cycle_of, before}
 use Rattle.arena_rows.proofs.ring_spots_laws.SpotLaws.{ring_same, next_in_ring}
-use Rattle.boundary_model.specs.Model.{has_half, loop_of, items_of, content, cycle_of, before}
 use Rattle.arena_rows.proofs.Views.{row_not_zero, table_of-put}
 use Rattle.arena_rows.proofs.Writes.{IsRefilled, refilled_here, refilled_elsewhere, refilled_some, refilled_fits}
 use Rattle.arena_rows.proofs.Stands.{half_there, loop_of_is, cycle_of_is, face_row_of, loose_key_is, loose_ring_is, next_successor}

@@ -1,15 +1,5 @@
 -- A cut and a join, as the nodes and rows do them.
-use Rattle.std.proofs.Common.{◌≡◌, ◌≢◌, ℕ, ◌+◌, true, List, Option, Some, None, sym, ap, subst, ◌∙◌, arith, inl, inr}
-use Rattle.std.proofs.lemmas.Bool.Decides.{eqb_tells}
-use Rattle.boundary_model.specs.Items.{count, IsIn, head_or}
-use Rattle.boundary_model.proofs.Lists.{IsIn_or_not}
-use Rattle.arena_rows.specs.declared.rows.LoopCell.{LoopCell}
-use Rattle.arena_rows.specs.declared.rows.StoredContent.TheVariants.{Empty, At}
-use Rattle.boundary_model.specs.Table.{remove, tabulate}
-use Rattle.raw_cells.specs.Rows.{row_at}
-use Rattle.arena_rows.specs.Common.{ArenaRows, RowsAreTied, loosened, Spots, codes, live, label, ring, spliced, labelled, AreRings, AreLoops, StandsAt, edge_row, loose_row}
-use Rattle.boundary_model.specs.Rings.{cut_left, cut_right, joined}
-use Rattle.boundary_model.proofs.Cuts.{IsIn-cut}
+use Rattle.arena_rows.proofs.Prelude.{◌≡◌, ◌≢◌, ℕ, ◌+◌, true, List, Option, Some, None, sym, ap, subst, ◌∙◌, arith, inl, inr, eqb_tells, count, IsIn, head_or, IsIn_or_not, LoopCell, Empty, At, remove, tabulate, row_at, ArenaRows, RowsAreTied, loosened, Spots, codes, live, label, ring, spliced, labelled, AreRings, AreLoops, StandsAt, edge_row, loose_row, cut_left, cut_right, joined, IsIn-cut}
 use Rattle.arena_rows.proofs.ring_spots_laws.SpotLaws.{ring_left, ring_right, ring_beside, cut_items, AreRings-cut, AreRings-labelled, ring-labelled, live-labelled, live-spliced, label-spliced, label-labelled_in, label-labelled_out, ring_joint, ring_aside, join_items, AreRings-join}
 use Rattle.arena_rows.proofs.ring_spots_laws.SpotTables.{loose_none, loose_kept, loose_removed, loose_same, edges_same, tails-labelled, tails-spliced}
 use Rattle.arena_rows.proofs.Tellings.{loose_added, same_loop}

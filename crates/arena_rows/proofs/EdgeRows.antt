@@ -1,10 +1,7 @@
 -- A half-edge starts elsewhere; an edge is put, and one goes.
-use Rattle.std.proofs.Common.{◌≡◌, ℕ, true, [], ◌∷◌, Some, is_some, refl, sym, ap, ◌∙◌, arith, inl, inr}
-use Rattle.raw_ring.specs.Rings.{or_zero, of_spot}
-use Rattle.boundary_model.specs.HalfEdge.{plus, minus}
-use Rattle.arena_rows.specs.Common.{ArenaRows, Store, Spots, codes, live, label, ring, AreRings, store_of, RowsAreTied, AreLoops, loose_row, set_tail, put_edge, take_edge, woken, asleep}
+use Rattle.arena_rows.proofs.Prelude.{◌≡◌, ℕ, true, [], ◌∷◌, Some, is_some, refl, sym, ap, ◌∙◌, arith, inl, inr, or_zero, of_spot, plus, minus, ArenaRows, Store, Spots, codes, live, label, ring, AreRings, store_of, RowsAreTied, AreLoops, loose_row, put_edge, take_edge, woken, asleep, get, tabulate}
+use Rattle.arena_rows.specs.Common.{set_tail}
 use Rattle.arena_rows.specs.ring_spots.Spots as ring_spots
-use Rattle.boundary_model.specs.Table.{get, tabulate}
 use Rattle.arena_rows.proofs.ring_spots_laws.SpotTables.{loose_alike, loose_same}
 use Rattle.arena_rows.proofs.Tellings.{loops_same, loops_kept, Makes, store_is, tied_as}
 use Rattle.arena_rows.proofs.ring_spots_laws.SpotLaws.{AreRings-set_tail, live-set_tail, label-set_tail, ring-set_tail}

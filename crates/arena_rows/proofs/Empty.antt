@@ -1,21 +1,8 @@
 -- The arena that holds nothing, the greatest number in use and the next one, and the room of numbers in use.
-use Rattle.std.proofs.Common.{◌-◌, ◌≡◌, ◌≢◌, ℕ, ◌≤◌, Bool, true, false, cond, nat_eq, nat_lt, nat_le, ◌&&◌, List, [], Option, Some, None, is_some, sym, ap, ◌∙◌, arith, true≢false, length}
+use Rattle.arena_rows.proofs.Prelude.{◌-◌, ◌≡◌, ◌≢◌, ℕ, ◌≤◌, Bool, true, false, cond, nat_eq, nat_lt, nat_le, ◌&&◌, List, [], Option, Some, None, is_some, sym, ap, ◌∙◌, arith, true≢false, length, row_at, has_row, ArenaRows, table_of, is_edge, within, empty_store, Store, has_number, IsNextNumber, Fits, store_of, RowsAreTied, solid_row, face_row, loop_row, Spots, codes, edges_end, live, label, ring, AreRings, edge_row, both_tails, edge_room, loose_row, IsLast, nat_tests, and_from, Point, plus, minus, get, tabulate, empty_model, head_or, and_false, Kind, IsNext}
 use Rattle.arena_rows.proofs.ring_spots_laws.SpotTables.{edge_live, edge_has_room, codes_are, nothing, edge_has}
-use Rattle.raw_cells.specs.Rows.{row_at, has_row}
-use Rattle.arena_rows.specs.Common.{ArenaRows, table_of, is_edge, within, empty_store, Store, has_number, IsNextNumber, Fits, store_of, RowsAreTied, solid_row, face_row, loop_row, Spots, codes, edges_end, live, label, ring, AreRings, edge_row, both_tails, edge_room, loose_row}
-use Rattle.raw_cells.specs.Numbers.{IsLast}
 use Rattle.raw_cells.proofs.numbers_laws.Lasts.{last_same}
 use Rattle.arena_rows.proofs.Views.{row_within, row_not_zero, table_of-empty, fits-empty, has_is}
-use Rattle.std.proofs.lemmas.Bool.Decides.{nat_tests}
-use Rattle.std.proofs.lemmas.Bool.{and_from}
-use Rattle.boundary_model.specs.declared.Point.{Point}
-use Rattle.boundary_model.specs.HalfEdge.{plus, minus}
-use Rattle.boundary_model.specs.Table.{get, tabulate}
-use Rattle.boundary_model.specs.Model.{empty_model}
-use Rattle.boundary_model.specs.Items.{head_or}
-use Rattle.boundary_model.proofs.Tests.{and_false}
-use Rattle.boundary_model.specs.declared.Kind.{Kind}
-use Rattle.raw_cells.specs.Numbers.{IsNext}
 
 module _ (sp : Spots) (known : ℕ → Bool) (none : (q : ℕ) → sp q ≡ None) (unknown : (q : ℕ) → known q ≡ false) where
   dead : (c : ℕ) → live sp c ≢ true

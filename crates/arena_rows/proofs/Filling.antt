@@ -1,18 +1,5 @@
 -- A loop is cleared, takes a loose ring, or gets other content without a half-edge.
-use Rattle.std.proofs.lemmas.Bool.Decides.{eqb_tells}
-use Rattle.boundary_model.specs.Items.{count, IsIn}
-use Rattle.boundary_model.proofs.Lists.{IsIn_or_not}
-use Rattle.boundary_model.proofs.Tables.{get-put_here, row_some}
-use Rattle.arena_rows.specs.declared.rows.LoopCell.{LoopCell}
-use Rattle.arena_rows.specs.declared.rows.StoredContent.{StoredContent}
-use Rattle.arena_rows.specs.declared.rows.StoredContent.TheVariants.{Empty, Lone, At}
-use Rattle.boundary_model.specs.Table.{get, put, remove, tabulate}
-use Rattle.raw_cells.specs.Rows.{row_at}
-use Rattle.boundary_model.specs.Model.{cycle}
-use Rattle.arena_rows.specs.Common.{ArenaRows, Store, loosened, Spots, live, label, ring, labelled, AreRings, store_of, RowsAreTied, stored_content, loop_row, HasEntry, AreLoops, StandsAt, clear, fill, held_row, table_of, codes, edge_row, loose_row}
-use Rattle.std.proofs.Common.{unwrap_or, ◌≡◌, ◌≢◌, ℕ, true, List, [], Option, is_some, refl, sym, ap, subst, ◌∙◌, arith, inl, inr}
-use Rattle.boundary_model.specs.Model.{no_loop}
-use Rattle.boundary_model.specs.Model.{items_of, content, face_of}
+use Rattle.arena_rows.proofs.Prelude.{eqb_tells, count, IsIn, IsIn_or_not, get-put_here, row_some, LoopCell, StoredContent, Empty, Lone, At, get, put, remove, tabulate, row_at, cycle, ArenaRows, Store, loosened, Spots, live, label, ring, labelled, AreRings, store_of, RowsAreTied, stored_content, loop_row, HasEntry, AreLoops, StandsAt, clear, fill, held_row, table_of, codes, edge_row, loose_row, unwrap_or, ◌≡◌, ◌≢◌, ℕ, true, List, [], Option, is_some, refl, sym, ap, subst, ◌∙◌, arith, inl, inr, no_loop, items_of, content, face_of}
 use Rattle.arena_rows.specs.Store.{with_loop}
 use Rattle.arena_rows.proofs.Views.{has-row}
 use Rattle.arena_rows.proofs.Writes.{IsRefilled, refilled_here, refilled_elsewhere, refilled_some, refilled_fits, IsBare, none_in_bare, tied_loops, store_loops, IsKept, IsTold, told_at, loops_told}

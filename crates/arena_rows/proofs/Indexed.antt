@@ -1,19 +1,8 @@
 -- What stands beside the rows: what it says of the model, and what keeps it.
-use Rattle.std.proofs.Common.{◌≡◌, ◌≢◌, ℕ, ◌+◌, ◌-◌, ◌≤◌, ◌<◌, Bool, true, false, cond, not, nat_eq, ◌&&◌, List, [], length, Option, Some, None, is_some, refl, sym, ap, ◌∙◌, arith, true≢false, eq-eqb, ne_eqb, inl, inr}
-use Rattle.std.proofs.lemmas.Bool.Decides.{eqb_tells}
-use Rattle.boundary_model.proofs.Members.{same_length}
-use Rattle.boundary_model.proofs.Tables.{passes, count-all_where}
-use Rattle.boundary_model.specs.Items.{count, tick}
-use Rattle.boundary_model.proofs.Lists.{tick_same, tick_other}
+use Rattle.arena_rows.proofs.Prelude.{◌≡◌, ◌≢◌, ℕ, ◌+◌, ◌-◌, ◌≤◌, ◌<◌, Bool, true, false, cond, not, nat_eq, ◌&&◌, List, [], length, Option, Some, None, is_some, refl, sym, ap, ◌∙◌, arith, true≢false, eq-eqb, ne_eqb, inl, inr, eqb_tells, same_length, passes, count-all_where, count, tick, tick_same, tick_other, Table, get, all_where, same_table, get-put, get-remove, rings_of, outer, ArenaRows, Fits, IsWhole, Owners, no_owners, take, owned, OwnersHaveGrown, Spots, map_row, table_of, names, store_of, face_row, loop_row, solid_numbers, face_numbers, AreIndexed, within, FaceCell, LoopCell, StoredContent, row_at}
 use Rattle.boundary_model.specs.Table as table
-use Rattle.boundary_model.specs.Table.{Table, get, all_where, same_table, get-put, get-remove}
-use Rattle.boundary_model.specs.Model.{rings_of, outer}
-use Rattle.arena_rows.specs.Common.{ArenaRows, Fits, IsWhole, Owners, no_owners, put, take, owned, OwnersHaveGrown, Spots, map_row, table_of, names, store_of, face_row, loop_row, solid_numbers, face_numbers, AreIndexed, within}
+use Rattle.arena_rows.specs.Common.{put}
 use Rattle.arena_rows.proofs.owner_chains_laws.Counting.{more}
-use Rattle.arena_rows.specs.declared.rows.FaceCell.{FaceCell}
-use Rattle.arena_rows.specs.declared.rows.LoopCell.{LoopCell}
-use Rattle.arena_rows.specs.declared.rows.StoredContent.{StoredContent}
-use Rattle.raw_cells.specs.Rows.{row_at}
 use Rattle.arena_rows.proofs.Writes.{IsRefilled}
 use Rattle.arena_rows.proofs.Stands.{outer_row_of}
 use Rattle.arena_rows.proofs.Views.{get-table_of, table_of-same, table_of-put, table_of-remove, table_of-empty, fits_within, row_within, row_not_zero, not_zero}

@@ -1,3 +1,4 @@
+mod Prelude
 pub mod Stands
 pub mod Tellings
 pub mod Cutting

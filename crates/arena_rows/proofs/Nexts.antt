@@ -1,17 +1,6 @@
 -- The next face of a solid and the next ring of a face, by what stands beside the rows.
-use Rattle.std.proofs.Common.{◌≡◌, ◌≢◌, ℕ, ◌<◌, true, false, cond, not, nat_eq, ◌&&◌, List, [], ◌∷◌, length, Option, Some, None, is_some, unwrap_or, refl, sym, ap, subst, ◌∙◌, arith, true≢false, eq-eqb, ne_eqb, inl, inr}
-use Rattle.std.proofs.lemmas.Bool.Decides.{eqb_tells, leb_tells}
-use Rattle.boundary_model.proofs.Tables.{passes, count-all_where}
-use Rattle.boundary_model.specs.Items.{count, IsIn}
-use Rattle.boundary_model.proofs.Lists.{tick_same, tick_other}
-use Rattle.boundary_model.proofs.Tests.{and_false}
+use Rattle.arena_rows.proofs.Prelude.{◌≡◌, ◌≢◌, ℕ, ◌<◌, true, false, cond, not, nat_eq, ◌&&◌, List, [], ◌∷◌, length, Option, Some, None, is_some, unwrap_or, refl, sym, ap, subst, ◌∙◌, arith, true≢false, eq-eqb, ne_eqb, inl, inr, eqb_tells, leb_tells, passes, count-all_where, count, IsIn, tick_same, tick_other, and_false, get, Model, FaceRow, solid_of, face_of, outer, is_ring_of, faces_of, no_face, no_loop, ArenaRows, IsWhole, Owners, owned, is_owner, IsNextItem, map_row, is_face_of, IsNextFace, IsNextRing, only_item, store_of, face_row, loop_row, FaceCell, LoopCell, row_at}
 use Rattle.std.specs.Option.{option_eq}
-use Rattle.boundary_model.specs.Table.{get}
-use Rattle.boundary_model.specs.Model.{Model, FaceRow, solid_of, face_of, outer, is_ring_of, faces_of, no_face, no_loop}
-use Rattle.arena_rows.specs.Common.{ArenaRows, IsWhole, Owners, owned, is_owner, IsNextItem, map_row, is_face_of, IsNextFace, IsNextRing, only_item, store_of, face_row, loop_row}
-use Rattle.arena_rows.specs.declared.rows.FaceCell.{FaceCell}
-use Rattle.arena_rows.specs.declared.rows.LoopCell.{LoopCell}
-use Rattle.raw_cells.specs.Rows.{row_at}
 use Rattle.arena_rows.proofs.Views.{get-table_of}
 use Rattle.arena_rows.proofs.Indexed.{face_count_is}
 

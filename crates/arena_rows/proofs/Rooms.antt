@@ -1,17 +1,5 @@
 -- The store where rows have been added, or nodes.
-use Rattle.std.proofs.lemmas.Bool.Decides.{nat_tests}
-use Rattle.std.proofs.lemmas.Bool.{and_from}
-use Rattle.boundary_model.specs.declared.Point.{Point}
-use Rattle.arena_rows.specs.declared.rows.FaceCell.{FaceCell}
-use Rattle.arena_rows.specs.declared.rows.LoopCell.{LoopCell}
-use Rattle.boundary_model.specs.Table.{get}
-use Rattle.raw_cells.specs.Rows.{row_at}
-use Rattle.arena_rows.specs.Common.{ArenaRows, Store, Spots, label, store_of, RowsAreTied, Fits, AreLoops, loop_row, face_row, solid_row, map_row, within, has_room, HasGrown, edges_end, edge_room}
-use Rattle.std.proofs.Common.{ℕ, ◌<◌, nat_le, nat_lt, Result, Ok, Err, OnOk, ◌≡◌, ◌-◌, ◌≤◌, Bool, true, List, length, Option, is_some, refl, sym, ap, subst, ◌∙◌, arith}
-use Rattle.boundary_model.specs.declared.Kind.{Kind}
-use Rattle.boundary_model.specs.HalfEdge.{plus, minus}
-use Rattle.boundary_model.specs.Table.{tabulate}
-use Rattle.boundary_model.proofs.Tests.{and_first, and_second}
+use Rattle.arena_rows.proofs.Prelude.{nat_tests, and_from, Point, FaceCell, LoopCell, get, row_at, ArenaRows, Store, Spots, label, store_of, RowsAreTied, Fits, AreLoops, loop_row, face_row, solid_row, map_row, within, has_room, HasGrown, edges_end, edge_room, ℕ, ◌<◌, nat_le, nat_lt, Result, Ok, Err, OnOk, ◌≡◌, ◌-◌, ◌≤◌, Bool, true, List, length, Option, is_some, refl, sym, ap, subst, ◌∙◌, arith, Kind, plus, minus, tabulate, and_first, and_second}
 use Rattle.arena_rows.proofs.Views.{table_of-same}
 use Rattle.arena_rows.proofs.Writes.{tied_faces, tied_loops, tied_vertices}
 use Rattle.arena_rows.proofs.ring_spots_laws.SpotTables.{edge_has_room}

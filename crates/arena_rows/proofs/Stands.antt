@@ -1,23 +1,6 @@
 -- What the model says, by the nodes.
 use Rattle.arena_rows.proofs.ring_spots_laws.SpotTables.{edge_below, half_is, half_live, row_live, edges_at, key_is, got_loose}
-use Rattle.std.proofs.Common.{◌≡◌, ◌≢◌, ◌≤◌, ℕ, true, false, cond, [], Option, Some, None, unwrap_or, refl, sym, ap, subst, ◌∙◌, arith, inl, inr}
-use Rattle.std.proofs.lemmas.Bool.Decides.{eqb_tells}
-use Rattle.std.proofs.lemmas.Option.{same_Some}
-use Rattle.boundary_model.specs.Items.{IsIn, head_or}
-use Rattle.boundary_model.specs.Rings.{successor, predecessor}
-use Rattle.boundary_model.proofs.Rings.{next_is_successor, predecessor-successor}
-use Rattle.arena_rows.specs.declared.rows.FaceCell.{FaceCell}
-use Rattle.arena_rows.specs.declared.rows.LoopCell.{LoopCell}
-use Rattle.arena_rows.specs.declared.rows.StoredContent.{StoredContent}
-use Rattle.arena_rows.specs.declared.rows.StoredContent.TheVariants.{Empty, Lone, At}
-use Rattle.boundary_model.specs.HalfEdge.{code, plus, minus, edge_of, is_first}
-use Rattle.boundary_model.specs.declared.HalfEdge.{HalfEdge}
-use Rattle.boundary_model.specs.Table.{get}
-use Rattle.raw_cells.specs.Rows.{row_at}
-use Rattle.arena_rows.specs.Common.{ArenaRows, map_row, Store, loose_key, loose_ring, live, next, label, tail_at, ring, store_of, RowsAreTied, stored_content, face_row, loop_row, HasEntry}
-use Rattle.boundary_model.specs.Model.{lone, cycle, LoopRow, holds, items_of, has_half, tail, tail_in, loop_of, content, solid_of, outer, face_of, cycle_of, after, before, no_face, no_loop, no_edge}
-use Rattle.boundary_model.proofs.Tables.{first_where_is, first_where_zero}
-use Rattle.boundary_model.proofs.Models.{holds_in, in-holds}
+use Rattle.arena_rows.proofs.Prelude.{◌≡◌, ◌≢◌, ◌≤◌, ℕ, true, false, cond, [], Option, Some, None, unwrap_or, refl, sym, ap, subst, ◌∙◌, arith, inl, inr, eqb_tells, same_Some, IsIn, head_or, successor, predecessor, next_is_successor, predecessor-successor, FaceCell, LoopCell, StoredContent, Empty, Lone, At, code, plus, minus, edge_of, is_first, HalfEdge, get, row_at, ArenaRows, map_row, Store, loose_key, loose_ring, live, next, label, tail_at, ring, store_of, RowsAreTied, stored_content, face_row, loop_row, HasEntry, lone, cycle, LoopRow, holds, items_of, has_half, tail, tail_in, loop_of, content, solid_of, outer, face_of, cycle_of, after, before, no_face, no_loop, no_edge, first_where_is, first_where_zero, holds_in, in-holds}
 use Rattle.arena_rows.proofs.Views.{get-table_of, read_row}
 use Rattle.arena_rows.proofs.ring_spots_laws.SpotLaws.{ring_same, next_in_ring}
 

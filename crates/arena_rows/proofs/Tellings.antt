@@ -1,16 +1,6 @@
 -- The tables of loops, edges and loose rings, where the nodes change.
 use Rattle.arena_rows.proofs.ring_spots_laws.SpotTables.{loose_put}
-use Rattle.std.proofs.Common.{◌≡◌, ◌≢◌, ℕ, ◌-◌, Bool, true, cond, nat_eq, List, [], ◌∷◌, length, Option, Some, None, is_some, refl, sym, ap, subst, ◌∙◌, arith, true≢false, inl, inr}
-use Rattle.std.proofs.lemmas.Bool.Decides.{eqb_tells}
-use Rattle.std.proofs.lemmas.Option.{same_Some}
-use Rattle.boundary_model.specs.Items.{count, IsIn, head_or}
-use Rattle.arena_rows.specs.declared.rows.LoopCell.{LoopCell}
-use Rattle.arena_rows.specs.declared.rows.StoredContent.{StoredContent}
-use Rattle.arena_rows.specs.declared.rows.StoredContent.TheVariants.{Empty, Lone, At}
-use Rattle.boundary_model.specs.Table.{Table, get, put, tabulate, get-put, same_table}
-use Rattle.raw_cells.specs.Rows.{row_at}
-use Rattle.arena_rows.specs.Common.{ArenaRows, map_row, table_of, Store, loosened, Spots, codes, live, label, ring, AreRings, store_of, RowsAreTied, Fits, stored_content, loop_row, HasEntry, AreLoops, StandsAt, edge_row, loose_row}
-use Rattle.boundary_model.specs.Model.{cycle, EdgeRow, LoopRow}
+use Rattle.arena_rows.proofs.Prelude.{◌≡◌, ◌≢◌, ℕ, ◌-◌, Bool, true, cond, nat_eq, List, [], ◌∷◌, length, Option, Some, None, is_some, refl, sym, ap, subst, ◌∙◌, arith, true≢false, inl, inr, eqb_tells, same_Some, count, IsIn, head_or, LoopCell, StoredContent, Empty, Lone, At, Table, get, put, tabulate, get-put, same_table, row_at, ArenaRows, map_row, table_of, Store, loosened, Spots, codes, live, label, ring, AreRings, store_of, RowsAreTied, Fits, stored_content, loop_row, HasEntry, AreLoops, StandsAt, edge_row, loose_row, cycle, EdgeRow, LoopRow}
 use Rattle.arena_rows.proofs.Views.{get-table_of}
 use Rattle.arena_rows.proofs.Writes.{loops_told}
 use Rattle.arena_rows.proofs.ring_spots_laws.SpotLaws.{ring_same}

@@ -1,9 +1,5 @@
 -- Tables read off rows.
-use Rattle.std.proofs.Common.{◌≡◌, ◌≢◌, ℕ, zero, suc, ◌-◌, ◌≤◌, ◌<◌, Bool, true, false, cond, nat_eq, nat_lt, nat_le, ◌&&◌, List, [], ◌∷◌, length, Option, Some, None, is_some, refl, sym, ap, ◌∙◌, arith, true≢false, ne_eqb}
-use Rattle.std.proofs.lemmas.Bool.Decides.{nat_tests}
-use Rattle.boundary_model.specs.Table.{get, put, remove, empty, get-empty, get-put, get-remove, get-tabulate, same_table}
-use Rattle.raw_cells.specs.Rows.{row_at}
-use Rattle.arena_rows.specs.Common.{map_row, table_of, Fits}
+use Rattle.arena_rows.proofs.Prelude.{◌≡◌, ◌≢◌, ℕ, zero, suc, ◌-◌, ◌≤◌, ◌<◌, Bool, true, false, cond, nat_eq, nat_lt, nat_le, ◌&&◌, List, [], ◌∷◌, length, Option, Some, None, is_some, refl, sym, ap, ◌∙◌, arith, true≢false, ne_eqb, nat_tests, get, put, remove, empty, get-empty, get-put, get-remove, get-tabulate, same_table, row_at, map_row, table_of, Fits}
 
 module _ {X : Type 0} where
   pub row_past : (rows : List (Option X)) (q : ℕ) → length rows ≤ q → row_at rows q ≡ None

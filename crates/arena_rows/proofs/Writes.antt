@@ -1,18 +1,6 @@
 -- What becomes of the store where one row is written.
-use Rattle.std.proofs.Common.{◌≡◌, ℕ, ◌-◌, ◌≢◌, Bool, true, false, cond, nat_eq, List, [], length, Option, Some, None, is_some, refl, sym, ap, subst, ◌∙◌, arith, true≢false, eq-eqb, ne_eqb, ◌⊎◌, inl, inr}
-use Rattle.std.proofs.lemmas.Bool.Decides.{eqb_tells}
-use Rattle.std.proofs.lemmas.Option.{same_Some}
-use Rattle.boundary_model.specs.declared.Point.{Point}
+use Rattle.arena_rows.proofs.Prelude.{◌≡◌, ℕ, ◌-◌, ◌≢◌, Bool, true, false, cond, nat_eq, List, [], length, Option, Some, None, is_some, refl, sym, ap, subst, ◌∙◌, arith, true≢false, eq-eqb, ne_eqb, ◌⊎◌, inl, inr, eqb_tells, same_Some, Point, count, IsIn, FaceCell, LoopCell, StoredContent, Empty, Lone, At, Table, row_at, ArenaRows, table_of, Store, Spots, live, label, ring, store_of, RowsAreTied, Fits, AreLoops, HasEntry, StandsAt, stored_content, loop_row, face_row, solid_row, cycle, FaceRow, LoopRow, items_of}
 use Rattle.boundary_model.specs.Points.{IsInRange}
-use Rattle.boundary_model.specs.Items.{count, IsIn}
-use Rattle.arena_rows.specs.declared.rows.FaceCell.{FaceCell}
-use Rattle.arena_rows.specs.declared.rows.LoopCell.{LoopCell}
-use Rattle.arena_rows.specs.declared.rows.StoredContent.{StoredContent}
-use Rattle.arena_rows.specs.declared.rows.StoredContent.TheVariants.{Empty, Lone, At}
-use Rattle.boundary_model.specs.Table.{Table}
-use Rattle.raw_cells.specs.Rows.{row_at}
-use Rattle.arena_rows.specs.Common.{ArenaRows, table_of, Store, Spots, live, label, ring, store_of, RowsAreTied, Fits, AreLoops, HasEntry, StandsAt, stored_content, loop_row, face_row, solid_row}
-use Rattle.boundary_model.specs.Model.{cycle, FaceRow, LoopRow, items_of}
 use Rattle.arena_rows.proofs.Views.{fits-write, row_not_zero}
 
 -- the row that is written is read back

@@ -1,13 +1,6 @@
 -- The machines of this program computed: which numbers they have left, which solids they hold, that the cut is accepted, and what its parts measure.
-use Rattle.std.proofs.Common.{◌≡◌, ℕ, pos, None, false, refl, subst, sym, ap, arith}
-use Rattle.sweeps.specs.Measure.{six_volume}
-use Rattle.sweeps.specs.PlainMachine.{Machine, held, start, undo_refusal}
-use Rattle.plane_split.specs.Machine.{split_refusal}
-use Rattle.command_laws.specs.NewFaces.{last_face}
-use Rattle.euler_operators.specs.Common.{Has, first_false, rotate_to, canonical, rest, mate, code, half, edge_of, is_first, empty_model, content, tail, loop_of, face_of, solid_of, outer, arc, holds, after, before, point_of, conditions, has_rings, effect, inverse, mvfs, kvfs_at, mev_lone, mev_at, kev, mef, kef, kemr, mekr, kfmrh, mfkrh, ring_in, ring_out, take_outer, merge, part}
-use Rattle.shapes.specs.Common.{AreLeft, Needed, Taken, early_glue_conditions, glue_conditions, glue_model, loops_of, boundary, corners, taken_in, lamina_conditions, lamina_model, prism_conditions, with_side, raised, prism_model, block_conditions, block_model, normal, plane_of, is_flat, straddles, face_is_above, is_place, place_point, places, is_touched, is_cut_often, is_crossed, sorted_pairs, place_pairs, next_cut, with_crossings, drawn_pairs, join_next, draw_next, next_drawn, with_drawings, below_halves, section_cycles, is_hole, opened_along, next_opened, early_split_conditions, first_conditions, section_conditions, split_conditions, split_model}
+use Rattle.block_machining.proofs.Prelude.{◌≡◌, ℕ, pos, None, false, refl, subst, sym, ap, arith, six_volume, Machine, held, start, undo_refusal, split_refusal, last_face, Has, first_false, rotate_to, canonical, rest, mate, code, half, edge_of, is_first, empty_model, content, tail, loop_of, face_of, solid_of, outer, arc, holds, after, before, point_of, conditions, has_rings, effect, inverse, mvfs, kvfs_at, mev_lone, mev_at, kev, mef, kef, kemr, mekr, kfmrh, mfkrh, ring_in, ring_out, take_outer, merge, part, AreLeft, Needed, Taken, early_glue_conditions, glue_conditions, glue_model, loops_of, boundary, corners, taken_in, lamina_conditions, lamina_model, prism_conditions, with_side, raised, prism_model, block_conditions, block_model, normal, plane_of, is_flat, straddles, face_is_above, is_place, place_point, places, is_touched, is_cut_often, is_crossed, sorted_pairs, place_pairs, next_cut, with_crossings, drawn_pairs, join_next, draw_next, next_drawn, with_drawings, below_halves, section_cycles, is_hole, opened_along, next_opened, early_split_conditions, first_conditions, section_conditions, split_conditions, split_model, HasSolids, alone, bar, cut_plane, three_blocks, parted, standing}
 use Rattle.euler_operators.specs.Table as table
-use Rattle.block_machining.specs.Machines.{HasSolids, alone, bar, cut_plane, three_blocks, parted, standing}
 
 -- opens the definitions that the machines compute by
 unfoldable computed : ℕ

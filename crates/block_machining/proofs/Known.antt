@@ -1,7 +1,6 @@
 -- What isn't refused, and a new session.
-use Rattle.std.proofs.Common.{◌≡◌, Option, None, Some, is_some, true≢false, ap, ◌∙◌, sym}
+use Rattle.block_machining.proofs.Prelude.{◌≡◌, Option, None, Some, is_some, true≢false, ap, ◌∙◌, sym, Machine, start}
 use Rattle.sweeps.specs.Journal.{Journal, new_journal}
-use Rattle.sweeps.specs.PlainMachine.{Machine, start}
 
 -- what has no reason to be refused isn't refused for one
 pub for_no_reason : {R : Type 0} (o : Option R) (r : R) → o ≡ None → o ≡ Some r → ⊥

@@ -1,2 +1,3 @@
+mod Prelude
 pub mod Known
 pub mod Computed

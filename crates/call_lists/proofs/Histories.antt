@@ -1,15 +1,8 @@
 -- A call of a session or a draft is one of a history.
-use Rattle.std.proofs.Common.{◌≡◌, inl, inr, Option, List, [], ◌∷◌, refl, sym, ap, subst, ◌∙◌}
-use Rattle.call_lists.specs.Common.{Call, Change, Command, Commit, DraftJournal, DraftState, Drafting, Give, IsCall, IsWhole, Machine, Mark, MayLack, Op, Open, Refusal, Session, Stage, TakesSteps, Tells, TellsDraft, Told, accepted, commit, draft_step, held, made, open_draft, plain, refusal_of, tried, unless}
-use Rattle.euler_laws.specs.Laws.{AreAccepted, effects}
+use Rattle.call_lists.proofs.Prelude.{◌≡◌, inl, inr, Option, List, [], ◌∷◌, refl, sym, ap, subst, ◌∙◌, Call, Change, Command, Commit, DraftJournal, DraftState, Drafting, Give, IsCall, IsWhole, Machine, Mark, MayLack, Open, Refusal, Session, Stage, TakesSteps, Tells, TellsDraft, Told, accepted, commit, draft_step, held, made, open_draft, plain, refusal_of, tried, unless, AreAccepted, effects, IsFurther, same_machine, further_session, CommandsAreCalls, ended, machine_of}
+use Rattle.call_lists.specs.Common.{Op}
 use Rattle.undo_journal.specs.Histories as histories
-use Rattle.undo_journal.specs.Journal.{IsFurther}
-use Rattle.undo_journal.proofs.Journals.{same_machine}
-use Rattle.undo_journal.proofs.Marks.{further_session}
-use Rattle.commands.specs.Calls.{CommandsAreCalls}
 use Rattle.commands.proofs.Calls.{stopped}
-use Rattle.commands.proofs.Settling.{ended}
-use Rattle.call_lists.specs.Laws.{machine_of}
 
 -- whatever a draft is told, its session stays
 pub session_stays : (d e : DraftJournal) (c : Command) (a : Told) → TellsDraft d c a e → e.session ≡ d.session

@@ -1,3 +1,4 @@
+mod Prelude
 pub mod Lists
 pub mod Histories
 pub mod Marks

@@ -1,9 +1,6 @@
 -- Lists of calls, one more at a time, and cut in two.
-use Rattle.std.proofs.Common.{◌≡◌, inl, inr, false, List, [], ◌∷◌, ◌++◌, refl, ap, subst, ◌∙◌, append_assoc, ◌⊎◌}
-use Rattle.call_lists.specs.Common.{Call, Done, Stage, Tells, Told}
+use Rattle.call_lists.proofs.Prelude.{◌≡◌, inl, inr, false, List, [], ◌∷◌, ◌++◌, refl, ap, subst, ◌∙◌, append_assoc, ◌⊎◌, Call, Done, Stage, Tells, Told, MakesAll, AreTold, is_done}
 use Rattle.commands.proofs.Kept.{only_done_changes}
-use Rattle.call_lists.specs.Making.{MakesAll, AreTold}
-use Rattle.call_lists.specs.Laws.{is_done}
 
 -- a call is told `Done`, or changes nothing
 pub done_or_idle : (g h : Stage) (c : Call) (a : Told) → Tells g c a h → ((a ≡ Done) × Tells g c Done h) ⊎ ((is_done a ≡ false) × (h ≡ g))

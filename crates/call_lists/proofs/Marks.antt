@@ -1,17 +1,8 @@
 -- A mark, and the draft as it was there.
-use Rattle.std.proofs.Common.{◌≡◌, ◌≢◌, ℕ, ◌+◌, ◌-◌, ◌≤◌, List, [], ◌∷◌, ◌++◌, length, take, drop, refl, sym, ap, subst, ◌∙◌, inl, inr, take-append-drop, arith}
-use Rattle.std.proofs.Math.Seq.{take-append-add}
+use Rattle.call_lists.proofs.Prelude.{◌≡◌, ◌≢◌, ℕ, ◌+◌, ◌-◌, ◌≤◌, List, [], ◌∷◌, ◌++◌, length, take, drop, refl, sym, ap, subst, ◌∙◌, inl, inr, take-append-drop, arith, take-append-add, AreAccepted, effects, AreAccepted-front, effects-append, Back, Call, Change, Command, Done, DraftJournal, Drafting, Give, Mark, MayLack, NoDraft, Open, OpenDraft, Session, Stage, TakesSteps, Tells, TellsDraft, Told, held, made, refusal_of, IsFurther, IsMark, back_at, each_inverse, new_draft, each-length, each-take, further_none, further_same, further_on, back_at_mark, ended, MakesAll, Each, GoesOnFrom, StepsAreMarks, MarksLeadBack}
 use Rattle.euler_operators.specs.Common.{Model}
 use Rattle.euler_operators.specs.declared.Op.{Op}
-use Rattle.euler_laws.specs.Laws.{AreAccepted, effects}
-use Rattle.euler_laws.proofs.Common.{AreAccepted-front, effects-append}
-use Rattle.call_lists.specs.Common.{Back, Call, Change, Command, Done, DraftJournal, Drafting, Give, Mark, MayLack, NoDraft, Open, OpenDraft, Session, Stage, TakesSteps, Tells, TellsDraft, Told, held, made, refusal_of}
-use Rattle.undo_journal.specs.Journal.{IsFurther, IsMark, back_at, each_inverse, new_draft}
-use Rattle.undo_journal.proofs.Marks.{each-length, each-take, further_none, further_same, further_on, back_at_mark}
 use Rattle.commands.specs.declared.command.Told.TheVariants as told
-use Rattle.commands.proofs.Settling.{ended}
-use Rattle.call_lists.specs.Making.{MakesAll}
-use Rattle.call_lists.specs.Laws.{Each, GoesOnFrom, StepsAreMarks, MarksLeadBack}
 
 -- the steps of a draft that is what they make of a new one are a mark
 mark_of : (d : DraftJournal) → IsFurther (new_draft d.session) d → IsMark d (length d.forward)

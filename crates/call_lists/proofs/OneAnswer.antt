@@ -1,11 +1,6 @@
 -- What isn't done changes nothing; and where memory isn't refused, calls have one list of answers.
-use Rattle.std.proofs.Common.{◌≡◌, inl, inr, Bool, true, false, Option, List, [], ◌∷◌, refl, sym, ap, subst, ◌∙◌, true≢false, ◌≢◌, cond}
-use Rattle.call_lists.specs.Common.{Abandon, Ask, Back, Call, Change, Command, Commit, Done, DraftJournal, Drafting, Give, Journal, Machine, Mark, Memory, Model, Open, Redo, Refusal, Refused, Session, Settled, Stage, Tells, TellsDraft, TellsSession, Told, Undo, accepted, asked, held, made, redo, redo_refusal, refusal_of, undo, undo_refusal}
-use Rattle.undo_journal.proofs.Journals.{same_machine}
-use Rattle.commands.proofs.Settling.{ended}
+use Rattle.call_lists.proofs.Prelude.{◌≡◌, inl, inr, Bool, true, false, Option, List, [], ◌∷◌, refl, sym, ap, subst, ◌∙◌, true≢false, ◌≢◌, cond, Abandon, Ask, Back, Call, Change, Command, Commit, Done, DraftJournal, Drafting, Give, Journal, Machine, Mark, Memory, Model, Open, Redo, Refusal, Refused, Session, Settled, Stage, Tells, TellsDraft, TellsSession, Told, Undo, accepted, asked, held, made, redo, redo_refusal, refusal_of, undo, undo_refusal, same_machine, ended, MakesAll, OnlyDoneChanges, IdleListsStay, is_memory, heard, told_else, MemoryCanBeLeftOut, view_of, IsUnmarked, ListsHaveOneAnswer}
 use Rattle.commands.proofs.Kept as kept
-use Rattle.call_lists.specs.Making.{MakesAll}
-use Rattle.call_lists.specs.Laws.{OnlyDoneChanges, IdleListsStay, is_memory, heard, told_else, MemoryCanBeLeftOut, view_of, IsUnmarked, ListsHaveOneAnswer}
 use Rattle.call_lists.proofs.Histories.{session_stays}
 
 -- ---- what isn't done changes nothing

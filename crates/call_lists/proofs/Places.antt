@@ -1,10 +1,6 @@
 -- How many commands can be undone, and redone, after a list of calls.
-use Rattle.std.proofs.Common.{◌≡◌, ℕ, suc, ◌+◌, ◌-◌, Bool, true, false, inl, inr, None, List, [], ◌∷◌, length, is_some, refl, sym, ap, ◌∙◌, arith, true≢false, cond}
-use Rattle.call_lists.specs.Common.{Ask, Call, Change, Command, Commit, Done, Drafting, Give, Journal, Mark, Model, Open, Redo, Session, Stage, Tells, TellsSession, Told, Undo, ahead, depth, held, redo, redo_refusal, redos, undo, undo_refusal, undos}
-use Rattle.commands.specs.Calls.{CommandsAreCalls}
-use Rattle.undo_journal.proofs.Journals.{same_machine}
+use Rattle.call_lists.proofs.Prelude.{◌≡◌, ℕ, suc, ◌+◌, ◌-◌, Bool, true, false, inl, inr, None, List, [], ◌∷◌, length, is_some, refl, sym, ap, ◌∙◌, arith, true≢false, cond, Ask, Call, Change, Command, Commit, Done, Drafting, Give, Journal, Mark, Model, Open, Redo, Session, Stage, Tells, TellsSession, Told, Undo, ahead, depth, held, redo, redo_refusal, redos, undo, undo_refusal, undos, CommandsAreCalls, same_machine, Place, machine_of, place_of, after_command, after_done, place_after, place_after_all, PlacesAreCounted, UndosLeadToTheFirst, RedosLeadToTheLast}
 use Rattle.undo_journal.proofs.Copies.{redone_to_last}
-use Rattle.call_lists.specs.Laws.{Place, machine_of, place_of, after_command, after_done, place_after, place_after_all, PlacesAreCounted, UndosLeadToTheFirst, RedosLeadToTheLast}
 use Rattle.call_lists.proofs.Histories.{session_stays}
 use Rattle.call_lists.proofs.Lists.{done_or_idle}
 use Rattle.call_lists.proofs.Whole.{machine_whole, lists_keep_whole}

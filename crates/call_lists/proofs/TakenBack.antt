@@ -1,12 +1,6 @@
 -- Commands that are taken back, and made again.
-use Rattle.std.proofs.Common.{◌≡◌, ℕ, zero, suc, ◌+◌, ◌-◌, ◌≤◌, inl, inr, Bool, false, None, List, [], ◌∷◌, ◌++◌, length, reverse, take, drop, replicate, nat_eq, refl, sym, ap, subst, ◌∙◌, append_assoc, take-append-drop, length-take, arith, ◌⊎◌}
+use Rattle.call_lists.proofs.Prelude.{◌≡◌, ℕ, zero, suc, ◌+◌, ◌-◌, ◌≤◌, inl, inr, Bool, false, None, List, [], ◌∷◌, ◌++◌, length, reverse, take, drop, replicate, nat_eq, refl, sym, ap, subst, ◌∙◌, append_assoc, take-append-drop, length-take, arith, ◌⊎◌, take-append-add, Ask, Call, Change, Command, Commit, Done, Drafting, Give, IsRecorded, Journal, Machine, Mark, Model, NothingToRedo, NothingToUndo, Open, Record, Redo, Session, Stage, Tells, TellsSession, Told, Undo, Why, accepted, after_redo, after_undo, ahead, back_to, depth, first_refusal, held, made, never, redo, redo_refusal, undo, undo_refusal, same_machine, goes, MakesAll, Each, IsOnward, IsTakenBack, CommandsAreTakenBack}
 use Rattle.std.proofs.lemmas.Bool.Decides.{nat_tests}
-use Rattle.std.proofs.Math.Seq.{take-append-add}
-use Rattle.call_lists.specs.Common.{Ask, Call, Change, Command, Commit, Done, Drafting, Give, IsRecorded, Journal, Machine, Mark, Model, NothingToRedo, NothingToUndo, Open, Record, Redo, Session, Stage, Tells, TellsSession, Told, Undo, Why, accepted, after_redo, after_undo, ahead, back_to, depth, first_refusal, held, made, never, redo, redo_refusal, undo, undo_refusal}
-use Rattle.undo_journal.proofs.Journals.{same_machine}
-use Rattle.commands.proofs.Settling.{goes}
-use Rattle.call_lists.specs.Making.{MakesAll}
-use Rattle.call_lists.specs.Laws.{Each, IsOnward, IsTakenBack, CommandsAreTakenBack}
 use Rattle.call_lists.proofs.Histories.{session_stays}
 use Rattle.call_lists.proofs.Lists.{done_or_idle}
 use Rattle.call_lists.proofs.Places.{undone_place, redone_place}

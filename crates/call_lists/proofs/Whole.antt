@@ -1,13 +1,7 @@
 -- A list of calls is a history, and what it leads to is whole.
-use Rattle.std.proofs.Common.{◌≡◌, ◌∙◌, suc, inl, inr, List, [], ◌∷◌, refl, sym, ap, subst, arith}
-use Rattle.euler_operators.specs.Common.{Sound}
-use Rattle.euler_laws.proofs.Common.{effects_keep_sound}
-use Rattle.commands.specs.Calls.{CommandsAreCalls}
-use Rattle.undo_journal.specs.Journal.{IsFurther, IsMark, back_at}
+use Rattle.call_lists.proofs.Prelude.{◌≡◌, ◌∙◌, suc, inl, inr, List, [], ◌∷◌, refl, sym, ap, subst, arith, Sound, effects_keep_sound, CommandsAreCalls, IsFurther, IsMark, back_at, further_none, further_on, further_session, Abandon, Back, Call, Commit, DraftJournal, Drafting, Give, IsCall, IsConsistent, IsWhole, Journal, Machine, Mark, Open, Session, Stage, Tells, Told, after_calls, machine_of, ListsAreHistories, ListsKeepWhole, EachIsWhole}
 use Rattle.undo_journal.proofs.Consistent.{consistent_call}
-use Rattle.undo_journal.proofs.Marks.{further_none, further_on, further_session}
-use Rattle.call_lists.specs.Common.{Abandon, Back, Call, Commit, DraftJournal, Drafting, Give, IsCall, IsConsistent, IsWhole, Journal, Machine, Mark, Open, Session, Stage, Tells, Told, after_calls, new_draft}
-use Rattle.call_lists.specs.Laws.{machine_of, ListsAreHistories, ListsKeepWhole, EachIsWhole}
+use Rattle.call_lists.specs.Common.{new_draft}
 use Rattle.call_lists.proofs.Histories.{stage_call}
 use Rattle.call_lists.proofs.Marks.{draft_goes, further_in}
 

@@ -1,12 +1,6 @@
 -- The six faces of a block.
-use Rattle.std.proofs.Common.{◌≡◌, ℕ, ◌+◌, ◌<◌, ℤ, None, sym, ap, subst, ◌∙◌, arith, refl}
-use Rattle.euler_operators.specs.Common.{Point, Model, solid_of, Sound}
+use Rattle.command_laws.proofs.Prelude.{◌≡◌, ℕ, ◌+◌, ◌<◌, ℤ, None, sym, ap, subst, ◌∙◌, arith, refl, Point, Model, solid_of, Sound, taken_in, lamina_model, lamina_face, prism_model, next_place, base_of, block_refusal, block_model, blocks_have_bases, bases_rise, lamina_is_sound, held, nth, all_moved, side_over, turned_back, up_by, last_face, IsFaceOf, BlockHasTopAndBottom, BlockHasFourSides, BlockTakesSixFaces}
 use Rattle.euler_operators.specs.Table as table
-use Rattle.shapes.specs.Common.{taken_in, lamina_model, lamina_face, prism_model, next_place, base_of, block_refusal, block_model}
-use Rattle.sweeps_laws.proofs.lamina.Blocks.{blocks_have_bases, bases_rise}
-use Rattle.sweeps_laws.proofs.lamina.Walk.{lamina_is_sound}
-use Rattle.undo_journal.specs.Machine.{held}
-use Rattle.command_laws.specs.NewFaces.{nth, all_moved, side_over, turned_back, up_by, last_face, IsFaceOf, BlockHasTopAndBottom, BlockHasFourSides, BlockTakesSixFaces}
 use Rattle.command_laws.proofs.SweptLoops.{face_counted}
 use Rattle.command_laws.proofs.SweptFaces.{model_far, model_sides, model_other}
 use Rattle.command_laws.proofs.SweptRings.{model_counted}

@@ -1,20 +1,7 @@
 -- Each face of a block is a parallelogram.
-use Rattle.std.proofs.Common.{◌≡◌, ◌≢◌, ℕ, zero, suc, ◌+◌, ◌-◌, ◌≤◌, ◌<◌, ◌⊎◌, inl, inr, ℤ, pos, ◌+ℤ◌, ◌-ℤ◌, ◌*ℤ◌, neg_ℤ, is_some, true, false, not, List, [], ◌∷◌, refl, sym, ap, subst, ◌∙◌, arith, true≢false, int_le, length}
-use Rattle.std.proofs.lemmas.Bool.{cases_eq, cases_lt, not-true}
-use Rattle.std.proofs.lemmas.Int.{ints}
-use Rattle.euler_operators.specs.Common.{Point, origin, moved, cross, content, face_of, solid_of, Sound, Has, IsIn, is_empty, is_lone, has_rings}
-use Rattle.euler_operators.proofs.Common.{same_vector, same_content, same_solid}
+use Rattle.command_laws.proofs.Prelude.{◌≡◌, ◌≢◌, ℕ, zero, suc, ◌+◌, ◌-◌, ◌≤◌, ◌<◌, ◌⊎◌, inl, inr, ℤ, pos, ◌+ℤ◌, ◌-ℤ◌, ◌*ℤ◌, neg_ℤ, is_some, true, false, not, List, [], ◌∷◌, refl, sym, ap, subst, ◌∙◌, arith, true≢false, int_le, length, cases_eq, cases_lt, not-true, ints, Point, origin, moved, cross, content, face_of, solid_of, Sound, Has, IsIn, is_empty, is_lone, has_rings, same_vector, same_content, same_solid, all_hold, no_rings_means, listed-from_in, loops_of, towards, next_place, vector, base_of, block_conditions, is_flat, face_of_loop, at_most_greatest, no_product, Machine, held, IsBlock, IsFaceOf, all_moved, last_face, nth, side_over, turned_back, up_by, IsClosedFlat, lie_flat, BlocksLieFlat, BlockKeepsFlat, StandsAsBefore}
 use Rattle.euler_operators.specs.Table as table
-use Rattle.euler_laws.proofs.Common.{all_hold, no_rings_means, listed-from_in}
-use Rattle.shapes.specs.Common.{loops_of, towards, next_place, vector, base_of, block_conditions, is_flat}
-use Rattle.shapes.proofs.Common.{face_of_loop, at_most_greatest, no_product}
 use Rattle.sweeps_laws.proofs.BlockOps.{blocks_are_sound}
-use Rattle.undo_journal.specs.Machine.{Machine, held}
-use Rattle.command_laws.specs.Commands.{IsBlock}
-use Rattle.command_laws.specs.NewFaces.{IsFaceOf, all_moved, last_face, nth, side_over, turned_back, up_by}
-use Rattle.gluing.specs.Flat.{IsClosedFlat}
-use Rattle.command_laws.specs.Flat.{lie_flat, BlocksLieFlat, BlockKeepsFlat}
-use Rattle.command_laws.specs.LeftAlone.{StandsAsBefore}
 use Rattle.command_laws.proofs.BlockFaces.{block_has_top_and_bottom, block_has_four_sides, block_takes_six_faces}
 use Rattle.command_laws.proofs.Kept.{block_keeps_faces}
 use Rattle.command_laws.proofs.Outlines.{outer_cycles}

@@ -1,16 +1,6 @@
 -- What a lamina and a block leave as they were.
-use Rattle.std.proofs.Common.{◌≡◌, ◌≢◌, ℕ, ◌+◌, ◌-◌, ℤ, List, None, is_some, sym, ap, subst, ◌∙◌, refl, arith, inl, inr, length}
-use Rattle.euler_operators.specs.Common.{Point, edge_of, Model, face_of, rings_of, Sound, Has}
+use Rattle.command_laws.proofs.Prelude.{◌≡◌, ◌≢◌, ℕ, ◌+◌, ◌-◌, ℤ, List, None, is_some, sym, ap, subst, ◌∙◌, refl, arith, inl, inr, length, Point, edge_of, Model, face_of, rings_of, Sound, Has, row_some, get-put_other, face_row, same_face, same_solid, taken_in, lamina_refusal, lamina_model, lamina_face, with_points, with_path, base_of, block_refusal, block_model, at_most_greatest, get-put_cases, lamina_goes, lamina_is_sound, blocks_have_bases, bases_rise, held, up_by, Each, LaminaKeepsOwners, LaminaKeepsLoops, LaminaKeepsEdges, LaminaKeepsPoints, LaminaKeepsShapes, BlockKeepsOwners, BlockKeepsLoops, BlockKeepsEdges, BlockKeepsPoints, BlockKeepsShapes}
 use Rattle.euler_operators.specs.Table as table
-use Rattle.euler_operators.proofs.Common.{row_some, get-put_other, face_row, same_face, same_solid}
-use Rattle.shapes.specs.Common.{taken_in, lamina_refusal, lamina_model, lamina_face, with_points, with_path, base_of, block_refusal, block_model}
-use Rattle.shapes.proofs.Common.{at_most_greatest, get-put_cases}
-use Rattle.sweeps_laws.proofs.lamina.Walk.{lamina_goes, lamina_is_sound}
-use Rattle.sweeps_laws.proofs.lamina.Blocks.{blocks_have_bases, bases_rise}
-use Rattle.undo_journal.specs.Machine.{held}
-use Rattle.command_laws.specs.NewFaces.{up_by}
-use Rattle.command_laws.specs.LeftAlone.{Each}
-use Rattle.command_laws.specs.Framed.{LaminaKeepsOwners, LaminaKeepsLoops, LaminaKeepsEdges, LaminaKeepsPoints, LaminaKeepsShapes, BlockKeepsOwners, BlockKeepsLoops, BlockKeepsEdges, BlockKeepsPoints, BlockKeepsShapes}
 use Rattle.command_laws.proofs.Kept.{old_kept, lamina_kept, lamina_keeps_faces, block_keeps_faces}
 use Rattle.command_laws.proofs.OnFaces.{vertex_there}
 use Rattle.command_laws.proofs.SweptAlone.{prism_keeps_loops, prism_keeps_edges, prism_keeps_points, prism_keeps_rings}

@@ -1,23 +1,12 @@
 -- The faces that a glue leaves keep their corners, and so they are as flat as they were.
-use Rattle.std.proofs.Common.{◌≡◌, ◌≢◌, ℕ, true, false, cond, nat_eq, ◌||◌, ◌&&◌, List, ◌∷◌, None, unwrap_or, is_some, option_map, refl, sym, ap, subst, ◌∙◌, arith, true≢false, ◌⊎◌, inl, inr, map, eqb-true, eq-eqb}
-use Rattle.std.proofs.lemmas.Bool.Decides.{nat_tests, eqb_tells}
-use Rattle.euler_operators.specs.Common.{Model, LoopContent, lone, cycle, FaceRow, no_face, content, face_of, outer, solid_of, point_of, IsIn, Sound, Has, is_lone, lists, tables}
-use Rattle.euler_operators.proofs.Common.{first_fails, zero_first_where, loop_number, or_true}
+use Rattle.command_laws.proofs.Prelude.{◌≡◌, ◌≢◌, ℕ, true, false, cond, nat_eq, ◌||◌, ◌&&◌, List, ◌∷◌, None, unwrap_or, is_some, option_map, refl, sym, ap, subst, ◌∙◌, arith, true≢false, ◌⊎◌, inl, inr, map, eqb-true, eq-eqb, nat_tests, eqb_tells, Model, LoopContent, lone, cycle, FaceRow, no_face, content, face_of, outer, solid_of, point_of, IsIn, Sound, Has, is_lone, lists, tables, first_fails, zero_first_where, loop_number, or_true, face_there, listed_as, listed-from_in, loop_row, mapped_some, solid_either, loops_of, faces_of_both, vertices_on, rewritten, is_flat, glue_refusal, glue_model, face_of_loop, held, loop_points, AreTurned, IsClosedFlat, GluesLieFlat, GlueKeepsFlat}
 use Rattle.euler_operators.specs.Table as table
-use Rattle.euler_laws.proofs.Common.{face_there, listed_as, listed-from_in, loop_row, mapped_some, solid_either}
-use Rattle.shapes.specs.Common.{loops_of, faces_of_both, vertices_on, rewritten, is_flat, glue_refusal, glue_model}
-use Rattle.shapes.proofs.Common.{face_of_loop}
 use Rattle.shapes.proofs.glue.Facts as facts
 use Rattle.gluing_laws.proofs.Seams as seams
 use Rattle.gluing_laws.proofs.Seams.{Seamed, Glued}
 use Rattle.gluing_laws.proofs.Measures as measures
 use Rattle.gluing_laws.proofs.FromConditions.{seamed, glued}
 use Rattle.gluing_laws.proofs.glue.Glued.{glued_sound}
-use Rattle.undo_journal.specs.Machine.{held}
-use Rattle.command_laws.specs.RingedFaces.{loop_points}
-use Rattle.command_laws.specs.TakenOver.{AreTurned}
-use Rattle.gluing.specs.Flat.{IsClosedFlat}
-use Rattle.command_laws.specs.Flat.{GluesLieFlat, GlueKeepsFlat}
 use Rattle.command_laws.proofs.OnFaces.{loop_in_face}
 use Rattle.command_laws.proofs.Turned.{IsTurned, rewritten_turned, turned_over}
 

@@ -1,13 +1,8 @@
 -- An edge drawn in a face, two loops of a face joined, and a face that becomes a ring of another leave all that isn't of the solid.
-use Rattle.std.proofs.Common.{◌≡◌, ◌≢◌, ℕ, List, Some, None, is_some, refl, sym, ap, subst, ◌∙◌, true≢false, inl, inr}
-use Rattle.std.proofs.lemmas.Bool.{eqb-false}
-use Rattle.std.proofs.lemmas.Bool.Decides.{eqb_tells}
-use Rattle.euler_operators.specs.Common.{Corner, HalfEdge, code, edge_of, Model, content, face_of, loop_of, solid_of, Sound, Has, HasHalf, corner_loop, face_at, first_false, effect, inverse, kemr, mef, mfkrh}
+use Rattle.command_laws.proofs.Prelude.{◌≡◌, ◌≢◌, ℕ, List, Some, None, is_some, refl, sym, ap, subst, ◌∙◌, true≢false, inl, inr, eqb-false, eqb_tells, Corner, HalfEdge, code, edge_of, Model, content, face_of, loop_of, solid_of, Sound, Has, HasHalf, corner_loop, face_at, first_false, effect, inverse, kemr, mef, mfkrh, Mef, Kemr, Mekr, Kfmrh, Mfkrh, same_edge, face_row, loop_there, same_solid, solid_row, get-put_here, get-put_other, get-remove_other, row_elsewhere, effect_keeps_sound, inverse_goes, inverse_undoes, MakeGoes, kfmrh_goes, mfkrh_goes, kemr_goes, KemrGoes, mef_goes, MefGoes, JoinGoes, join_goes, LoopMoves, face_kept, face_moved, walks_same, loop_row, face_same, row_second}
 use Rattle.euler_operators.specs.Table as table
 use Rattle.euler_operators.specs.declared.Op.{Op}
-use Rattle.euler_operators.specs.declared.Op.TheVariants.{Mef, Kemr, Mekr, Kfmrh, Mfkrh}
-use Rattle.euler_operators.proofs.Common.{same_edge, face_row, loop_there, same_solid, solid_row, get-put_here, get-put_other, get-remove_other, row_elsewhere}
-use Rattle.euler_laws.proofs.Common.{effect_keeps_sound, inverse_goes, inverse_undoes, MakeGoes, kfmrh_goes, mfkrh_goes, kemr_goes, KemrGoes, mef_goes, MefGoes, JoinGoes, join_goes, LoopMoves, face_kept, face_moved, walks_same, loop_row, face_same, row_else, row_second}
+use Rattle.euler_laws.proofs.Common.{row_else}
 use Rattle.euler_laws.proofs.kemr.KemrSound as parted
 use Rattle.euler_laws.proofs.mef.MefSound as drawn
 use Rattle.euler_laws.proofs.mekr.Mekr.{mekr_is}

@@ -1,13 +1,6 @@
 -- The faces that were there before a command.
-use Rattle.std.proofs.Common.{◌≡◌, ℕ, zero, suc, ◌+◌, ◌≤◌, ◌<◌, ℤ, List, [], ◌∷◌, sym, ap, subst, ◌∙◌, arith, length}
-use Rattle.euler_operators.specs.Common.{Point, Table, Model}
+use Rattle.command_laws.proofs.Prelude.{◌≡◌, ℕ, zero, suc, ◌+◌, ◌≤◌, ◌<◌, ℤ, List, [], ◌∷◌, sym, ap, subst, ◌∙◌, arith, length, Point, Table, Model, get-put_other, loops_of, Growing, Taken, growing, taken_in, lamina_model, lamina_face, raised, prism_from, prism_model, with_side, with_sides, base_of, block_model, riser_above, top_above, Machine, held, last_face, up_by, IsLamina, IsBlock, IsSweep}
 use Rattle.euler_operators.specs.Table as table
-use Rattle.euler_operators.proofs.Common.{get-put_other}
-use Rattle.shapes.specs.Common.{loops_of, Growing, Taken, growing, taken_in, lamina_model, lamina_face, raised, prism_from, prism_model, with_side, with_sides, base_of, block_model}
-use Rattle.sweeps_laws.proofs.swept.Numbers.{riser_above, top_above}
-use Rattle.undo_journal.specs.Machine.{Machine, held}
-use Rattle.command_laws.specs.NewFaces.{last_face, up_by}
-use Rattle.command_laws.specs.Commands.{IsLamina, IsBlock, IsSweep}
 use Rattle.command_laws.proofs.LaminaFaces.{lamina_counted}
 
 -- the solids stay, and the rows of the numbers that are taken

@@ -1,21 +1,10 @@
 -- The two faces of a lamina.
-use Rattle.std.proofs.Common.{◌≡◌, ℕ, zero, suc, ◌+◌, ◌≤◌, ◌<◌, List, ◌∷◌, None, is_some, refl, sym, ap, subst, ◌∙◌, arith, inl, inr, length, map, reverse, take}
-use Rattle.std.proofs.lemmas.List.{map-append, reverse-append}
-use Rattle.std.proofs.lemmas.Bool.Decides.{nat_tests, eqb_tells}
-use Rattle.euler_operators.specs.Common.{Point, canonical, plus, minus, Model, point_of, Sound}
+use Rattle.command_laws.proofs.Prelude.{◌≡◌, ℕ, zero, suc, ◌+◌, ◌≤◌, ◌<◌, List, ◌∷◌, None, is_some, refl, sym, ap, subst, ◌∙◌, arith, inl, inr, length, map, reverse, take, map-append, reverse-append, nat_tests, eqb_tells, Point, canonical, plus, minus, Model, point_of, Sound, content_row, solid_row, outer_row, plus_tail_row, minus_tail_row, less_still, all_hold, start, Taken, taken_in, numbers_after, lamina_conditions, lamina_refusal, lamina_at, lamina_model, greatest-put_last, lamina_is_sound, HasFree, taken_free, held, nth, turned_back, last_face, IsFaceOf, LaminaHasTwoFaces, LaminaTakesTwoFaces}
 use Rattle.euler_operators.specs.Table as table
-use Rattle.euler_operators.proofs.Common.{content_row, solid_row, outer_row, plus_tail_row, minus_tail_row, less_still}
-use Rattle.euler_laws.proofs.Common.{all_hold}
-use Rattle.shapes.specs.Common.{start, Taken, taken_in, numbers_after, lamina_conditions, lamina_refusal, lamina_at, lamina_model}
-use Rattle.shapes.proofs.Common.{greatest-put_last}
 use Rattle.sweeps_laws.specs.lamina.Path.{out}
 use Rattle.sweeps_laws.proofs.lamina.Lists.{plus_halves, minus_halves}
-use Rattle.sweeps_laws.proofs.lamina.Walk.{lamina_is_sound}
-use Rattle.sweeps_laws.proofs.swept.Bounds.{HasFree, taken_free}
 use Rattle.sweeps_laws.proofs.LaminaRows as rows
 use Rattle.sweeps_laws.proofs.LaminaVolumes.{earlier, back_from_first}
-use Rattle.undo_journal.specs.Machine.{held}
-use Rattle.command_laws.specs.NewFaces.{nth, turned_back, last_face, IsFaceOf, LaminaHasTwoFaces, LaminaTakesTwoFaces}
 use Rattle.command_laws.proofs.Outlines.{take_next, take_whole, points_are, plane_is}
 use Rattle.command_laws.proofs.SweptLoops.{face_counted}
 use Rattle.sweeps_laws.proofs.Block.{lamina_is}

@@ -1,3 +1,4 @@
+mod Prelude
 mod Solids
 pub mod Outlines
 mod SweptFaces

@@ -1,18 +1,5 @@
 -- Faces whose corners lie on one plane: parallelograms, and what was moved.
-use Rattle.std.specs.List.{list_all}
-use Rattle.std.proofs.Common.{◌≡◌, ◌≢◌, ℕ, ℤ, pos, ◌+ℤ◌, ◌-ℤ◌, ◌*ℤ◌, neg_ℤ, Bool, true, false, not, ◌&&◌, List, [], ◌∷◌, refl, sym, ap, subst, ◌∙◌, arith, int_eq}
-use Rattle.std.proofs.lemmas.Bool.{and_parts}
-use Rattle.std.proofs.lemmas.Int.{ints}
-use Rattle.std.proofs.lemmas.List.Folds.{list_all-map}
-use Rattle.euler_operators.specs.Common.{Plane, Point, origin, moved, dot, cross, same_point, is_on, direction, Model, point_of}
-use Rattle.euler_operators.proofs.Common.{dif-parts, difs, same_dif, number, same_vector, dot_moved, dot_turned, moved_twice}
-use Rattle.shapes.specs.Common.{scaled, towards, corners, normal, anchor, plane_through, plane_of, is_plane_of, is_flat}
-use Rattle.shapes.proofs.Common.{are_on, same_is, told_anywhere}
-use Rattle.undo_journal.specs.Machine.{held}
-use Rattle.command_laws.specs.NewFaces.{all_moved, area_to, corner_points, plane_round}
-use Rattle.command_laws.specs.LeftAlone.{StandsAsBefore}
-use Rattle.command_laws.specs.RingedFaces.{IsFarFace}
-use Rattle.command_laws.specs.Flat.{PlanarLieFlat, lie_flat, FacesLieFlat, SidesLieFlat, FarFacesLieFlat}
+use Rattle.command_laws.proofs.Prelude.{list_all, ◌≡◌, ◌≢◌, ℕ, ℤ, pos, ◌+ℤ◌, ◌-ℤ◌, ◌*ℤ◌, neg_ℤ, Bool, true, false, not, ◌&&◌, List, [], ◌∷◌, refl, sym, ap, subst, ◌∙◌, arith, int_eq, and_parts, ints, list_all-map, Plane, Point, origin, moved, dot, cross, same_point, is_on, direction, Model, point_of, dif-parts, difs, same_dif, number, same_vector, dot_moved, dot_turned, moved_twice, scaled, towards, corners, normal, anchor, plane_through, plane_of, is_plane_of, is_flat, are_on, same_is, told_anywhere, held, all_moved, area_to, corner_points, plane_round, StandsAsBefore, IsFarFace, PlanarLieFlat, lie_flat, FacesLieFlat, SidesLieFlat, FarFacesLieFlat}
 use Rattle.command_laws.proofs.SweptRings.{ringed_face_is_far}
 
 pub faces_lie_flat : FacesLieFlat

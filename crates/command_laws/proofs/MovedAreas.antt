@@ -1,11 +1,5 @@
 -- A closed path that is moved keeps its area.
-use Rattle.std.proofs.Common.{◌≡◌, ℕ, zero, suc, ◌<◌, List, [], ◌∷◌, refl, sym, ap, subst, ◌∙◌, arith, length, get_or, map}
-use Rattle.euler_operators.specs.Common.{Point, moved, cross, Model}
-use Rattle.euler_operators.proofs.Common.{sum_to, sum_first, same_sum, moved_at, Linked}
-use Rattle.shapes.specs.Common.{start, finish, next_place, area}
-use Rattle.sweeps_laws.proofs.swept.Numbers.{next_cases, next_within}
-use Rattle.sweeps_laws.proofs.swept.Lifted.{IsPathOf}
-use Rattle.command_laws.specs.NewFaces.{all_moved, nth}
+use Rattle.command_laws.proofs.Prelude.{◌≡◌, ℕ, zero, suc, ◌<◌, List, [], ◌∷◌, refl, sym, ap, subst, ◌∙◌, arith, length, get_or, map, Point, moved, cross, Model, sum_to, sum_first, same_sum, moved_at, Linked, start, finish, next_place, area, next_cases, next_within, IsPathOf, all_moved, nth}
 use Rattle.command_laws.proofs.Outlines.{nth_start, as_many}
 use Rattle.sweeps_laws.proofs.Loops.{ring_moved}
 

@@ -1,10 +1,5 @@
 -- Half-edges and vertices on the loops of faces.
-use Rattle.std.proofs.Common.{◌≡◌, ℕ, ◌∷◌, refl, ap, ◌∙◌, subst, ◌⊎◌, inl, inr, arith}
-use Rattle.euler_operators.specs.Common.{IsIn, Model, lone, items_of, tail, content, face_of, outer, rings_of, Sound, Has, lists}
-use Rattle.euler_operators.proofs.Common.{from_map, item_there}
-use Rattle.euler_laws.proofs.Common.{IsIn-from_listed, first_listed, outer_or_ring, rest_listed}
-use Rattle.shapes.specs.Common.{loops_of, vertices_on}
-use Rattle.shapes.proofs.Common.{ring_listed}
+use Rattle.command_laws.proofs.Prelude.{◌≡◌, ℕ, ◌∷◌, refl, ap, ◌∙◌, subst, ◌⊎◌, inl, inr, arith, IsIn, Model, lone, items_of, tail, content, face_of, outer, rings_of, Sound, Has, lists, from_map, item_there, IsIn-from_listed, first_listed, outer_or_ring, rest_listed, loops_of, vertices_on, ring_listed}
 
 -- a vertex on a loop is that of the lone loop, or some item starts there
 pub vertex_cases : (M : Model) (l v : ℕ) → IsIn v (vertices_on M (content M l)) → (content M l ≡ lone v) ⊎ ((h : ℕ) × IsIn h (items_of (content M l)) × (tail M h ≡ v))

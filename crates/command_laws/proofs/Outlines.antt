@@ -1,14 +1,7 @@
 -- The corners of a face without rings, and the plane that they tell.
-use Rattle.std.proofs.Common.{◌≡◌, ℕ, zero, suc, ◌<◌, ◌≤◌, false, List, [], ◌∷◌, ◌++◌, Some, is_some, refl, sym, ap, subst, ◌∙◌, arith, append-nil, length, get_or, map, take}
-use Rattle.std.proofs.lemmas.List.{length-map}
-use Rattle.euler_operators.specs.Common.{Point, is_lone, origin, moved, cross, IsIn, head_or, IsPath, IsRing, Model, LoopContent, cycle, items_of, tail, content, outer, point_of, rings_of, after, Sound, Has, IsCycle}
+use Rattle.command_laws.proofs.Prelude.{◌≡◌, ℕ, zero, suc, ◌<◌, ◌≤◌, false, List, [], ◌∷◌, ◌++◌, Some, is_some, refl, sym, ap, subst, ◌∙◌, arith, append-nil, length, get_or, map, take, length-map, Point, is_lone, origin, moved, cross, IsIn, head_or, IsPath, IsRing, Model, LoopContent, cycle, items_of, tail, content, outer, point_of, rings_of, after, Sound, Has, IsCycle, item_there, content_row, face_row, IsIn_rest, IsIn_head, IsPathOf, loop_sound, IsLoop, start, finish, loops_of, vertices_in, vertices_on, boundary, corners, area, normal, anchor, first_vertex, plane_through, plane_of, IsFaceOf, corner_points, nth, area_to, plane_round}
 use Rattle.euler_operators.specs.Table as table
-use Rattle.euler_operators.proofs.Common.{item_there, content_row, face_row, IsIn_rest, IsIn_head}
-use Rattle.sweeps_laws.proofs.swept.Lifted.{IsPathOf}
 use Rattle.sweeps_laws.proofs.Whole.{sound_path}
-use Rattle.euler_laws.proofs.Common.{loop_sound, IsLoop}
-use Rattle.shapes.specs.Common.{start, finish, loops_of, vertices_in, vertices_on, boundary, corners, area, normal, anchor, first_vertex, plane_through, plane_of}
-use Rattle.command_laws.specs.NewFaces.{IsFaceOf, corner_points, nth, area_to, plane_round}
 
 -- one point more
 pub take_next : (ps : List Point) (k : ℕ) → k < length ps → take (suc k) ps ≡ take k ps ++ nth ps k ∷ []

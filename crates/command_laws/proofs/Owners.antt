@@ -1,11 +1,6 @@
 -- The solid of each face, loop, edge and vertex.
-use Rattle.std.proofs.Common.{◌≡◌, ◌≢◌, ℕ, Bool, false, nat_eq, ◌||◌, [], is_some, refl, sym, ap, subst, ◌∙◌, arith, inl, inr}
-use Rattle.std.proofs.lemmas.Bool.Decides.{nat_tests}
-use Rattle.euler_operators.specs.Common.{IsIn, edge_of, plus, Model, LoopContent, LoopRow, lone, cycle, items_of, content, face_of, loop_of, solid_of, tail, Sound, Has, HasHalf, face_at, lists}
+use Rattle.command_laws.proofs.Prelude.{◌≡◌, ◌≢◌, ℕ, Bool, false, nat_eq, ◌||◌, [], is_some, refl, sym, ap, subst, ◌∙◌, arith, inl, inr, nat_tests, IsIn, edge_of, plus, Model, LoopContent, LoopRow, lone, cycle, items_of, content, face_of, loop_of, solid_of, tail, Sound, Has, HasHalf, face_at, lists, tick_same, IsIn-map, IsIn_head, content_row, item_there, item_loop, lone_there, loop_there, cycle_there, same_solid, same_face, same_content, first_passes, listed_passes, IsIn-from_listed, listed-from_in, loop_row, one_solid_round, same_tail, vertices_on}
 use Rattle.euler_operators.specs.Table as table
-use Rattle.euler_operators.proofs.Common.{tick_same, IsIn-map, IsIn_head, content_row, item_there, item_loop, lone_there, loop_there, cycle_there, same_solid, same_face, same_content}
-use Rattle.euler_laws.proofs.Common.{first_passes, listed_passes, IsIn-from_listed, listed-from_in, loop_row, one_solid_round, same_tail}
-use Rattle.shapes.specs.Common.{vertices_on}
 use Rattle.command_laws.proofs.OnFaces.{vertex_cases, vertex_there}
 
 -- whether a solid is solid s

@@ -1,8 +1,6 @@
 -- Rows put one after the other, from a number on.
-use Rattle.std.proofs.Common.{◌≡◌, ℕ, zero, suc, ◌+◌, ◌≤◌, ◌<◌, refl, arith, ◌⊎◌, inl, inr}
+use Rattle.command_laws.proofs.Prelude.{◌≡◌, ℕ, zero, suc, ◌+◌, ◌≤◌, ◌<◌, refl, arith, ◌⊎◌, inl, inr, Table, get-put_other}
 use Rattle.euler_operators.specs.Table as table
-use Rattle.euler_operators.specs.Common.{Table}
-use Rattle.euler_operators.proofs.Common.{get-put_other}
 
 -- F n has rows put at a + 1, a + 2 and so on up to a + n
 module _ {X : Type 0} (F : ℕ → Table X) (a : ℕ) (x : ℕ → X) (step : (n : ℕ) → F (suc n) ≡ table.put (F n) (a + suc n) (x n)) where

@@ -1,12 +1,8 @@
 -- The solids that are there after each command.
-use Rattle.std.proofs.Common.{◌≡◌, ℕ, ℤ, pos, List, None, is_some, ap, ◌∙◌}
-use Rattle.euler_operators.specs.Common.{Point, Model, solid_of, Sound, Has}
+use Rattle.command_laws.proofs.Prelude.{◌≡◌, ℕ, ℤ, pos, List, None, is_some, ap, ◌∙◌, Point, Model, solid_of, Sound, Has, get-put_here, get-remove_here, get-remove_other, glue_refusal, glue_model, lamina_model, lamina_face, vector, base_of, block_model, held}
 use Rattle.euler_operators.specs.Table as table
-use Rattle.euler_operators.proofs.Common.{get-put_here, get-remove_here, get-remove_other}
-use Rattle.shapes.specs.Common.{glue_refusal, glue_model, lamina_model, lamina_face, vector, base_of, block_model}
 use Rattle.shapes.proofs.glue.Facts.{glue_goes}
 use Rattle.sweeps_laws.proofs.prism.Accepted.{face_there}
-use Rattle.undo_journal.specs.Machine.{held}
 use Rattle.command_laws.specs.Solids.{BlocksAreThere, LaminasAreThere, SweptAreThere, SweepsKeepSolids, GluesJoinSolids}
 use Rattle.command_laws.proofs.Kept.{prism_keeps}
 

@@ -1,16 +1,8 @@
 -- A face whose loops, edges and vertices are left alone stands as it did.
-use Rattle.std.proofs.Common.{◌≡◌, ℕ, true, not, nat_eq, ◌&&◌, List, [], ◌∷◌, ◌++◌, is_some, refl, sym, ap, subst, ◌∙◌, arith, map, eqb-true}
-use Rattle.std.proofs.lemmas.Bool.{and_parts}
-use Rattle.std.proofs.lemmas.List.{map-append}
-use Rattle.euler_operators.specs.Common.{IsIn, mate, lists, Model, LoopContent, lone, cycle, items_of, tail, content, face_of, outer, point_of, rings_of, after, Sound, Has, HasHalf, face_at}
-use Rattle.euler_operators.proofs.Common.{IsIn_rest, IsIn-map, IsIn_head, edge_of-mate, face_row, item_there, holds_in, same_content, same_outer, same_solid, item_loop}
+use Rattle.command_laws.proofs.Prelude.{◌≡◌, ℕ, true, not, nat_eq, ◌&&◌, List, [], ◌∷◌, ◌++◌, is_some, refl, sym, ap, subst, ◌∙◌, arith, map, eqb-true, and_parts, map-append, IsIn, mate, lists, Model, LoopContent, lone, cycle, items_of, tail, content, face_of, outer, point_of, rings_of, after, Sound, Has, HasHalf, face_at, IsIn_rest, IsIn-map, IsIn_head, edge_of-mate, face_row, item_there, holds_in, same_content, same_outer, same_solid, item_loop, IsIn-from_listed, all_where-rises, listed_passes, passes_listed, half_after, loop_after, listed-from_in, same_tail, start, finish, items_in, loops_of, boundary, vertices_on, vertices_in, corners, area, normal, anchor, first_vertex, plane_through, plane_of, areas_kept, face_of_loop, rising_one, corner_points, FacesStand, KeepsLoops, KeepsEdges, KeepsPoints, StandsAsBefore}
 use Rattle.euler_operators.specs.Table as table
-use Rattle.euler_laws.proofs.Common.{IsIn-from_listed, all_where-rises, listed_passes, passes_listed, half_after, loop_after, listed-from_in, same_tail, same_point}
-use Rattle.shapes.specs.Common.{start, finish, items_in, loops_of, boundary, vertices_on, vertices_in, corners, area, normal, anchor, first_vertex, plane_through, plane_of}
-use Rattle.shapes.proofs.Common.{area_kept, areas_kept, face_of_loop, rising_one}
-use Rattle.command_laws.specs.NewFaces.{corner_points}
-use Rattle.command_laws.specs.Framed.{FacesStand}
-use Rattle.command_laws.specs.LeftAlone.{KeepsLoops, KeepsEdges, KeepsPoints, StandsAsBefore}
+use Rattle.euler_laws.proofs.Common.{same_point}
+use Rattle.shapes.proofs.Common.{area_kept}
 use Rattle.command_laws.proofs.Turned.{IsTurned, not_turned}
 
 -- ---- rings

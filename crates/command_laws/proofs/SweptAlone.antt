@@ -1,14 +1,7 @@
 -- What a sweep leaves as it was.
-use Rattle.std.proofs.Common.{◌≡◌, ◌≢◌, ℕ, None, sym, ap, subst, ◌∙◌, inl, inr}
-use Rattle.euler_operators.specs.Common.{Point, edge_of, Model, face_of, solid_of, rings_of, Sound, Has}
-use Rattle.euler_operators.proofs.Common.{IsIn_or_not, face_row, same_solid}
+use Rattle.command_laws.proofs.Prelude.{◌≡◌, ◌≢◌, ℕ, None, sym, ap, subst, ◌∙◌, inl, inr, Point, edge_of, Model, face_of, solid_of, rings_of, Sound, Has, IsIn_or_not, face_row, same_solid, loops_of, growing, taken_in, prism_refusal, prism_model, at_most_greatest, held, AllBut, KeepsShapes, SweepKeepsOwners, SweepKeepsLoops, SweepKeepsEdges, SweepKeepsPoints, SweepKeepsShapes}
 use Rattle.euler_operators.specs.Table as table
-use Rattle.shapes.specs.Common.{loops_of, growing, taken_in, prism_refusal, prism_model}
-use Rattle.shapes.proofs.Common.{at_most_greatest}
 use Rattle.sweeps_laws.proofs.prism.Accepted.{begins}
-use Rattle.undo_journal.specs.Machine.{held}
-use Rattle.command_laws.specs.LeftAlone.{AllBut, KeepsShapes}
-use Rattle.command_laws.specs.Framed.{SweepKeepsOwners, SweepKeepsLoops, SweepKeepsEdges, SweepKeepsPoints, SweepKeepsShapes}
 use Rattle.command_laws.proofs.Kept.{prism_keeps, prism_kept, sweep_keeps_faces}
 use Rattle.command_laws.proofs.OnFaces.{vertex_there}
 use Rattle.command_laws.proofs.Standing.{stands}

@@ -1,13 +1,6 @@
 -- The faces of a sweep of a face without rings: its one loop is swept as each loop of a face with rings is.
-use Rattle.std.proofs.Common.{◌≡◌, ◌≢◌, ℕ, ◌+◌, ◌<◌, List, [], ◌∷◌, ◌++◌, None, refl, sym, ap, subst, ◌∙◌, arith, length, map}
-use Rattle.euler_operators.specs.Common.{Point, Model, items_of, content, outer, solid_of, rings_of, Sound}
+use Rattle.command_laws.proofs.Prelude.{◌≡◌, ◌≢◌, ℕ, ◌+◌, ◌<◌, List, [], ◌∷◌, ◌++◌, None, refl, sym, ap, subst, ◌∙◌, arith, length, map, Point, Model, items_of, content, outer, solid_of, rings_of, Sound, same_outer, start, loops_of, growing, prism_refusal, prism_model, prism_from, next_place, IsPathOf, held, corner_points, nth, all_moved, side_over, IsFaceOf, SweptFaceIsFar, SidesStand, loop_points}
 use Rattle.euler_operators.specs.Table as table
-use Rattle.euler_operators.proofs.Common.{same_outer}
-use Rattle.shapes.specs.Common.{start, loops_of, growing, prism_refusal, prism_model, prism_from, next_place}
-use Rattle.sweeps_laws.proofs.swept.Lifted.{IsPathOf}
-use Rattle.undo_journal.specs.Machine.{held}
-use Rattle.command_laws.specs.NewFaces.{corner_points, nth, all_moved, side_over, IsFaceOf, SweptFaceIsFar, SidesStand}
-use Rattle.command_laws.specs.RingedFaces.{loop_points}
 use Rattle.command_laws.proofs.Outlines.{points_are, plane_is}
 use Rattle.command_laws.proofs.Standing.{faces_stand}
 use Rattle.command_laws.proofs.SweptAlone.{prism_keeps_shapes}

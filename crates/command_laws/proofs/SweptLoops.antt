@@ -1,17 +1,7 @@
 -- The loops of a face swept one after the other: what is ready for each, and what stays from there on.
-use Rattle.std.proofs.Common.{◌≡◌, ◌≢◌, ℕ, zero, suc, ◌+◌, ◌≤◌, ◌<◌, List, [], ◌∷◌, ◌++◌, None, refl, sym, ap, subst, ◌∙◌, arith, length, length-append, append-nil}
-use Rattle.std.proofs.lemmas.List.{length-map}
-use Rattle.euler_operators.specs.Common.{Point, count, IsIn, edge_of, Table, Model, FaceRow, items_of, tail, content, solid_of, rings_of, Sound, Has}
-use Rattle.euler_operators.proofs.Common.{tick_same, count-append, IsIn_rest, IsIn_head, content_row}
+use Rattle.command_laws.proofs.Prelude.{◌≡◌, ◌≢◌, ℕ, zero, suc, ◌+◌, ◌≤◌, ◌<◌, List, [], ◌∷◌, ◌++◌, None, refl, sym, ap, subst, ◌∙◌, arith, length, length-append, append-nil, length-map, Point, count, IsIn, edge_of, Table, Model, FaceRow, items_of, tail, content, solid_of, rings_of, Sound, Has, tick_same, count-append, IsIn_rest, IsIn_head, content_row, start, loops_of, vertices_on, vertices_in, Taken, Growing, growing, taken_in, raised, prism_from, prism_refusal, greatest-put_last, filled, filled_greatest, side_face, faces_grown, start_kept, IsPathOf, swept, keeps_swept, face_old, loop_old, rings_old, there_after, solid_after, HasFree, faces_within, tail_within, taken_after}
 use Rattle.euler_operators.specs.Table as table
-use Rattle.shapes.specs.Common.{start, loops_of, vertices_on, vertices_in, Taken, Growing, growing, taken_in, raised, prism_from, prism_refusal}
-use Rattle.shapes.proofs.Common.{greatest-put_last}
 use Rattle.sweeps_laws.proofs.prism.Accepted.{face_there, begins}
-use Rattle.sweeps_laws.proofs.swept.Filled.{filled, filled_greatest}
-use Rattle.sweeps_laws.proofs.swept.Sides.{side_face, faces_grown, start_kept}
-use Rattle.sweeps_laws.proofs.swept.Lifted.{IsPathOf, swept, keeps_swept, face_old, loop_old, rings_old, there_after, solid_after}
-use Rattle.sweeps_laws.proofs.swept.Bounds.{HasFree, faces_within, tail_within}
-use Rattle.sweeps_laws.specs.prism.SweepOps.{taken_after}
 use Rattle.sweeps_laws.proofs.prism.Whole as stages
 use Rattle.sweeps_laws.proofs.prism.Whole.{Going, rebased}
 use Rattle.sweeps_laws.proofs.Whole as loops

@@ -1,21 +1,8 @@
 -- The far face and the sides of a sweep of a face that may have rings.
-use Rattle.std.proofs.Common.{◌≡◌, ℕ, ◌+◌, ◌≤◌, ◌<◌, List, [], ◌∷◌, ◌++◌, Some, None, is_some, refl, sym, ap, subst, ◌∙◌, arith, append-nil, length, get_or, map}
-use Rattle.std.proofs.lemmas.List.{length-map, map-append}
-use Rattle.euler_operators.specs.Common.{Point, moved, count, IsIn, Model, cycle, items_of, content, face_of, outer, point_of, solid_of, rings_of, Sound, Has}
+use Rattle.command_laws.proofs.Prelude.{◌≡◌, ℕ, ◌+◌, ◌≤◌, ◌<◌, List, [], ◌∷◌, ◌++◌, Some, None, is_some, refl, sym, ap, subst, ◌∙◌, arith, append-nil, length, get_or, map, length-map, map-append, Point, moved, count, IsIn, Model, cycle, items_of, content, face_of, outer, point_of, solid_of, rings_of, Sound, Has, count-append, tick_same, split_at, IsIn_rest, IsIn_head, same_content, same_outer, same_solid, start, loops_of, items_in, boundary, vertices_on, vertices_in, corners, Growing, growing, taken_in, top_items, next_place, prism_from, prism_refusal, prism_model, area, normal, anchor, first_vertex, plane_through, plane_of, at_most_greatest, area-append, loop_row, prism_sound, next_within, IsPathOf, within, loop_here, taken_after, item_within, taken_free, held, corner_points, nth, all_moved, side_over, IsFaceOf, loop_points, IsFarFace, RingedFaceIsFar}
 use Rattle.euler_operators.specs.Items.{before as ahead, after as behind}
-use Rattle.euler_operators.proofs.Common.{count-append, tick_same, split_at, IsIn_rest, IsIn_head, same_content, same_outer, same_solid}
 use Rattle.euler_operators.specs.Table as table
-use Rattle.shapes.specs.Common.{start, loops_of, items_in, boundary, vertices_on, vertices_in, corners, Growing, growing, taken_in, top_items, next_place, prism_from, prism_refusal, prism_model, area, normal, anchor, first_vertex, plane_through, plane_of}
-use Rattle.shapes.proofs.Common.{at_most_greatest, area-append}
-use Rattle.euler_laws.proofs.Common.{loop_row}
-use Rattle.sweeps_laws.proofs.prism.Accepted.{face_there, prism_sound}
-use Rattle.sweeps_laws.proofs.swept.Numbers.{next_within}
-use Rattle.sweeps_laws.proofs.swept.Lifted.{IsPathOf, within, loop_here}
-use Rattle.sweeps_laws.specs.prism.SweepOps.{taken_after}
-use Rattle.sweeps_laws.proofs.swept.Bounds.{item_within, taken_free}
-use Rattle.undo_journal.specs.Machine.{held}
-use Rattle.command_laws.specs.NewFaces.{corner_points, nth, all_moved, side_over, IsFaceOf}
-use Rattle.command_laws.specs.RingedFaces.{loop_points, IsFarFace, RingedFaceIsFar}
+use Rattle.sweeps_laws.proofs.prism.Accepted.{face_there}
 use Rattle.command_laws.proofs.Outlines.{nth_start, as_many, same_starts, ring_path}
 use Rattle.command_laws.proofs.MovedAreas.{moved_many, nth_moved, area_kept}
 use Rattle.command_laws.proofs.SweptLoops.{Ready, Later, items, swept_once, next, raised_is, after_ready, later_all, later_whole, ready_all, from_append, taken_all, sweep_ready, face_counted}

@@ -1,17 +1,6 @@
 -- One loop of a face swept: its new ring and its sides.
-use Rattle.std.proofs.Common.{◌≡◌, ℕ, zero, suc, ◌+◌, ◌*◌, ◌≤◌, ◌<◌, List, [], ◌∷◌, ◌++◌, Some, is_some, refl, sym, ap, subst, ◌∙◌, arith, inl, inr, length, get_or, map, take}
-use Rattle.std.proofs.lemmas.List.{map-append}
-use Rattle.euler_operators.specs.Common.{Point, moved, IsIn, edge_of, plus, Model, cycle, items_of, content, point_of, solid_of, rings_of, Sound, Has}
-use Rattle.euler_operators.proofs.Common.{IsIn_or_not, IsIn_rest, outer_row, solid_row, same_content, in_use_within}
+use Rattle.command_laws.proofs.Prelude.{◌≡◌, ℕ, zero, suc, ◌+◌, ◌*◌, ◌≤◌, ◌<◌, List, [], ◌∷◌, ◌++◌, Some, is_some, refl, sym, ap, subst, ◌∙◌, arith, inl, inr, length, get_or, map, take, map-append, Point, moved, IsIn, edge_of, plus, Model, cycle, items_of, content, point_of, solid_of, rings_of, Sound, Has, IsIn_or_not, IsIn_rest, outer_row, solid_row, same_content, in_use_within, start, vertices_on, Taken, Growing, top_edge, top_items, next_place, filled_new, side_face, side_items, faces_grown, IsPathOf, within, rings_new, content_here, content_new, loop_new, item_start, next_start, top_start, top_finish, riser_finish, taken_after, item_within, all_moved, side_over, IsFaceOf, loop_points}
 use Rattle.euler_operators.specs.Table as table
-use Rattle.shapes.specs.Common.{start, vertices_on, Taken, Growing, top_edge, top_items, next_place}
-use Rattle.sweeps_laws.proofs.swept.Filled.{filled_new}
-use Rattle.sweeps_laws.proofs.swept.Sides.{side_face, side_items, faces_grown}
-use Rattle.sweeps_laws.proofs.swept.Lifted.{IsPathOf, within, rings_new, content_here, content_new, loop_new, item_start, next_start, top_start, top_finish, riser_finish}
-use Rattle.sweeps_laws.specs.prism.SweepOps.{taken_after}
-use Rattle.sweeps_laws.proofs.swept.Bounds.{item_within}
-use Rattle.command_laws.specs.NewFaces.{all_moved, side_over, IsFaceOf}
-use Rattle.command_laws.specs.RingedFaces.{loop_points}
 use Rattle.command_laws.proofs.Outlines.{take_next, take_whole, nth_start, as_many, same_starts, starts_are, points_are, plane_is}
 use Rattle.command_laws.proofs.MovedAreas.{moved_many, nth_moved}
 use Rattle.command_laws.proofs.SweptLoops.{Ready, Later, items, path, has_free, swept_once, after_ready}

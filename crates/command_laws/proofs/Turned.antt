@@ -1,15 +1,5 @@
 -- Faces whose loops go round from other points on: they keep their planes, and what lay on them does.
-use Rattle.std.specs.List.{list_all}
-use Rattle.std.proofs.Common.{◌≡◌, ℕ, true, not, ◌&&◌, List, [], ◌∷◌, ◌++◌, Bool, refl, sym, ap, subst, ◌∙◌, neg_ℤ, ◌⊎◌, inl, inr, append-nil, append_assoc, map, get_or, drop}
-use Rattle.std.proofs.lemmas.List.{map-append}
-use Rattle.std.proofs.lemmas.List.Folds.{list_all-append, list_all-map}
-use Rattle.std.proofs.lemmas.Bool.{and_parts}
-use Rattle.euler_operators.specs.Common.{Point, Plane, origin, dot, same_point, is_on, direction, IsIn, canonical, Model, LoopContent, lone, cycle, items_of, content, solid_of, point_of, Sound, Has}
-use Rattle.euler_operators.proofs.Common.{canonical-rotates, IsIn_head, IsIn_rest, dot_turned}
-use Rattle.shapes.specs.Common.{start, loops_of, vertices_on, vertices_in, corners, rewritten, normal, anchor, plane_of, is_plane_of, is_flat}
-use Rattle.shapes.proofs.Common.{list_parts, are_on, anchor_on, plane_told}
-use Rattle.command_laws.specs.RingedFaces.{loop_points}
-use Rattle.command_laws.specs.TakenOver.{AreTurned, IsTakenOver}
+use Rattle.command_laws.proofs.Prelude.{list_all, ◌≡◌, ℕ, true, not, ◌&&◌, List, [], ◌∷◌, ◌++◌, Bool, refl, sym, ap, subst, ◌∙◌, neg_ℤ, ◌⊎◌, inl, inr, append-nil, append_assoc, map, get_or, drop, map-append, list_all-append, list_all-map, and_parts, Point, Plane, origin, dot, same_point, is_on, direction, IsIn, canonical, Model, LoopContent, lone, cycle, items_of, content, solid_of, point_of, Sound, Has, canonical-rotates, IsIn_head, IsIn_rest, dot_turned, start, loops_of, vertices_on, vertices_in, corners, rewritten, normal, anchor, plane_of, is_plane_of, is_flat, list_parts, are_on, anchor_on, plane_told, loop_points, AreTurned, IsTakenOver}
 use Rattle.command_laws.proofs.Outlines.{starts_are}
 
 -- ---- points

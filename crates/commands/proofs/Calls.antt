@@ -1,19 +1,16 @@
 -- A command is one call of a history, whatever it is told.
-use Rattle.std.proofs.Common.{◌≡◌, inl, inr, None, Option, refl, sym, ap, subst}
+use Rattle.commands.proofs.Prelude.{◌≡◌, inl, inr, None, Option, refl, sym, ap, subst, plane_with, Change, Journal, Machine, Refusal, Told, accepted, held, refusal_of, made, Settled}
 use Rattle.undo_journal.specs.Histories as histories
 use Rattle.undo_journal.specs.Histories.{unless}
 use Rattle.undo_journal.specs.Machine.{act}
 use Rattle.undo_journal.proofs.Journals.{same_machine}
 use Rattle.sweeps.specs.Calls.{LaminasAreCalls, BlocksAreCalls, SweepsAreCalls}
 use Rattle.gluing.specs.Calls.{GluesAreCalls}
-use Rattle.plane_split.specs.Machine.{plane_with}
 use Rattle.plane_split.specs.Calls.{SplitsAreCalls}
-use Rattle.commands.specs.Common.{Change, Journal, Machine, Refusal, Sound, Told, accepted, held}
+use Rattle.commands.specs.Common.{Sound}
 use Rattle.commands.specs.declared.command.Change.TheVariants as change
 use Rattle.commands.specs.declared.command.Command.TheVariants as command
 use Rattle.commands.specs.Calls.{IsCall, CommandsAreCalls}
-use Rattle.commands.specs.Changes.{refusal_of, made}
-use Rattle.commands.specs.Telling.{Settled}
 use Rattle.commands.proofs.Settling.{ended}
 
 -- the larger commands are calls

@@ -1,11 +1,9 @@
 -- What a session knows of a solid holds after a change.
-use Rattle.std.proofs.Common.{◌≡◌, ℕ, ℤ, inl, inr, false, Option, Some, None, Result, Ok, refl, sym, subst, IfSome}
+use Rattle.commands.proofs.Prelude.{◌≡◌, ℕ, ℤ, inl, inr, false, Option, Some, None, Result, Ok, refl, sym, subst, IfSome, LoopContent, Point, cycle, is_lone, lone, plane_with, Change, Failure, Journal, Machine, accepted, held, refusal_of, made, TellsSession, told_of}
 use Rattle.std.proofs.lemmas.Bool.Decides.{eqb_tells}
-use Rattle.euler_operators.specs.Common.{LoopContent, Point, cycle, is_lone, lone}
 use Rattle.split_drawing_laws.specs.face_sides.Lone.{NoLoopIsLone}
 use Rattle.split_laws.proofs.measures.Parts.{none_is_lone}
 use Rattle.split_checks.specs.begin_checks.Conditions.{HasFlatFaces}
-use Rattle.plane_split.specs.Machine.{plane_with}
 use Rattle.plane_split.specs.SplitModels.{IsSplit}
 use Rattle.gluing.specs.Flat.{IsClosedFlat}
 use Rattle.gluing.proofs.glue_checks_laws.Known.{none_false}
@@ -16,14 +14,12 @@ use Rattle.convex_laws.specs.Convex.{IsStrictlyConvex}
 use Rattle.convex_laws.proofs.Bends.{blocks_are_convex}
 use Rattle.convex_laws.proofs.Others.{block_keeps_strictly}
 use Rattle.convex_laws.proofs.Strict.{splits_keep_strictly_convex}
-use Rattle.commands.specs.Common.{Change, Failure, Journal, Machine, Model, Sound, accepted, held}
+use Rattle.commands.specs.Common.{Model, Sound}
 use Rattle.commands.specs.declared.command.Change.TheVariants as change
 use Rattle.commands.specs.declared.command.Command.TheVariants as command
 use Rattle.commands.specs.declared.known.Known.{Known}
 use Rattle.commands.specs.declared.known.Known.TheVariants as known
-use Rattle.commands.specs.Changes.{refusal_of, made}
 use Rattle.commands.specs.Known.{IsKnown, MakesKnown}
-use Rattle.commands.specs.Telling.{TellsSession, told_of}
 
 -- a split tests no condition on the faces of a solid that is closed and flat
 pub flat_faces : (M : Model) (o : Option ℕ) → IfSome o (IsClosedFlat M) → IfSome o (HasFlatFaces M)

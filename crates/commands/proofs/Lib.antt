@@ -1,3 +1,4 @@
+mod Prelude
 pub mod Settling
 pub mod Kept
 pub mod Calls

@@ -1,10 +1,7 @@
 -- How a command that was settled ended.
-use Rattle.std.proofs.Common.{◌≡◌, inl, inr, Option, Some, None, Ok, Err, refl, sym, subst, ◌∙◌, OnOk, OnErr, ◌≢◌, ◌⊎◌, ◌↔◌, Result}
+use Rattle.commands.proofs.Prelude.{◌≡◌, inl, inr, Option, Some, None, Ok, Err, refl, sym, subst, ◌∙◌, OnOk, OnErr, ◌≢◌, ◌⊎◌, ◌↔◌, Result, verdict, Done, Failure, Memory, Refusal, Refused, Told, Settled, told_of, told_of_move}
 use Rattle.std.specs.declared.alloc.AllocError.{AllocError}
-use Rattle.euler_operators.specs.Common.{verdict}
-use Rattle.commands.specs.Common.{Done, Failure, Memory, Refusal, Refused, Told}
 use Rattle.undo_journal.specs.declared.session.Failure.TheVariants as failure
-use Rattle.commands.specs.Telling.{Settled, told_of, told_of_move}
 
 -- done, or refused, or memory was refused
 abbrev pub Ended : Option Refusal → (Stays Goes : Type 0) → Told → Type 0

@@ -1,12 +1,8 @@
 -- How many operators a split takes.
-use Rattle.std.proofs.Common.{◌≡◌, ◌≢◌, ℕ, zero, suc, ◌+◌, ◌*◌, ◌-◌, ◌≤◌, Bool, true, false, cond, not, ◌&&◌, nat_eq, nat_lt, None, List, [], ◌∷◌, ◌++◌, length, length-append, map, filter, flat_map, fold, refl, sym, ap, ◌∙◌, arith}
-use Rattle.euler_operators.specs.Common.{Plane, IsIn, half, minus, Model, faces_of, loop_of, is_ring_of, face_at, Sound, has_rings}
-use Rattle.euler_operators.proofs.Common.{count-filter}
-use Rattle.euler_operators.specs.declared.Op.{Op}
+use Rattle.commands.proofs.Prelude.{◌≡◌, ◌≢◌, ℕ, zero, suc, ◌+◌, ◌*◌, ◌-◌, ◌≤◌, Bool, true, false, cond, not, ◌&&◌, nat_eq, nat_lt, None, List, [], ◌∷◌, ◌++◌, length, length-append, map, filter, flat_map, fold, refl, sym, ap, ◌∙◌, arith, Plane, IsIn, half, minus, Model, faces_of, loop_of, is_ring_of, face_at, Sound, has_rings, count-filter, Op, Taken, Growing, growing, undrawn, crossing_edges, straddles, straddling_faces, pair_count, next_cut, with_crossings, Drawing, FacePairs, in_one_loop, join_edge, join_pair, join_next, all_joined, ring_free, stuck_at, draw_pair, draw_next, all_drawn, rings_above, with_rings, drawn_between, next_drawn, straddling_pairs, with_drawings, numbers_after, faces_above, below_halves, section_cycles, is_hole, holes_in, Caps, Opening, next_opened, opened_at, upper_left, outer_caps, split_refusal, gives_ring, SplitsTakeSteps}
 use Rattle.euler_operators.specs.declared.Op.TheVariants.{Kef, Part}
 use Rattle.euler_laws.proofs.Common.{no_zero}
 use Rattle.shapes.proofs.split.Facts.{split_opens}
-use Rattle.shapes.specs.Common.{Taken, Growing, growing, undrawn, crossing_edges, straddles, straddling_faces, pair_count, next_cut, with_crossings, Drawing, FacePairs, in_one_loop, join_edge, join_pair, join_next, all_joined, ring_free, stuck_at, draw_pair, draw_next, all_drawn, rings_above, with_rings, drawn_between, next_drawn, straddling_pairs, with_drawings, numbers_after, faces_above, below_halves, section_cycles, is_hole, holes_in, Caps, Opening, next_opened, opened_at, upper_left, outer_caps, split_refusal}
 use Rattle.split_drawing_laws.specs.crossings.CrossingOps as crossings
 use Rattle.split_drawing_laws.specs.crossings.CrossingOps.{crossing_ops}
 use Rattle.split_drawing_laws.specs.drawings.DrawingOps.{join_ops, draw_ops, ring_ops, share_ops, face_ops, ops_from, drawing_ops}
@@ -26,7 +22,6 @@ use Rattle.split_opening_laws.proofs.cycles.NextBelow.{cycles_long}
 use Rattle.split_laws.specs.SplitOps.{openings_ops, closing_ops, hole_ops, split_ops}
 use Rattle.split_laws.proofs.Flags.{flags_are}
 use Rattle.split_laws.proofs.drawn.Drawn.{never_stuck, drawn_sound, above_facts, can_open_all}
-use Rattle.commands.specs.Steps.{gives_ring, SplitsTakeSteps}
 
 -- ---- the operators that give no ring to another face
 

@@ -1,10 +1,6 @@
 -- How many operators the larger commands take.
-use Rattle.std.proofs.Common.{◌≡◌, ◌≢◌, ℕ, zero, suc, ◌+◌, ◌-◌, ◌*◌, ◌<◌, pos, None, List, [], ◌∷◌, ◌++◌, length, length-append, map, refl, ap, ◌∙◌, arith}
+use Rattle.commands.proofs.Prelude.{◌≡◌, ◌≢◌, ℕ, zero, suc, ◌+◌, ◌-◌, ◌*◌, ◌<◌, pos, None, List, [], ◌∷◌, ◌++◌, length, length-append, map, refl, ap, ◌∙◌, arith, Point, IsIn, plus, Model, items_of, content, outer, tail, Sound, IsIn_head, IsIn_rest, Op, Taken, taken_in, lamina_model, prism_refusal, glue_ops, closings, loops_of, corners, vertices_on, vertices_in, numbers_after, base_of, vector, rim, partner, fresh_edge, block_ops, LaminasTakeSteps, BlocksTakeSteps, SweepsTakeSteps, GluesTakeSteps}
 use Rattle.std.proofs.lemmas.List.{length-map}
-use Rattle.euler_operators.specs.Common.{Point, IsIn, plus, Model, items_of, content, outer, tail, Sound}
-use Rattle.euler_operators.proofs.Common.{IsIn_head, IsIn_rest}
-use Rattle.euler_operators.specs.declared.Op.{Op}
-use Rattle.shapes.specs.Common.{Taken, taken_in, lamina_model, prism_refusal, glue_ops, closings, loops_of, corners, vertices_on, vertices_in, numbers_after, base_of, vector, rim, partner, fresh_edge}
 use Rattle.shapes.proofs.glue.Facts.{shape}
 use Rattle.sweeps_laws.specs.lamina.Path.{further_points, last_edge, lamina_operators, next_point}
 use Rattle.sweeps_laws.specs.prism.SweepOps.{raise, close, close_last, rounds, loop_ops, taken_after, ops_from, sweep_ops}
@@ -12,8 +8,6 @@ use Rattle.sweeps_laws.proofs.lamina.Walk.{lamina_goes}
 use Rattle.sweeps_laws.proofs.lamina.Blocks.{blocks_have_bases}
 use Rattle.sweeps_laws.proofs.prism.Accepted.{of_face, is_cycle}
 use Rattle.sweeps.specs.Raising.{with_lamina}
-use Rattle.sweeps.proofs.BlockSteps.{block_ops}
-use Rattle.commands.specs.Steps.{LaminasTakeSteps, BlocksTakeSteps, SweepsTakeSteps, GluesTakeSteps}
 
 -- ---- laminas
 

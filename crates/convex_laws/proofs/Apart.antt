@@ -1,24 +1,7 @@
 -- The faces of the parts of a split: each part lies on its side of the plane.
-use Rattle.std.specs.List.{list_all, list_any}
-use Rattle.std.proofs.Common.{◌≡◌, ◌⊎◌, ℕ, suc, ◌<◌, Bool, true, false, cond, not, ◌&&◌, ◌||◌, List, [], ◌∷◌, length, get_or, refl, sym, ap, subst, ◌∙◌, arith, true≢false, inl, inr, int_lt, pos}
-use Rattle.std.proofs.lemmas.Bool.{and_parts}
-use Rattle.euler_operators.specs.Common.{Plane, Point, direction, dot, is_above, is_below, is_on, Model, point_of, solid_of, Sound, Has, IsIn, lists, part}
+use Rattle.convex_laws.proofs.Prelude.{list_all, list_any, ◌≡◌, ◌⊎◌, ℕ, suc, ◌<◌, Bool, true, false, cond, not, ◌&&◌, ◌||◌, List, [], ◌∷◌, length, get_or, refl, sym, ap, subst, ◌∙◌, arith, true≢false, inl, inr, int_lt, pos, and_parts, Plane, Point, direction, dot, is_above, is_below, is_on, Model, point_of, solid_of, Sound, Has, IsIn, lists, part, listed-from_in, listed_cases, corners, faces_above, straddles, face_is_above, normal, reaches_above, reaches_below, Drawing, with_drawings, Caps, Opening, holes_closed, no_caps, opened_at, face_listed, none_straddles, on_both, cap_faces, upper_faces, drawn_sound, never_stuck, Machine, held, IsSplit, IsCapOf, cap, caps_of, SplitPartsLieApart, IsOfEither, IsTurned, turned_pass, caps_stand, holes_are_closed}
 use Rattle.euler_operators.specs.Table as table
-use Rattle.euler_laws.proofs.Common.{listed-from_in, listed_cases}
-use Rattle.shapes.specs.Common.{corners, faces_above, straddles, face_is_above, normal, reaches_above, reaches_below, Drawing, with_drawings, Caps, Opening, holes_closed, no_caps, opened_at}
-use Rattle.shapes.proofs.Common.{face_listed}
-use Rattle.split_drawing_laws.proofs.face_sides.Begun.{none_straddles}
-use Rattle.split_drawing_laws.proofs.loop_sides.Parting.{on_both}
-use Rattle.split_opening_laws.specs.sections.Capped.{cap_faces}
-use Rattle.split_opening_laws.specs.sections.InTurn.{upper_faces}
-use Rattle.split_laws.proofs.drawn.Drawn.{begins, drawn_sound, never_stuck}
-use Rattle.undo_journal.specs.Machine.{Machine, held}
-use Rattle.plane_split.specs.SplitModels.{IsSplit}
-use Rattle.command_laws.specs.Capped.{IsCapOf, cap, caps_of}
-use Rattle.convex_laws.specs.Convex.{SplitPartsLieApart}
-use Rattle.command_laws.specs.Splits.{IsOfEither}
-use Rattle.command_laws.proofs.Turned.{IsTurned, turned_pass}
-use Rattle.command_laws.proofs.caps_laws.Whole.{caps_stand, holes_are_closed}
+use Rattle.split_laws.proofs.drawn.Drawn.{begins}
 use Rattle.command_laws.proofs.splits_laws.PartFaces.{part_of, part_turned}
 use Rattle.command_laws.proofs.splits_laws.Pieces.{known, was_of}
 use Rattle.command_laws.proofs.splits_laws.Whole as whole

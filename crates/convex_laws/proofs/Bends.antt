@@ -1,20 +1,5 @@
 -- At each edge of a block the two faces bend away from each other: a table of its half-edges, of which each has its mate in one face.
-use Rattle.std.specs.List.{list_all}
-use Rattle.std.proofs.Common.{◌≡◌, ◌⊎◌, ℕ, zero, suc, ◌+◌, ◌*◌, ◌≤◌, ◌<◌, inl, inr, ℤ, pos, negsuc, ◌+ℤ◌, ◌-ℤ◌, ◌*ℤ◌, int_lt, int_le, Bool, true, false, cond, not, ◌&&◌, ◌||◌, List, [], ◌∷◌, map, length, get_or, refl, sym, ap, subst, ◌∙◌, arith}
-use Rattle.std.proofs.lemmas.Bool.{and_parts, cases_lt}
-use Rattle.std.proofs.lemmas.Bool.Decides.{eqb_tells}
-use Rattle.std.proofs.lemmas.Int.{ints}
-use Rattle.euler_operators.specs.Common.{Point, moved, cross, direction, dot, mate, same_point, IsIn, Model, cycle_of, loop_of, face_at, outer, solid_of, Sound, Has, HasHalf, has_rings, is_empty}
-use Rattle.euler_operators.proofs.Common.{IsIn_one, cycle_there, row_of, tick_other, dif-parts, difs, mate-mate, mate_there, number, same_dif, same_vector}
-use Rattle.euler_laws.proofs.Common.{all_hold, half_face, no_rings_means}
-use Rattle.shapes.specs.Common.{block_conditions, base_of, finish, next_place, normal, plane_of, start, towards, vector}
-use Rattle.shapes.proofs.Common.{at_most_greatest, same_is}
-use Rattle.undo_journal.specs.Machine.{Machine, held}
-use Rattle.command_laws.specs.Commands.{IsBlock}
-use Rattle.convex_laws.specs.Convex.{BendsAway, BlocksAreConvex}
-use Rattle.command_laws.specs.NewFaces.{IsFaceOf, all_moved, area_to, last_face, nth, side_over, turned_back, up_by}
-use Rattle.command_laws.proofs.BlockFaces.{block_has_top_and_bottom, block_has_four_sides, block_takes_six_faces}
-use Rattle.command_laws.proofs.BlockFlat.{IsOneOf, no_older, one_of, sound_after}
+use Rattle.convex_laws.proofs.Prelude.{list_all, ◌≡◌, ◌⊎◌, ℕ, zero, suc, ◌+◌, ◌*◌, ◌≤◌, ◌<◌, inl, inr, ℤ, pos, negsuc, ◌+ℤ◌, ◌-ℤ◌, ◌*ℤ◌, int_lt, int_le, Bool, true, false, cond, not, ◌&&◌, ◌||◌, List, [], ◌∷◌, map, length, get_or, refl, sym, ap, subst, ◌∙◌, arith, and_parts, cases_lt, eqb_tells, ints, Point, moved, cross, direction, dot, mate, same_point, IsIn, Model, cycle_of, loop_of, face_at, outer, solid_of, Sound, Has, HasHalf, has_rings, is_empty, IsIn_one, cycle_there, row_of, tick_other, dif-parts, difs, mate-mate, mate_there, number, same_dif, same_vector, all_hold, half_face, no_rings_means, block_conditions, base_of, finish, next_place, normal, plane_of, start, towards, vector, at_most_greatest, same_is, Machine, held, IsBlock, BendsAway, BlocksAreConvex, IsFaceOf, all_moved, area_to, last_face, nth, side_over, turned_back, up_by, block_has_top_and_bottom, block_has_four_sides, block_takes_six_faces, IsOneOf, no_older, one_of, sound_after}
 use Rattle.convex_laws.proofs.Blocks.{block_convex}
 use Rattle.sweeps_laws.proofs.swept.Lifted.{IsPathOf}
 use Rattle.command_laws.proofs.Outlines.{points_are, ring_path}

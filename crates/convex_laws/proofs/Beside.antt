@@ -1,16 +1,5 @@
 -- Each half-edge of a face of the drawn solid bends away from a plane beyond: one of the solid's, or the plane of the split.
-use Rattle.std.proofs.Common.{◌≡◌, ◌⊎◌, ℕ, Bool, true, false, not, ◌&&◌, ◌||◌, [], refl, sym, ap, subst, ◌∙◌, arith, true≢false, inl, inr}
-use Rattle.euler_operators.specs.Common.{Plane, Point, IsIn, are_opposite, direction, is_above, is_below, is_on, mate, Model, after, face_at, point_of, solid_of, tail, Sound, Has, HasHalf}
-use Rattle.euler_operators.proofs.Common.{mate_there}
-use Rattle.euler_laws.proofs.Common.{back_of, half_face}
-use Rattle.shapes.specs.Common.{corners, face_is_above, finish, plane_of, start, straddling_faces, towards, with_crossings, with_drawings}
-use Rattle.split_drawing_laws.specs.crossings.Laws.{CanBegin}
-use Rattle.split_drawing_laws.specs.half_sides.HalfSides.{side_of}
-use Rattle.split_drawing_laws.proofs.crossings.Whole.{crossings_sound}
-use Rattle.split_drawing_laws.proofs.half_sides.PlaceEnds.{place_of_end, place_on, side_within}
-use Rattle.split_drawing_laws.proofs.half_sides.Starts.{turn_at}
-use Rattle.split_drawing_laws.proofs.loop_sides.Parting.{on_both}
-use Rattle.convex_laws.specs.Convex.{IsStrictlyConvex}
+use Rattle.convex_laws.proofs.Prelude.{◌≡◌, ◌⊎◌, ℕ, Bool, true, false, not, ◌&&◌, ◌||◌, [], refl, sym, ap, subst, ◌∙◌, arith, true≢false, inl, inr, Plane, Point, IsIn, are_opposite, direction, is_above, is_below, is_on, mate, Model, after, face_at, point_of, solid_of, tail, Sound, Has, HasHalf, mate_there, back_of, half_face, corners, face_is_above, finish, plane_of, start, straddling_faces, towards, with_crossings, with_drawings, CanBegin, side_of, crossings_sound, place_of_end, place_on, side_within, turn_at, on_both, IsStrictlyConvex}
 use Rattle.convex_laws.proofs.Drawn as drawn
 use Rattle.convex_laws.proofs.Drawn.{ends_in, IsInside, next_face, next_starts, starts_in, Strict}
 use Rattle.convex_laws.proofs.Links.{IsEnd, IsLink}

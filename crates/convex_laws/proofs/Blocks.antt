@@ -1,19 +1,6 @@
 -- A new block is convex: its corners are those of a box, and no point of the box lies above one of its faces.
-use Rattle.std.proofs.Common.{◌≡◌, ℕ, zero, suc, ◌+◌, ◌*◌, ◌≤◌, ◌<◌, inl, inr, ℤ, pos, negsuc, ◌+ℤ◌, ◌-ℤ◌, ◌*ℤ◌, neg_ℤ, int_lt, int_le, true, false, List, [], ◌∷◌, map, refl, sym, ap, subst, ◌∙◌, arith, true≢false}
-use Rattle.std.proofs.lemmas.Bool.{cases_lt}
-use Rattle.std.proofs.lemmas.Int.{ints}
-use Rattle.euler_operators.specs.Common.{Point, moved, cross, dot, is_above, Model, point_of, solid_of, Sound, Has, lists}
-use Rattle.euler_operators.proofs.Common.{same_vector, dif-parts, difs, neg-dif, number, same_dif}
-use Rattle.euler_laws.proofs.Common.{all_hold, listed_cases}
-use Rattle.shapes.specs.Common.{block_conditions, corners, towards, next_place, vector, base_of, plane_of, scaled}
-use Rattle.shapes.proofs.Common.{at_most_greatest}
-use Rattle.undo_journal.specs.Machine.{Machine, held}
-use Rattle.command_laws.specs.Commands.{IsBlock}
-use Rattle.command_laws.specs.NewFaces.{IsFaceOf, all_moved, last_face, nth, plane_round, side_over, turned_back, up_by}
-use Rattle.convex_laws.specs.Convex.{IsConvex}
-use Rattle.command_laws.proofs.BlockFaces.{block_has_top_and_bottom, block_has_four_sides, block_takes_six_faces}
+use Rattle.convex_laws.proofs.Prelude.{◌≡◌, ℕ, zero, suc, ◌+◌, ◌*◌, ◌≤◌, ◌<◌, inl, inr, ℤ, pos, negsuc, ◌+ℤ◌, ◌-ℤ◌, ◌*ℤ◌, neg_ℤ, int_lt, int_le, true, false, List, [], ◌∷◌, map, refl, sym, ap, subst, ◌∙◌, arith, true≢false, cases_lt, ints, Point, moved, cross, dot, is_above, Model, point_of, solid_of, Sound, Has, lists, same_vector, dif-parts, difs, neg-dif, number, same_dif, all_hold, listed_cases, block_conditions, corners, towards, next_place, vector, base_of, plane_of, scaled, at_most_greatest, Machine, held, IsBlock, IsFaceOf, all_moved, last_face, nth, plane_round, side_over, turned_back, up_by, IsConvex, block_has_top_and_bottom, block_has_four_sides, block_takes_six_faces, IsOneOf, blocks_lie_flat, no_older, one_of}
 use Rattle.command_laws.proofs.BlockFlat as flat
-use Rattle.command_laws.proofs.BlockFlat.{IsOneOf, blocks_lie_flat, no_older, one_of}
 use Rattle.command_laws.proofs.LyingFlat as lying
 use Rattle.convex_laws.proofs.Levels.{IsLow, height_at, is_low, low_times, twice_back}
 

@@ -1,17 +1,10 @@
 -- What blocks, splits, undos and redos make is sound, and all its solids are strictly convex.
-use Rattle.std.proofs.Common.{ℕ, ℤ, List, [], ◌∷◌, sym, ap, subst, inl, inr, All}
+use Rattle.convex_laws.proofs.Prelude.{ℕ, ℤ, List, [], ◌∷◌, sym, ap, subst, inl, inr, All, cases_eq, false≢true, empty_model, Model, Plane, Point, Sound, Machine, back_to, forth_to, held, IsSplit, IsBlock, sound_after, block_made, BuiltAreConvex, BuiltHaveVolume, IsBuilt, IsStrictlyConvex, redone, solid_split, started, undone}
 use Rattle.std.proofs.lemmas.List.Elements.{All-cons, All-head, All-nil, All-tail}
-use Rattle.std.proofs.lemmas.Bool.{cases_eq, false≢true}
-use Rattle.euler_operators.specs.Common.{empty_model, Model, Plane, Point, Sound}
 use Rattle.euler_operators.specs.Table as table
 use Rattle.euler_laws.proofs.shared.Empty.{empty_sound}
 use Rattle.undo_journal.specs.Machine as machine
-use Rattle.undo_journal.specs.Machine.{Machine, back_to, forth_to, held}
-use Rattle.plane_split.specs.SplitModels.{IsSplit}
-use Rattle.command_laws.specs.Commands.{IsBlock}
-use Rattle.command_laws.proofs.BlockFlat.{sound_after}
 use Rattle.command_laws.proofs.splits_laws.Whole as whole
-use Rattle.convex_laws.specs.Convex.{block_made, BuiltAreConvex, BuiltHaveVolume, IsBuilt, IsStrictlyConvex, redone, solid_split, started, undone}
 use Rattle.convex_laws.proofs.Bends.{blocks_are_convex}
 use Rattle.convex_laws.proofs.Others.{block_keeps_strictly, split_leaves_strictly}
 use Rattle.convex_laws.proofs.Strict.{splits_keep_strictly_convex}

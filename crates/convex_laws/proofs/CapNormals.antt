@@ -1,20 +1,8 @@
 -- The caps of a strictly convex solid look along the plane.
-use Rattle.std.proofs.Common.{◌≡◌, ℕ, zero, suc, ◌<◌, ℤ, pos, ◌+ℤ◌, ◌*ℤ◌, neg_ℤ, int_lt, false, List, [], ◌∷◌, map, length, get_or, sym, ap, subst, ◌∙◌, arith}
-use Rattle.std.proofs.lemmas.List.{length-map}
-use Rattle.euler_operators.specs.Common.{Plane, direction, dot, moved, Model, Sound}
-use Rattle.euler_operators.proofs.Common.{dif-parts, difs, neg-dif, none_moved, same_dif}
-use Rattle.shapes.specs.Common.{faces_above, is_hole, negated, normal, with_drawings}
-use Rattle.split_drawing_laws.specs.crossings.Laws.{CanBegin}
-use Rattle.split_opening_laws.specs.cycles.SectionCycles.{AreSectionCycles, IsSectionCycle}
+use Rattle.convex_laws.proofs.Prelude.{◌≡◌, ℕ, zero, suc, ◌<◌, ℤ, pos, ◌+ℤ◌, ◌*ℤ◌, neg_ℤ, int_lt, false, List, [], ◌∷◌, map, length, get_or, sym, ap, subst, ◌∙◌, arith, length-map, Plane, direction, dot, moved, Model, Sound, dif-parts, difs, neg-dif, none_moved, same_dif, faces_above, is_hole, negated, normal, with_drawings, CanBegin, AreSectionCycles, IsSectionCycle, never_stuck, Machine, held, IsSplit, area_below, cap, caps_of, cycles_of, sum_of, caps_have_normals, IsStrictlyConvex}
 use Rattle.split_laws.proofs.Flags.{flags_are}
-use Rattle.split_laws.proofs.drawn.Drawn.{never_stuck}
-use Rattle.undo_journal.specs.Machine.{Machine, held}
-use Rattle.plane_split.specs.SplitModels.{IsSplit}
-use Rattle.command_laws.specs.Capped.{area_below, cap, caps_of, cycles_of, sum_of}
-use Rattle.command_laws.proofs.caps_laws.Whole.{caps_have_normals}
 use Rattle.command_laws.proofs.splits_laws.Lines as lines
 use Rattle.command_laws.proofs.splits_laws.Whole as whole
-use Rattle.convex_laws.specs.Convex.{IsStrictlyConvex}
 use Rattle.convex_laws.proofs.Planes.{turned_over}
 use Rattle.convex_laws.proofs.Turns.{IsHigh}
 use Rattle.convex_laws.proofs.Caps.{cycle_high, none_of}

@@ -1,18 +1,6 @@
 -- The area round each cycle of the section of a strictly convex solid points along the plane; so the section has no holes.
-use Rattle.std.proofs.Common.{◌≡◌, ℕ, suc, ◌<◌, ℤ, pos, ◌+ℤ◌, ◌*ℤ◌, neg_ℤ, unsigned_abs, int_lt, Bool, true, false, cond, List, [], ◌∷◌, length, get_or, refl, sym, ap, subst, ◌∙◌, arith, true≢false, inl, inr}
-use Rattle.std.proofs.lemmas.Int.{ints}
-use Rattle.euler_operators.specs.Common.{Plane, Point, IsIn, direction, dot, height, is_on, mate, Model, face_at, faces_of, point_of, solid_of, tail, Sound, Has, HasHalf, lists}
-use Rattle.euler_operators.proofs.Common.{IsIn-filter, IsIn_head, dif-parts, difs, dot_turned, filter_passes, mate-mate, mate_there, neg-dif, same_dif}
-use Rattle.euler_laws.proofs.Common.{IsIn-from_listed, half_face, listed-from_in}
-use Rattle.shapes.specs.Common.{area, corners, face_is_above, faces_above, finish, holes_in, is_hole, next_place, plane_of, start, towards, with_crossings, with_drawings}
-use Rattle.shapes.proofs.Common.{IsClosed, IsPathTo, area_mates}
-use Rattle.split_drawing_laws.specs.crossings.Laws.{CanBegin}
-use Rattle.split_drawing_laws.proofs.crossings.Premises.{in_solid}
-use Rattle.split_opening_laws.specs.cycles.SectionCycles.{AreSectionCycles, IsBelowHalf, IsSectionCycle}
+use Rattle.convex_laws.proofs.Prelude.{◌≡◌, ℕ, suc, ◌<◌, ℤ, pos, ◌+ℤ◌, ◌*ℤ◌, neg_ℤ, unsigned_abs, int_lt, Bool, true, false, cond, List, [], ◌∷◌, length, get_or, refl, sym, ap, subst, ◌∙◌, arith, true≢false, inl, inr, ints, Plane, Point, IsIn, direction, dot, height, is_on, mate, Model, face_at, faces_of, point_of, solid_of, tail, Sound, Has, HasHalf, lists, IsIn-filter, IsIn_head, dif-parts, difs, dot_turned, filter_passes, mate-mate, mate_there, neg-dif, same_dif, IsIn-from_listed, half_face, listed-from_in, area, corners, face_is_above, faces_above, finish, holes_in, is_hole, next_place, plane_of, start, towards, with_crossings, with_drawings, IsClosed, IsPathTo, area_mates, CanBegin, in_solid, AreSectionCycles, IsBelowHalf, IsSectionCycle, area_below, half_comes, IsStrictlyConvex, IsVertexOf}
 use Rattle.split_opening_laws.proofs.strips.Cycle.{next_cases}
-use Rattle.command_laws.specs.Capped.{area_below}
-use Rattle.command_laws.proofs.splits_laws.Along.{half_comes}
-use Rattle.convex_laws.specs.Convex.{IsStrictlyConvex, IsVertexOf}
 use Rattle.convex_laws.proofs.Drawn as drawn
 use Rattle.convex_laws.proofs.Drawn.{beyond_of, ends_in, IsInside, starts_in}
 use Rattle.convex_laws.proofs.Levels.{IsLow, low_times, twice_back}

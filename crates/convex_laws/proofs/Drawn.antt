@@ -1,34 +1,14 @@
 -- A strictly convex solid once it is drawn: each half-edge of a face lies on the plane of the face from which that comes, and of one beyond, from which
 -- it bends away. That is the plane of another face of the solid, or the one of the split.
-use Rattle.std.proofs.Common.{◌≡◌, ◌≢◌, ℕ, ◌+◌, pos, int_lt, Bool, true, false, not, ◌&&◌, [], neg_ℤ, ℤ, refl, sym, ap, subst, ◌∙◌, arith}
-use Rattle.std.proofs.lemmas.Bool.{and_parts}
-use Rattle.std.proofs.lemmas.Int.{ints}
-use Rattle.euler_operators.specs.Common.{Plane, Point, IsIn, cross, direction, dot, is_above, is_below, is_on, mate, Model, after, content, face_at, face_of, items_of, loop_of, point_of, solid_of, tail, Sound, Has, HasHalf, lists}
-use Rattle.euler_operators.proofs.Common.{cycle_there, loop_there, mate-mate, mate_there}
-use Rattle.euler_laws.proofs.Common.{IsIn-from_listed, half_after, half_face, listed-from_in, loop_after}
-use Rattle.shapes.specs.Common.{corners, face_is_above, finish, is_flat, normal, plane_of, reaches_above, reaches_below, start, straddles, straddling_pairs, towards, with_crossings, with_drawings}
-use Rattle.shapes.proofs.Common.{face_listed}
-use Rattle.split_drawing_laws.specs.crossings.Laws.{CanBegin}
-use Rattle.split_drawing_laws.specs.drawings.DrawnIn.{Stays}
+use Rattle.convex_laws.proofs.Prelude.{◌≡◌, ◌≢◌, ℕ, ◌+◌, pos, int_lt, Bool, true, false, not, ◌&&◌, [], neg_ℤ, ℤ, refl, sym, ap, subst, ◌∙◌, arith, and_parts, ints, Plane, Point, IsIn, cross, direction, dot, is_above, is_below, is_on, mate, Model, after, content, face_at, face_of, items_of, loop_of, point_of, solid_of, tail, Sound, Has, HasHalf, lists, cycle_there, loop_there, mate-mate, mate_there, IsIn-from_listed, half_after, half_face, listed-from_in, loop_after, corners, face_is_above, finish, is_flat, normal, plane_of, reaches_above, reaches_below, start, straddles, straddling_pairs, towards, with_crossings, with_drawings, face_listed, CanBegin, Stays, side_of, tail_in_face, crossings_sound, start_stays, drawing_stays, none_straddles, none_passes, can_be_drawn, rewritings_sound, ComesOf, half_comes, spread, IsStrictlyConvex, IsVertexOf}
 use Rattle.split_drawing_laws.specs.drawings.Laws.{CanBeDrawn}
-use Rattle.split_drawing_laws.specs.half_sides.HalfSides.{side_of}
-use Rattle.split_drawing_laws.proofs.crossings.Premises.{tail_in_face}
-use Rattle.split_drawing_laws.proofs.crossings.Whole.{crossings_sound}
 use Rattle.split_drawing_laws.proofs.cut_volumes.CutWhole.{crossings_measured}
 use Rattle.split_drawing_laws.proofs.cut_volumes.Told.{solid_stays}
-use Rattle.split_drawing_laws.proofs.drawings.Stays.{start_stays}
-use Rattle.split_drawing_laws.proofs.drawings.Whole.{drawing_stays}
 use Rattle.split_drawing_laws.proofs.drawn_volumes.Bounds.{face_on}
 use Rattle.split_drawing_laws.proofs.drawn_volumes.DrawWhole.{lies_flat}
-use Rattle.split_drawing_laws.proofs.face_sides.Begun.{none_straddles}
-use Rattle.split_drawing_laws.proofs.pairs.LoopPlaces.{none_passes}
-use Rattle.split_drawing_laws.proofs.pairs.Whole.{can_be_drawn, rewritings_sound}
 use Rattle.split_laws.specs.drawn.Kept.{KeepsSolids}
 use Rattle.split_laws.proofs.drawn.Solids.{drawing_keeps}
 use Rattle.command_laws.specs.SplitEdges.{LeadsAlong}
-use Rattle.command_laws.proofs.splits_laws.Along.{ComesOf, half_comes}
-use Rattle.command_laws.proofs.splits_laws.DrawnFaces.{spread}
-use Rattle.convex_laws.specs.Convex.{IsStrictlyConvex, IsVertexOf}
 use Rattle.convex_laws.proofs.Apart.{first_none, listed_passes, not_both}
 use Rattle.convex_laws.proofs.Links.{AreLinked, IsEnd, drawings_linked}
 use Rattle.convex_laws.proofs.Planes.{IsBent, above_facing, facing, on_line, turns_too}

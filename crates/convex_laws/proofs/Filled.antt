@@ -1,11 +1,6 @@
 -- The loops of a solid without lone loops: at each corner of a face a half-edge of that face starts.
-use Rattle.std.proofs.Common.{◌≡◌, ◌≢◌, ℕ, ◌&&◌, [], None, is_some, sym, ap, ◌∙◌}
-use Rattle.euler_operators.specs.Common.{IsIn, Model, content, cycle, face_at, face_of, faces_of, is_lone, items_of, lists, solid_of, tail, Sound, Has, HasHalf}
-use Rattle.euler_operators.proofs.Common.{first_fails, in-holds, zero_first_where}
-use Rattle.euler_laws.proofs.Common.{listed-from_in, loop_row, no_zero, not_lone_cycle}
-use Rattle.shapes.specs.Common.{corners, least_lone, loops_of}
-use Rattle.shapes.proofs.Common.{face_listed, face_of_loop, none_is_lone}
-use Rattle.split_drawing_laws.proofs.face_sides.Begun.{TailIn, tail_in}
+use Rattle.convex_laws.proofs.Prelude.{◌≡◌, ◌≢◌, ℕ, ◌&&◌, [], None, is_some, sym, ap, ◌∙◌, IsIn, Model, content, cycle, face_at, face_of, faces_of, is_lone, items_of, lists, solid_of, tail, Sound, Has, HasHalf, first_fails, in-holds, zero_first_where, listed-from_in, no_zero, not_lone_cycle, corners, least_lone, loops_of, face_listed, face_of_loop, none_is_lone, TailIn, tail_in}
+use Rattle.euler_laws.proofs.Common.{loop_row}
 
 module _ (M : Model) (s : ℕ) (sound : Sound M) (none_lone : least_lone M (faces_of M s) ≡ None) (f : ℕ) (has : Has M.faces f) (of : solid_of M f ≡ s) where
   loop_facts : (l : ℕ) → IsIn l (loops_of M f) → Has M.loops l × (face_of M l ≡ f)

@@ -1,9 +1,5 @@
 -- How high a point lies over a plane: signs of products and sums, heights along a normal, and of a point that divides a step.
-use Rattle.std.proofs.Common.{◌≡◌, ◌≢◌, ℕ, zero, suc, ◌+◌, ◌*◌, ℤ, pos, negsuc, ◌+ℤ◌, ◌-ℤ◌, ◌*ℤ◌, neg_ℤ, int_lt, true, false, refl, sym, ap, subst, ◌∙◌, arith, true≢false}
-use Rattle.std.proofs.lemmas.Int.{ints}
-use Rattle.euler_operators.specs.Common.{Plane, Point, direction, dot, height}
-use Rattle.euler_operators.proofs.Common.{dif-parts, difs, neg-dif, same_dif}
-use Rattle.shapes.specs.Common.{plane_through, scaled, towards}
+use Rattle.convex_laws.proofs.Prelude.{◌≡◌, ◌≢◌, ℕ, zero, suc, ◌+◌, ◌*◌, ℤ, pos, negsuc, ◌+ℤ◌, ◌-ℤ◌, ◌*ℤ◌, neg_ℤ, int_lt, true, false, refl, sym, ap, subst, ◌∙◌, arith, true≢false, ints, Plane, Point, direction, dot, height, dif-parts, difs, neg-dif, same_dif, plane_through, scaled, towards}
 
 -- ---- signs
 

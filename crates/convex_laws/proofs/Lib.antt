@@ -1,3 +1,4 @@
+mod Prelude
 mod Levels
 mod Blocks
 pub mod Bends

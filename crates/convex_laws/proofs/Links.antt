@@ -1,27 +1,15 @@
 -- The edges that are drawn in the faces that straddle a plane: each half-edge that is new leads from a place of its face to one on the other side, and
 -- the half-edge that starts there follows it.
-use Rattle.std.proofs.Common.{◌≡◌, ◌≢◌, ◌⊎◌, ℕ, ◌+◌, ◌≤◌, Bool, true, false, cond, not, nat_eq, nat_lt, ◌&&◌, List, [], ◌∷◌, ◌++◌, length, fold, None, IsTrue, refl, sym, ap, subst, ◌∙◌, arith, inl, inr, eq-eqb, eqb-true, append_assoc, append-nil}
-use Rattle.euler_operators.specs.Common.{Plane, IsIn, IsApart, count, tick, is_number, is_ring_of, after_mef, after_mev, mate, plus, minus, Model, after, face_at, has_rings, loop_of, tail, effect, ring_in, Sound, HasHalf}
+use Rattle.convex_laws.proofs.Prelude.{◌≡◌, ◌≢◌, ◌⊎◌, ℕ, ◌+◌, ◌≤◌, Bool, true, false, cond, not, nat_eq, nat_lt, ◌&&◌, List, [], ◌∷◌, ◌++◌, length, fold, None, IsTrue, refl, sym, ap, subst, ◌∙◌, arith, inl, inr, eq-eqb, eqb-true, append_assoc, append-nil, Plane, IsIn, IsApart, count, tick, is_number, is_ring_of, after_mef, after_mev, mate, plus, minus, Model, after, face_at, has_rings, loop_of, tail, effect, ring_in, Sound, HasHalf, count-append, mate_minus, mate_plus, mate_there, plus_other, splice_at, splice_at_other, splice_elsewhere, tick_same, Drawing, FacePairs, all_drawn, all_joined, all_pairs, draw_next, drawn_between, drawn_pairs, in_one_loop, join_edge, join_next, join_pair, next_drawn, ring_free, rings_above, straddling_faces, straddling_pairs, stuck_at, undrawn, with_crossings, with_drawings, with_rings, CanBegin, DrawnIn, JoinedIn, Stays, Drawable, Going, Joining, Ready, side_of, draw_stays, draw_tails, join_stays, join_tails, stays_on, drawable, drawable_on, next_is, ready, take_sides, after_drawn, after_joined, halves_drawn, halves_joined, none_new, can_be_drawn}
 use Rattle.euler_operators.specs.Table as table
-use Rattle.euler_operators.proofs.Common.{count-append, mate_minus, mate_plus, mate_there, plus_other, splice_at, splice_at_other, splice_elsewhere, tick_same}
-use Rattle.shapes.specs.Common.{Drawing, FacePairs, all_drawn, all_joined, all_pairs, draw_next, drawn_between, drawn_pairs, in_one_loop, join_edge, join_next, join_pair, next_drawn, ring_free, rings_above, straddling_faces, straddling_pairs, stuck_at, undrawn, with_crossings, with_drawings, with_rings}
-use Rattle.split_drawing_laws.specs.crossings.Laws.{CanBegin}
-use Rattle.split_drawing_laws.specs.drawings.DrawnIn.{DrawnIn, JoinedIn, Stays}
 use Rattle.split_drawing_laws.specs.drawings.Pairs.{AllFit, AllOf, FacesFit, Fits}
-use Rattle.split_drawing_laws.specs.drawings.Passing.{Drawable, Going, Joining, Ready}
-use Rattle.split_drawing_laws.specs.half_sides.HalfSides.{side_of}
 use Rattle.split_drawing_laws.specs.loop_sides.Parted.{AllCross, Crosses, FacesCross, Open, all_ends, ends}
 use Rattle.split_drawing_laws.proofs.drawings.Drawn.{CanDraw, CanJoin, face_drawn, loops_joined}
 use Rattle.split_drawing_laws.proofs.drawings.Faces.{above_apart, are_rings, begun_joining, fitting, going_free, last, newer_face}
 use Rattle.split_drawing_laws.proofs.drawings.Pairs.{can_back, can_on}
 use Rattle.split_drawing_laws.proofs.drawings.Passes.{all_of_last, can_now, draws_keep, edge_fits_now, edge_free, joins_keep}
 use Rattle.split_drawing_laws.proofs.drawings.Rings.{Newer, RingOf, moved_after, ring_back, ring_goes, ring_stays, rings_keep}
-use Rattle.split_drawing_laws.proofs.drawings.Stays.{draw_stays, draw_tails, join_stays, join_tails, stays_on}
-use Rattle.split_drawing_laws.proofs.drawings.Whole.{drawable, drawable_on, next_is, ready}
-use Rattle.split_drawing_laws.proofs.half_sides.PlaceEnds.{take_sides}
 use Rattle.split_drawing_laws.proofs.loop_sides.Follows.{mev_at_h, mev_else}
-use Rattle.split_drawing_laws.proofs.loop_sides.Parting.{after_drawn, after_joined, halves_drawn, halves_joined, none_new}
-use Rattle.split_drawing_laws.proofs.pairs.Whole.{can_be_drawn}
 
 -- once m is put before d, d follows it
 before_d : (next : ℕ → ℕ) (h m c d : ℕ) → after_mev next h m c d m ≡ d

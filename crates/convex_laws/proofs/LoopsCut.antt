@@ -1,17 +1,5 @@
 -- The plane cuts each loop of a face of a strictly convex solid that straddles it.
-use Rattle.std.specs.List.{list_all, list_any}
-use Rattle.std.specs.Ordering.{int_eq}
-use Rattle.std.proofs.Common.{◌≡◌, ◌≢◌, ℕ, ℤ, pos, ◌+ℤ◌, ◌-ℤ◌, ◌*ℤ◌, neg_ℤ, int_lt, Bool, true, false, not, ◌&&◌, ◌||◌, List, [], ◌∷◌, None, refl, sym, ap, subst, ◌∙◌, arith, true≢false, inl, inr}
-use Rattle.std.proofs.lemmas.Bool.{false_from_ne_true}
-use Rattle.std.proofs.lemmas.Bool.Decides.{eqb_tells}
-use Rattle.std.proofs.lemmas.Int.{ints}
-use Rattle.euler_operators.specs.Common.{Plane, Point, IsIn, are_opposite, cross, direction, dot, height, is_above, is_below, is_on, opposite, Model, content, face_at, face_of, faces_of, items_of, outer, point_of, rings_of, solid_of, tail, Sound, Has, HasHalf}
-use Rattle.euler_operators.proofs.Common.{IsIn_head, IsIn_rest, dot_turned, in-holds, tick_other}
-use Rattle.euler_laws.proofs.Common.{listed-from_in}
-use Rattle.shapes.specs.Common.{corners, crosses, finish, is_cut_often, is_place, least_lone, loop_is_cut, loops_of, plane_of, start, straddles, towards}
-use Rattle.shapes.proofs.Common.{IsClosed, IsPathTo, begins, face_of_loop, loop_closed}
-use Rattle.split_drawing_laws.proofs.pairs.LoopPlaces.{none_passes}
-use Rattle.convex_laws.specs.Convex.{IsStrictlyConvex}
+use Rattle.convex_laws.proofs.Prelude.{list_all, list_any, int_eq, ◌≡◌, ◌≢◌, ℕ, ℤ, pos, ◌+ℤ◌, ◌-ℤ◌, ◌*ℤ◌, neg_ℤ, int_lt, Bool, true, false, not, ◌&&◌, ◌||◌, List, [], ◌∷◌, None, refl, sym, ap, subst, ◌∙◌, arith, true≢false, inl, inr, false_from_ne_true, eqb_tells, ints, Plane, Point, IsIn, are_opposite, cross, direction, dot, height, is_above, is_below, is_on, opposite, Model, content, face_at, face_of, faces_of, items_of, outer, point_of, rings_of, solid_of, tail, Sound, Has, HasHalf, IsIn_head, IsIn_rest, dot_turned, in-holds, tick_other, listed-from_in, corners, crosses, finish, is_cut_often, is_place, least_lone, loop_is_cut, loops_of, plane_of, start, straddles, towards, IsClosed, IsPathTo, begins, face_of_loop, loop_closed, none_passes, IsStrictlyConvex}
 use Rattle.convex_laws.proofs.Apart.{first_none}
 use Rattle.convex_laws.proofs.Filled.{has_items}
 use Rattle.convex_laws.proofs.Levels.{IsLow, low_sum, product_back, step_told}

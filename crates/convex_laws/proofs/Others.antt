@@ -1,25 +1,11 @@
 -- Solids that a command leaves alone stay convex.
-use Rattle.std.proofs.Common.{◌≡◌, ◌≢◌, ℕ, ◌≤◌, ℤ, pos, int_lt, true, List, [], ◌∷◌, length, map, drop, get_or, is_some, sym, ap, subst, ◌∙◌, arith, true≢false, inl, inr}
-use Rattle.std.proofs.lemmas.Bool.{cases_lt}
-use Rattle.euler_operators.specs.Common.{IsIn, Plane, Point, cross, direction, dot, edge_of, holds, is_above, mate, Model, face_at, face_of, loop_of, no_point, point_of, solid_of, tail, Sound, StandsIn, Has, HasHalf, lists}
+use Rattle.convex_laws.proofs.Prelude.{◌≡◌, ◌≢◌, ℕ, ◌≤◌, ℤ, pos, int_lt, true, List, [], ◌∷◌, length, map, drop, get_or, is_some, sym, ap, subst, ◌∙◌, arith, true≢false, inl, inr, cases_lt, IsIn, Plane, Point, cross, direction, dot, edge_of, holds, is_above, mate, Model, face_at, face_of, loop_of, no_point, point_of, solid_of, tail, Sound, StandsIn, Has, HasHalf, lists, loop_there, mate_there, same_content, same_solid, first_listed, listed-from_in, listed_cases, rest_listed, same_tail, corners, loops_of, normal, plane_of, start, towards, at_most_greatest, face_of_loop, Machine, held, IsSplit, IsBlock, BendsAway, BlockKeepsConvex, BlockKeepsStrictlyConvex, IsConvex, IsStrictlyConvex, SplitLeavesConvex, SplitLeavesStrictlyConvex, last_face, block_takes_six_faces, of_block, one_of, sound_after, loop_in_face, not_either}
 use Rattle.euler_operators.specs.Table as table
-use Rattle.euler_operators.proofs.Common.{loop_there, mate_there, same_content, same_solid}
-use Rattle.euler_laws.proofs.Common.{first_listed, listed-from_in, listed_cases, rest_listed, same_point, same_tail}
-use Rattle.shapes.specs.Common.{corners, loops_of, normal, plane_of, start, towards}
-use Rattle.shapes.proofs.Common.{at_most_greatest, face_of_loop}
-use Rattle.undo_journal.specs.Machine.{Machine, held}
-use Rattle.plane_split.specs.SplitModels.{IsSplit}
-use Rattle.command_laws.specs.Commands.{IsBlock}
-use Rattle.convex_laws.specs.Convex.{BendsAway, BlockKeepsConvex, BlockKeepsStrictlyConvex, IsConvex, IsStrictlyConvex, SplitLeavesConvex, SplitLeavesStrictlyConvex}
+use Rattle.euler_laws.proofs.Common.{same_point}
 use Rattle.command_laws.specs.LeftAlone.{StandsAsBefore}
-use Rattle.command_laws.specs.NewFaces.{last_face}
-use Rattle.command_laws.proofs.BlockFaces.{block_takes_six_faces}
-use Rattle.command_laws.proofs.BlockFlat.{of_block, one_of, sound_after}
 use Rattle.command_laws.proofs.DrawnAlone.{block_keeps_edges, block_keeps_loops, block_keeps_places, block_keeps_shapes}
 use Rattle.command_laws.proofs.Kept.{block_keeps_faces}
 use Rattle.command_laws.proofs.LyingFlat.{stands_flat}
-use Rattle.command_laws.proofs.OnFaces.{loop_in_face}
-use Rattle.command_laws.proofs.Owners.{not_either}
 use Rattle.command_laws.proofs.splits_laws.Whole as whole
 use Rattle.command_laws.proofs.splits_laws.Whole.{split_keeps_edges, split_keeps_loops, split_keeps_shapes}
 

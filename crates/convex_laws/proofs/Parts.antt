@@ -1,23 +1,7 @@
 -- Both parts of a strictly convex solid are convex: its pieces look as their faces did, and the caps along the plane.
-use Rattle.std.proofs.Common.{◌≡◌, ℕ, pos, int_lt, true, false, ◌&&◌, List, [], ◌∷◌, refl, sym, ap, subst, ◌∙◌, inl, inr}
-use Rattle.euler_operators.specs.Common.{Plane, Point, IsIn, direction, dot, is_above, is_on, Model, after, LoopContent, lone, cycle, content, face_at, face_of, items_of, outer, point_of, solid_of, Sound, Has, HasHalf, lists}
-use Rattle.euler_operators.proofs.Common.{IsIn_head, in-holds, item_loop}
-use Rattle.euler_laws.proofs.Common.{IsIn-from_listed, first_listed, listed-from_in, rest_listed}
-use Rattle.shapes.specs.Common.{corners, face_is_above, is_flat, normal, plane_of, with_crossings, with_drawings}
-use Rattle.shapes.proofs.Common.{are_on}
-use Rattle.split_drawing_laws.specs.crossings.Laws.{CanBegin}
-use Rattle.split_drawing_laws.proofs.face_sides.Begun.{none_lone}
-use Rattle.split_opening_laws.specs.sections.Capped.{cap_faces}
-use Rattle.split_laws.proofs.drawn.Drawn.{never_stuck}
-use Rattle.undo_journal.specs.Machine.{Machine, held}
-use Rattle.plane_split.specs.SplitModels.{IsSplit}
-use Rattle.command_laws.specs.Capped.{IsCapOf, cap, caps_of}
-use Rattle.command_laws.specs.Splits.{IsOfEither}
-use Rattle.command_laws.proofs.Turned.{IsTurned, turned_lies}
-use Rattle.command_laws.proofs.caps_laws.Whole.{caps_stand}
+use Rattle.convex_laws.proofs.Prelude.{◌≡◌, ℕ, pos, int_lt, true, false, ◌&&◌, List, [], ◌∷◌, refl, sym, ap, subst, ◌∙◌, inl, inr, Plane, Point, IsIn, direction, dot, is_above, is_on, Model, after, LoopContent, lone, cycle, content, face_at, face_of, items_of, outer, point_of, solid_of, Sound, Has, HasHalf, lists, IsIn_head, in-holds, item_loop, IsIn-from_listed, first_listed, listed-from_in, rest_listed, corners, face_is_above, is_flat, normal, plane_of, with_crossings, with_drawings, are_on, CanBegin, none_lone, cap_faces, never_stuck, Machine, held, IsSplit, IsCapOf, cap, caps_of, IsOfEither, IsTurned, turned_lies, caps_stand, IsConvex, IsStrictlyConvex, LiesAbove, LiesBelow}
 use Rattle.command_laws.proofs.splits_laws.Lines as lines
 use Rattle.command_laws.proofs.splits_laws.Whole as whole
-use Rattle.convex_laws.specs.Convex.{IsConvex, IsStrictlyConvex, LiesAbove, LiesBelow}
 use Rattle.convex_laws.proofs.Apart as apart
 use Rattle.convex_laws.proofs.Apart.{OuterCap, split_parts_lie_apart}
 use Rattle.convex_laws.proofs.Beside as next

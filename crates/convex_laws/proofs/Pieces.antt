@@ -1,18 +1,7 @@
 -- The faces of a strictly convex solid once it is drawn look as those do from which they come.
-use Rattle.std.proofs.Common.{◌≡◌, ℕ, zero, suc, ℤ, pos, negsuc, ◌+ℤ◌, ◌*ℤ◌, neg_ℤ, unsigned_abs, int_lt, Bool, true, false, not, refl, sym, ap, subst, ◌∙◌, arith, inl, inr}
-use Rattle.std.proofs.lemmas.Bool.{and_parts}
-use Rattle.std.proofs.lemmas.Int.{ints}
-use Rattle.euler_operators.specs.Common.{Plane, Point, IsIn, direction, dot, height, is_above, is_on, mate, origin, Model, face_at, point_of, same_point, solid_of, Sound, Has, HasHalf}
-use Rattle.euler_laws.proofs.Common.{listed-from_in}
-use Rattle.shapes.specs.Common.{boundary, corners, face_is_above, finish, is_flat, normal, plane_of, start, straddles, towards, with_crossings, with_drawings}
-use Rattle.shapes.proofs.Common.{some_direction}
-use Rattle.split_drawing_laws.specs.crossings.Laws.{CanBegin}
-use Rattle.split_laws.proofs.drawn.Drawn.{never_stuck}
-use Rattle.undo_journal.specs.Machine.{Machine, held}
-use Rattle.plane_split.specs.SplitModels.{IsSplit}
+use Rattle.convex_laws.proofs.Prelude.{◌≡◌, ℕ, zero, suc, ℤ, pos, negsuc, ◌+ℤ◌, ◌*ℤ◌, neg_ℤ, unsigned_abs, int_lt, Bool, true, false, not, refl, sym, ap, subst, ◌∙◌, arith, inl, inr, and_parts, ints, Plane, Point, IsIn, direction, dot, height, is_above, is_on, mate, origin, Model, face_at, point_of, same_point, solid_of, Sound, Has, HasHalf, listed-from_in, boundary, corners, face_is_above, finish, is_flat, normal, plane_of, start, straddles, towards, with_crossings, with_drawings, some_direction, CanBegin, never_stuck, Machine, held, IsSplit, IsStrictlyConvex}
 use Rattle.command_laws.proofs.splits_laws.Lines as lines
 use Rattle.command_laws.proofs.splits_laws.Uncut.{uncut_turned}
-use Rattle.convex_laws.specs.Convex.{IsStrictlyConvex}
 use Rattle.convex_laws.proofs.Beside as next
 use Rattle.convex_laws.proofs.Drawn as drawn
 use Rattle.convex_laws.proofs.Drawn.{corner_on, IsInside}

@@ -1,11 +1,5 @@
 -- Three steps in one plane: how far the first and the last turn from each other, told by the one between.
-use Rattle.std.proofs.Common.{◌≡◌, ◌≢◌, ℤ, pos, ◌+ℤ◌, ◌-ℤ◌, ◌*ℤ◌, neg_ℤ, int_lt, refl, sym, ap, subst, ◌∙◌, arith, true≢false, inl, inr}
-use Rattle.std.proofs.lemmas.Int.{ints}
-use Rattle.euler_operators.specs.Common.{Point, dot, cross}
-use Rattle.euler_operators.proofs.Common.{dot_turned}
-use Rattle.shapes.specs.Common.{negated, scaled, towards}
-use Rattle.shapes.proofs.Common.{cross_back, dot_back}
-use Rattle.shapes.proofs.measures.Products.{cross_across}
+use Rattle.convex_laws.proofs.Prelude.{◌≡◌, ◌≢◌, ℤ, pos, ◌+ℤ◌, ◌-ℤ◌, ◌*ℤ◌, neg_ℤ, int_lt, refl, sym, ap, subst, ◌∙◌, arith, true≢false, inl, inr, ints, Point, dot, cross, dot_turned, negated, scaled, towards, cross_back, dot_back, cross_across}
 use Rattle.convex_laws.proofs.Levels.{IsLow, dot_scaled, height_at, low_sum, twice_back}
 use Rattle.convex_laws.proofs.Turns.{IsHigh, both_back, either_sign, exchanged_product, front_back, high_times, low_product, dot_negated, no_factor, no_times, nothing, swept_turn, turn, turn_back, turn_first, turn_second}
 

@@ -1,10 +1,5 @@
 -- Steps that start on a plane: along it, up from it, down from it. And half-edges that lie on the planes of two faces that bend away from each other.
-use Rattle.std.proofs.Common.{◌≡◌, ◌≢◌, ℕ, zero, suc, ℤ, pos, ◌+ℤ◌, ◌-ℤ◌, ◌*ℤ◌, neg_ℤ, int_lt, Bool, true, false, cond, refl, sym, ap, subst, ◌∙◌, arith}
-use Rattle.std.proofs.lemmas.Int.{ints}
-use Rattle.euler_operators.specs.Common.{Plane, Point, cross, direction, dot, height, is_above, is_below, is_on, Model}
-use Rattle.euler_operators.proofs.Common.{dif-parts, difs, neg-dif, same_dif, dot_turned, level_is, level_on}
-use Rattle.shapes.specs.Common.{finish, scaled, start, towards}
-use Rattle.shapes.proofs.Common.{no_product}
+use Rattle.convex_laws.proofs.Prelude.{◌≡◌, ◌≢◌, ℕ, zero, suc, ℤ, pos, ◌+ℤ◌, ◌-ℤ◌, ◌*ℤ◌, neg_ℤ, int_lt, Bool, true, false, cond, refl, sym, ap, subst, ◌∙◌, arith, ints, Plane, Point, cross, direction, dot, height, is_above, is_below, is_on, Model, dif-parts, difs, neg-dif, same_dif, dot_turned, level_is, level_on, finish, scaled, start, towards, no_product}
 use Rattle.convex_laws.proofs.Levels.{IsLow, dot_scaled, step_told}
 use Rattle.convex_laws.proofs.Turns.{IsHigh, exchanged_product, high_at, high_factor, high_times, turn}
 

@@ -1,19 +1,9 @@
 -- Why a split of a strictly convex solid can be refused: each other condition holds.
-use Rattle.std.proofs.Common.{◌≡◌, ℕ, Bool, ◌+◌, true, false, cond, not, ◌&&◌, nat_eq, nat_lt, List, [], ◌∷◌, ◌++◌, length, None, Option, Some, is_some, refl, sym, ap, subst, ◌∙◌, arith, true≢false}
-use Rattle.euler_operators.specs.Common.{Condition, IsIn, Model, Plane, faces_of, first_refusal, Sound}
-use Rattle.euler_operators.proofs.Common.{IsIn_head, IsIn_rest, count-filter, filter_passes}
+use Rattle.convex_laws.proofs.Prelude.{◌≡◌, ℕ, Bool, ◌+◌, true, false, cond, not, ◌&&◌, nat_eq, nat_lt, List, [], ◌∷◌, ◌++◌, length, None, Option, Some, is_some, refl, sym, ap, subst, ◌∙◌, arith, true≢false, Condition, IsIn, Model, Plane, faces_of, first_refusal, Sound, IsIn_head, IsIn_rest, count-filter, filter_passes, IsIn-from_listed, below_halves, face_is_above, faces_above, first_conditions, first_such, has_stray_hole, is_cut_often, is_flat, is_touched, later_conditions, least_branched, least_lone, section_conditions, section_cycles, section_ends, split_conditions, straddles, straddling_faces, with_drawings, early_split_conditions, CanBegin, face_facts, solid_facts, rewritings_sound, AreOf, held, ConvexSplitsAreRefusedFor, IsStrictlyConvex, MayRefuseConvexSplit, all_on_one_side, cut_off_the_lattice, lone_loop, no_such_solid, number_out_of_range, numbers_spent, places_crossed, plane_out_of_range, solid_there_already, vertex_branched}
 use Rattle.euler_operators.specs.declared.Refusal.{Refusal}
 use Rattle.euler_operators.specs.declared.Why.{Why}
-use Rattle.euler_laws.proofs.Common.{IsIn-from_listed}
-use Rattle.shapes.specs.Common.{below_halves, face_is_above, faces_above, first_conditions, first_such, has_stray_hole, is_cut_often, is_flat, is_touched, later_conditions, least_branched, least_lone, section_conditions, section_cycles, section_ends, split_conditions, straddles, straddling_faces, with_drawings, early_split_conditions}
 use Rattle.shapes.proofs.fresh.Tests.{none_found, zero_found}
-use Rattle.split_drawing_laws.specs.crossings.Laws.{CanBegin}
-use Rattle.split_drawing_laws.proofs.crossings.Premises.{face_facts, solid_facts}
-use Rattle.split_drawing_laws.proofs.pairs.Whole.{rewritings_sound}
-use Rattle.split_opening_laws.specs.cycles.SectionCycles.{AreOf}
 use Rattle.split_opening_laws.proofs.cycles.NextBelow.{cycles_lead_round}
-use Rattle.undo_journal.specs.Machine.{held}
-use Rattle.convex_laws.specs.Convex.{ConvexSplitsAreRefusedFor, IsStrictlyConvex, MayRefuseConvexSplit, all_on_one_side, cut_off_the_lattice, lone_loop, no_such_solid, number_out_of_range, numbers_spent, places_crossed, plane_out_of_range, solid_there_already, vertex_branched}
 use Rattle.convex_laws.proofs.Caps.{none_of}
 use Rattle.convex_laws.proofs.LoopsCut.{never_often}
 use Rattle.convex_laws.proofs.Touched.{never_touched}

@@ -1,10 +1,5 @@
 -- A relation that holds from the start of each half-edge of a closed path to its end is nowhere strict.
-use Rattle.std.proofs.Common.{ℕ, List, [], ◌∷◌, subst, arith, inl, inr}
-use Rattle.std.proofs.lemmas.Bool.Decides.{eqb_tells}
-use Rattle.euler_operators.specs.Common.{Point, IsIn, Model}
-use Rattle.euler_operators.proofs.Common.{IsIn_head, IsIn_rest, tick_other}
-use Rattle.shapes.specs.Common.{finish, start}
-use Rattle.shapes.proofs.Common.{IsClosed, IsPathTo, begins}
+use Rattle.convex_laws.proofs.Prelude.{ℕ, List, [], ◌∷◌, subst, arith, inl, inr, eqb_tells, Point, IsIn, Model, IsIn_head, IsIn_rest, tick_other, finish, start, IsClosed, IsPathTo, begins}
 
 -- an order of some points, and when it is strict
 pub record Order (Good : Point → Type 0) (Le Lt : Point → Point → Type 0) : Type 0 where

@@ -1,17 +1,6 @@
 -- Which way a face looks, seen from a point between two others; and what it says of a face whose corners lie on a plane that it looks along it.
-use Rattle.std.specs.Ordering.{int_eq}
-use Rattle.std.proofs.Common.{◌≡◌, ◌≢◌, ℕ, ℤ, pos, ◌+ℤ◌, ◌*ℤ◌, neg_ℤ, int_lt, true, false, not, ◌&&◌, List, [], ◌∷◌, refl, sym, ap, subst, ◌∙◌, arith, true≢false, inl, inr}
-use Rattle.std.proofs.lemmas.Bool.Decides.{eqb_tells}
-use Rattle.std.proofs.lemmas.Bool.{and_parts, false_from_ne_true}
-use Rattle.std.proofs.lemmas.Int.{ints}
-use Rattle.euler_operators.specs.Common.{Plane, Point, IsIn, cross, direction, dot, height, is_above, is_on, origin, same_point, Model, face_at, face_of, loop_of, point_of, Sound, Has, HasHalf}
-use Rattle.euler_operators.proofs.Common.{cycle_there, dif-parts, difs, dot_origin, dot_turned, IsIn_head, IsIn_rest, item_loop, loop_there, same_dif, tick_other}
-use Rattle.shapes.specs.Common.{anchor, area, boundary, corners, finish, is_flat, loops_of, normal, plane_of, scaled, start, towards}
-use Rattle.shapes.proofs.Common.{IsClosed, anchor_on, are_on, cross_nothing, face_of_loop, items_there, same_is, told_alike}
+use Rattle.convex_laws.proofs.Prelude.{int_eq, ◌≡◌, ◌≢◌, ℕ, ℤ, pos, ◌+ℤ◌, ◌*ℤ◌, neg_ℤ, int_lt, true, false, not, ◌&&◌, List, [], ◌∷◌, refl, sym, ap, subst, ◌∙◌, arith, true≢false, inl, inr, eqb_tells, and_parts, false_from_ne_true, ints, Plane, Point, IsIn, cross, direction, dot, height, is_above, is_on, origin, same_point, Model, face_at, face_of, loop_of, point_of, Sound, Has, HasHalf, cycle_there, dif-parts, difs, dot_origin, dot_turned, IsIn_head, IsIn_rest, item_loop, loop_there, same_dif, tick_other, anchor, area, boundary, corners, finish, is_flat, loops_of, normal, plane_of, scaled, start, towards, IsClosed, anchor_on, are_on, cross_nothing, face_of_loop, items_there, same_is, told_alike, cross_across, item_in_face, swept_from}
 use Rattle.shapes.proofs.measures.FlatFaces.{loops_flat}
-use Rattle.shapes.proofs.measures.Products.{cross_across}
-use Rattle.split_drawing_laws.proofs.crossings.Premises.{item_in_face}
-use Rattle.convex_laws.specs.Convex.{swept_from}
 use Rattle.convex_laws.proofs.Levels.{IsLow, dot_scaled, first_more, height_at, low_sum, low_times, no_less, rest_more}
 use Rattle.convex_laws.proofs.Planes.{low_step}
 use Rattle.convex_laws.proofs.Seen.{closed_seen, dot_more, face_seen, seen}

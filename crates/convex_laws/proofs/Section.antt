@@ -1,17 +1,5 @@
 -- At the edges of the section the faces of the drawn solid bend away from the plane; so the caps look along it, and the section has no holes.
-use Rattle.std.specs.List.{list_any}
-use Rattle.std.specs.Ordering.{int_eq}
-use Rattle.std.proofs.Common.{◌≡◌, ◌≢◌, ℕ, ℤ, pos, neg_ℤ, int_lt, Bool, true, false, not, refl, sym, ap, subst, ◌∙◌, arith, true≢false, inl, inr}
-use Rattle.std.proofs.lemmas.Int.{ints}
-use Rattle.euler_operators.specs.Common.{Plane, Point, IsIn, direction, dot, height, is_above, is_below, is_on, mate, origin, Model, after, face_at, faces_of, point_of, same_point, solid_of, Sound, Has, HasHalf}
-use Rattle.euler_operators.proofs.Common.{level_on}
-use Rattle.euler_laws.proofs.Common.{IsIn-from_listed, half_face, listed-from_in}
-use Rattle.shapes.specs.Common.{corners, face_is_above, finish, plane_of, start, straddles, towards, with_crossings, with_drawings}
-use Rattle.shapes.proofs.split.Facts.{split_begins}
-use Rattle.split_drawing_laws.specs.crossings.Laws.{CanBegin}
-use Rattle.split_drawing_laws.proofs.crossings.Premises.{solid_facts}
-use Rattle.split_drawing_laws.proofs.face_sides.Shared.{any_from}
-use Rattle.convex_laws.specs.Convex.{IsStrictlyConvex, IsVertexOf}
+use Rattle.convex_laws.proofs.Prelude.{list_any, int_eq, ◌≡◌, ◌≢◌, ℕ, ℤ, pos, neg_ℤ, int_lt, Bool, true, false, not, refl, sym, ap, subst, ◌∙◌, arith, true≢false, inl, inr, ints, Plane, Point, IsIn, direction, dot, height, is_above, is_below, is_on, mate, origin, Model, after, face_at, faces_of, point_of, same_point, solid_of, Sound, Has, HasHalf, level_on, IsIn-from_listed, half_face, listed-from_in, corners, face_is_above, finish, plane_of, start, straddles, towards, with_crossings, with_drawings, split_begins, CanBegin, solid_facts, any_from, IsStrictlyConvex, IsVertexOf}
 use Rattle.convex_laws.proofs.Beside as next
 use Rattle.convex_laws.proofs.Drawn as drawn
 use Rattle.convex_laws.proofs.Drawn.{corner_on, ends_in, IsInside, next_face, starts_in}

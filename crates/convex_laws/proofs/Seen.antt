@@ -1,12 +1,5 @@
 -- The normal of a face is the sum of what its half-edges sweep over, seen from any point.
-use Rattle.std.proofs.Common.{◌≡◌, ℕ, ℤ, pos, ◌+ℤ◌, ◌-ℤ◌, ◌*ℤ◌, int_lt, true, false, List, [], ◌∷◌, ◌++◌, refl, sym, ap, ◌∙◌, arith, inl, inr}
-use Rattle.std.proofs.lemmas.Bool.Decides.{eqb_tells}
-use Rattle.std.proofs.lemmas.Int.{ints}
-use Rattle.euler_operators.specs.Common.{Point, cross, dot, moved, origin, IsIn, Model, LoopContent, lone, cycle, content, items_of, Sound}
-use Rattle.euler_operators.proofs.Common.{IsIn_head, IsIn_rest, dif-parts, difs, number, same_dif, same_vector, tick_other}
-use Rattle.shapes.specs.Common.{area, boundary, finish, items_in, loops_of, normal, start, towards}
-use Rattle.shapes.proofs.Common.{area-append, IsClosed, IsPathTo, begins, loop_closed}
-use Rattle.convex_laws.specs.Convex.{RoundLooksAlong, swept_from}
+use Rattle.convex_laws.proofs.Prelude.{◌≡◌, ℕ, ℤ, pos, ◌+ℤ◌, ◌-ℤ◌, ◌*ℤ◌, int_lt, true, false, List, [], ◌∷◌, ◌++◌, refl, sym, ap, ◌∙◌, arith, inl, inr, eqb_tells, ints, Point, cross, dot, moved, origin, IsIn, Model, LoopContent, lone, cycle, content, items_of, Sound, IsIn_head, IsIn_rest, dif-parts, difs, number, same_dif, same_vector, tick_other, area, boundary, finish, items_in, loops_of, normal, start, towards, area-append, IsClosed, IsPathTo, begins, loop_closed, RoundLooksAlong, swept_from}
 use Rattle.convex_laws.proofs.Levels.{first_more, no_less, rest_more}
 
 step_part : (sy sz fy fz qy qz ey ez r : ℤ) → (sy *ℤ fz -ℤ sz *ℤ fy) +ℤ (r +ℤ (qy *ℤ (ez -ℤ fz) -ℤ qz *ℤ (ey -ℤ fy)))

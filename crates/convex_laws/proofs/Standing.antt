@@ -1,19 +1,6 @@
 -- A face that the plane doesn't straddle keeps its corners while the other faces are drawn.
-use Rattle.std.proofs.Common.{◌≡◌, ◌⊎◌, ℕ, Bool, true, false, ◌&&◌, ◌||◌, unwrap_or, sym, ap, subst, ◌∙◌, arith, true≢false, inl, inr}
-use Rattle.std.proofs.lemmas.Bool.{false_from_ne_true}
-use Rattle.euler_operators.specs.Common.{Plane, IsIn, are_opposite, edge_of, mate, plus, no_point, Model, face_at, lists, point_of, solid_of, tail, Sound, Has, HasHalf}
+use Rattle.convex_laws.proofs.Prelude.{◌≡◌, ◌⊎◌, ℕ, Bool, true, false, ◌&&◌, ◌||◌, unwrap_or, sym, ap, subst, ◌∙◌, arith, true≢false, inl, inr, false_from_ne_true, Plane, IsIn, are_opposite, edge_of, mate, plus, no_point, Model, face_at, lists, point_of, solid_of, tail, Sound, Has, HasHalf, mate_minus, mate_plus, IsIn-from_listed, halves_of_edge, corners, crossing_edges, straddles, straddling_pairs, with_crossings, with_drawings, split_begins, CanBegin, Stays, any_passes, edge_facts, crossings_keep, tails_stay, drawing_stays, old_face, can_be_drawn, rewritings_sound}
 use Rattle.euler_operators.specs.Table as table
-use Rattle.euler_operators.proofs.Common.{mate_minus, mate_plus}
-use Rattle.euler_laws.proofs.Common.{IsIn-from_listed, halves_of_edge}
-use Rattle.shapes.specs.Common.{corners, crossing_edges, straddles, straddling_pairs, with_crossings, with_drawings}
-use Rattle.shapes.proofs.split.Facts.{split_begins}
-use Rattle.split_drawing_laws.specs.crossings.Laws.{CanBegin}
-use Rattle.split_drawing_laws.specs.drawings.DrawnIn.{Stays}
-use Rattle.split_drawing_laws.proofs.crossings.Premises.{any_passes, edge_facts}
-use Rattle.split_drawing_laws.proofs.crossings.Whole.{crossings_keep, tails_stay}
-use Rattle.split_drawing_laws.proofs.drawings.Whole.{drawing_stays}
-use Rattle.split_drawing_laws.proofs.half_sides.Starts.{old_face}
-use Rattle.split_drawing_laws.proofs.pairs.Whole.{can_be_drawn, rewritings_sound}
 use Rattle.convex_laws.proofs.Drawn.{ends_in, starts_in}
 use Rattle.convex_laws.proofs.Filled.{corner_half}
 use Rattle.convex_laws.proofs.Together.{whole_stays}

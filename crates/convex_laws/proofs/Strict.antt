@@ -1,26 +1,10 @@
 -- Both parts of a strictly convex solid are strictly convex: at each of their edges the two faces bend away from each other.
-use Rattle.std.proofs.Common.{◌≡◌, ℕ, pos, int_lt, Bool, true, false, cond, not, List, [], ◌∷◌, filter, fold, map, refl, sym, ap, subst, ◌∙◌, arith, inl, inr}
-use Rattle.euler_operators.specs.Common.{Plane, Point, IsIn, after, cross, direction, dot, is_on, mate, Model, face_at, face_of, loop_of, point_of, tail, solid_of, Sound, Has, HasHalf, part}
-use Rattle.euler_operators.proofs.Common.{IsIn_or_not, mate-mate, mate_there}
-use Rattle.euler_laws.proofs.Common.{half_face, listed-from_in}
-use Rattle.shapes.specs.Common.{Caps, Drawing, Opening, corners, face_is_above, faces_above, finish, hole_closed, is_hole, normal, opened_at, outer_caps, plane_of, start, towards, with_crossings, with_drawings}
-use Rattle.shapes.proofs.Common.{are_on}
-use Rattle.split_opening_laws.specs.cycles.SectionCycles.{IsBelowHalf}
-use Rattle.split_opening_laws.specs.sections.Capped.{cap_faces}
-use Rattle.split_opening_laws.specs.sections.InTurn.{upper_faces}
-use Rattle.split_drawing_laws.specs.crossings.Laws.{CanBegin}
-use Rattle.split_drawing_laws.specs.half_sides.HalfSides.{side_of}
-use Rattle.split_laws.proofs.drawn.Drawn.{never_stuck}
+use Rattle.convex_laws.proofs.Prelude.{◌≡◌, ℕ, pos, int_lt, Bool, true, false, cond, not, List, [], ◌∷◌, filter, fold, map, refl, sym, ap, subst, ◌∙◌, arith, inl, inr, Plane, Point, IsIn, after, cross, direction, dot, is_on, mate, Model, face_at, face_of, loop_of, point_of, tail, solid_of, Sound, Has, HasHalf, part, IsIn_or_not, mate-mate, mate_there, half_face, listed-from_in, Caps, Drawing, Opening, corners, face_is_above, faces_above, finish, hole_closed, is_hole, normal, opened_at, outer_caps, plane_of, start, towards, with_crossings, with_drawings, are_on, IsBelowHalf, cap_faces, upper_faces, CanBegin, side_of, never_stuck, Machine, held, IsSplit, caps_of, cycles_of, IsOfEither, BendsAway, IsStrictlyConvex, PartsOfConvexSolidsHaveVolume, SplitsKeepStrictlyConvex}
 use Rattle.split_laws.proofs.measures.Parts.{parts_there}
 use Rattle.split_laws.proofs.volumes.Split as split
-use Rattle.undo_journal.specs.Machine.{Machine, held}
-use Rattle.plane_split.specs.SplitModels.{IsSplit}
-use Rattle.command_laws.specs.Capped.{caps_of, cycles_of}
-use Rattle.command_laws.specs.Splits.{IsOfEither}
 use Rattle.command_laws.proofs.caps_laws.OpenedCaps.{told_filtered}
 use Rattle.command_laws.proofs.splits_laws.Lines as lines
 use Rattle.command_laws.proofs.splits_laws.Whole as whole
-use Rattle.convex_laws.specs.Convex.{BendsAway, IsStrictlyConvex, PartsOfConvexSolidsHaveVolume, SplitsKeepStrictlyConvex}
 use Rattle.convex_laws.proofs.Apart as apart
 use Rattle.convex_laws.proofs.Apart.{OuterCap}
 use Rattle.convex_laws.proofs.Beside as next

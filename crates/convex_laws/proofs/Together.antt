@@ -1,19 +1,8 @@
 -- While edges are drawn, half-edges come together in no face: those that share one shared one before.
-use Rattle.std.proofs.Common.{◌≡◌, ◌≢◌, ℕ, List, [], ◌∷◌, fold, map, false, true≢false, arith, refl, sym, ap, ◌∙◌, inl, inr}
-use Rattle.std.proofs.lemmas.Bool.Decides.{eqb_tells}
-use Rattle.euler_operators.specs.Common.{Plane, count, Model, face_at, Sound, HasHalf}
+use Rattle.convex_laws.proofs.Prelude.{◌≡◌, ◌≢◌, ℕ, List, [], ◌∷◌, fold, map, false, true≢false, arith, refl, sym, ap, ◌∙◌, inl, inr, eqb_tells, Plane, count, Model, face_at, Sound, HasHalf, filter_passes, tick_same, half_face, Drawing, FacePairs, next_drawn, straddles, straddling_pairs, undrawn, with_crossings, with_drawings, CanBegin, DrawnIn, Drawable, drawable, drawable_on, can_be_drawn, drawn_one}
 use Rattle.euler_operators.specs.Table as table
-use Rattle.euler_operators.proofs.Common.{filter_passes, tick_same}
-use Rattle.euler_laws.proofs.Common.{half_face}
-use Rattle.shapes.specs.Common.{Drawing, FacePairs, next_drawn, straddles, straddling_pairs, undrawn, with_crossings, with_drawings}
-use Rattle.split_drawing_laws.specs.crossings.Laws.{CanBegin}
-use Rattle.split_drawing_laws.specs.drawings.DrawnIn.{DrawnIn}
-use Rattle.split_drawing_laws.specs.drawings.Passing.{Drawable}
 use Rattle.split_drawing_laws.proofs.drawings.Counted.{faces_are}
-use Rattle.split_drawing_laws.proofs.drawings.Whole.{drawable, drawable_on}
 use Rattle.split_drawing_laws.proofs.face_sides.Beside.{never_free}
-use Rattle.split_drawing_laws.proofs.pairs.Whole.{can_be_drawn}
-use Rattle.command_laws.proofs.splits_laws.DrawnFaces.{drawn_one}
 
 -- half-edges of B that share a face of X shared one of B
 record ComeApart (B X : Model) : Type 0 where

@@ -1,15 +1,5 @@
 -- A face of a strictly convex solid that straddles the plane isn't touched by it: at each corner on the plane it goes through.
-use Rattle.std.specs.Ordering.{int_eq}
-use Rattle.std.proofs.Common.{◌≡◌, ℕ, ℤ, pos, neg_ℤ, int_lt, Bool, true, false, not, ◌&&◌, ◌||◌, refl, sym, ap, subst, ◌∙◌, arith, true≢false}
-use Rattle.std.proofs.lemmas.Bool.{and_parts, false_from_ne_true}
-use Rattle.std.proofs.lemmas.Int.{ints}
-use Rattle.euler_operators.specs.Common.{Plane, Point, IsIn, are_opposite, cross, direction, dot, is_above, is_below, is_on, height, opposite, mate, Model, after, before, face_at, point_of, solid_of, tail, Sound, Has, HasHalf}
-use Rattle.euler_operators.proofs.Common.{mate_there}
-use Rattle.euler_laws.proofs.Common.{IsIn-from_listed, back_of, half_after, half_face, listed-from_in}
-use Rattle.shapes.specs.Common.{boundary, corners, crosses, finish, is_place, is_touched, plane_of, reaches_above, reaches_below, start, straddles, towards}
-use Rattle.split_drawing_laws.proofs.face_sides.Shared.{any_from, none_from}
-use Rattle.split_drawing_laws.proofs.pairs.LoopPlaces.{before_after}
-use Rattle.convex_laws.specs.Convex.{IsStrictlyConvex, IsVertexOf}
+use Rattle.convex_laws.proofs.Prelude.{int_eq, ◌≡◌, ℕ, ℤ, pos, neg_ℤ, int_lt, Bool, true, false, not, ◌&&◌, ◌||◌, refl, sym, ap, subst, ◌∙◌, arith, true≢false, and_parts, false_from_ne_true, ints, Plane, Point, IsIn, are_opposite, cross, direction, dot, is_above, is_below, is_on, height, opposite, mate, Model, after, before, face_at, point_of, solid_of, tail, Sound, Has, HasHalf, mate_there, IsIn-from_listed, back_of, half_after, half_face, listed-from_in, boundary, corners, crosses, finish, is_place, is_touched, plane_of, reaches_above, reaches_below, start, straddles, towards, any_from, none_from, before_after, IsStrictlyConvex, IsVertexOf}
 use Rattle.convex_laws.proofs.Drawn.{bent_here, beyond_of, corner_on, next_face, next_starts, starts_in, turned_sign}
 use Rattle.convex_laws.proofs.Levels.{IsLow, twice_back}
 use Rattle.convex_laws.proofs.Planar.{none_below}

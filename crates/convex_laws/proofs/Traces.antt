@@ -1,18 +1,7 @@
 -- What becomes of the half-edges of a drawn solid as it is opened: each keeps its face, and that of its mate or a cap lies beyond.
-use Rattle.std.proofs.Common.{◌≡◌, ◌⊎◌, ℕ, ◌≤◌, List, [], ◌∷◌, ◌++◌, map, length, refl, sym, ap, subst, ◌∙◌, arith, true≢false, inl, inr}
-use Rattle.std.proofs.lemmas.Bool.Decides.{eqb_tells}
-use Rattle.std.proofs.lemmas.List.{length-map, map-append}
-use Rattle.euler_operators.specs.Common.{Plane, IsApart, IsIn, canonical, count, tick, cycle_of, edge_of, items_of, mate, plus, Model, content, face_at, face_of, loop_of, tail, Sound, HasHalf, lists}
-use Rattle.euler_operators.proofs.Common.{IsApart-map, IsIn-map, IsIn_or_not, content_row, count-append, count-canonical, cycle_there, face_row, from_map, in-holds, mate-mate, mate_minus, mate_plus, mate_there, row_of, tick_other, tick_same}
-use Rattle.euler_laws.proofs.Common.{halves_of_edge}
-use Rattle.shapes.specs.Common.{Caps, Opening, Taken, all_opened, finish, numbers_after, opened_along, start}
-use Rattle.split_opening_laws.specs.cycles.SectionCycles.{AreSectionCycles, IsBelowHalf}
-use Rattle.split_opening_laws.specs.sections.InTurn.{CanBeOpenedInTurn, halves_in}
+use Rattle.convex_laws.proofs.Prelude.{◌≡◌, ◌⊎◌, ℕ, ◌≤◌, List, [], ◌∷◌, ◌++◌, map, length, refl, sym, ap, subst, ◌∙◌, arith, true≢false, inl, inr, eqb_tells, length-map, map-append, Plane, IsApart, IsIn, canonical, count, tick, cycle_of, edge_of, items_of, mate, plus, Model, content, face_at, face_of, loop_of, tail, Sound, HasHalf, lists, IsApart-map, IsIn-map, IsIn_or_not, content_row, count-append, count-canonical, cycle_there, face_row, from_map, in-holds, mate-mate, mate_minus, mate_plus, mate_there, row_of, tick_other, tick_same, halves_of_edge, Caps, Opening, Taken, all_opened, finish, numbers_after, opened_along, start, AreSectionCycles, IsBelowHalf, CanBeOpenedInTurn, halves_in, opened_sound, can_open, new_caps, opened_next, openings_carry, face_kept, half_cases, loop_row, mate_face, minus_face}
 use Rattle.split_opening_laws.specs.strips.Opened.{CanBeOpened}
-use Rattle.split_opening_laws.proofs.opening.Whole.{opened_sound}
-use Rattle.split_opening_laws.proofs.sections.InTurn.{can_open, new_caps, opened_next, openings_carry}
 use Rattle.split_opening_laws.proofs.sections.Numbered.{length-numbers_after, renamed_onto}
-use Rattle.split_opening_laws.proofs.sections.OpenedRows.{face_kept, half_cases, loop_row, mate_face, minus_face}
 use Rattle.split_opening_laws.proofs.sections.StillBetween.{no_mate, no_mates_mate, starts_elsewhere, there_in}
 use Rattle.split_laws.proofs.opened.Starts.{finish_old, start_old, swap, swapped}
 

@@ -1,11 +1,5 @@
 -- How far a vector lies to the right of a step, seen from above: signs of products, and what three vectors across a step tell of each other.
-use Rattle.std.proofs.Common.{◌≡◌, ◌≢◌, ◌⊎◌, ℕ, zero, suc, ◌+◌, ◌*◌, ℤ, pos, negsuc, ◌+ℤ◌, ◌-ℤ◌, ◌*ℤ◌, neg_ℤ, int_lt, Bool, true, false, refl, sym, ap, subst, ◌∙◌, arith, true≢false, inl, inr}
-use Rattle.std.proofs.lemmas.Int.{ints}
-use Rattle.euler_operators.specs.Common.{Point, dot, cross, moved, origin}
-use Rattle.euler_operators.proofs.Common.{dif-parts, difs, neg-dif, same_dif, same_vector, dot_turned, dot_origin, number}
-use Rattle.shapes.specs.Common.{negated, scaled, towards}
-use Rattle.shapes.proofs.Common.{cross_nothing}
-use Rattle.shapes.proofs.measures.Products.{cross_across}
+use Rattle.convex_laws.proofs.Prelude.{◌≡◌, ◌≢◌, ◌⊎◌, ℕ, zero, suc, ◌+◌, ◌*◌, ℤ, pos, negsuc, ◌+ℤ◌, ◌-ℤ◌, ◌*ℤ◌, neg_ℤ, int_lt, Bool, true, false, refl, sym, ap, subst, ◌∙◌, arith, true≢false, inl, inr, ints, Point, dot, cross, moved, origin, dif-parts, difs, neg-dif, same_dif, same_vector, dot_turned, dot_origin, number, negated, scaled, towards, cross_nothing, cross_across}
 use Rattle.convex_laws.proofs.Levels.{IsLow, dot_scaled, is_low, low_is, product_back, product_part, twice_back}
 
 -- ---- signs

@@ -1,17 +1,7 @@
 -- The six volumes of a strictly convex solid: seen from a vertex, no face takes any away, and one adds some.
-use Rattle.std.specs.List.{list_all}
-use Rattle.std.specs.Ordering.{int_eq}
-use Rattle.std.proofs.Common.{◌≡◌, ◌≢◌, ℕ, ℤ, pos, ◌+ℤ◌, ◌-ℤ◌, ◌*ℤ◌, neg_ℤ, int_lt, Bool, true, false, not, ◌&&◌, List, [], ◌∷◌, refl, sym, ap, subst, ◌∙◌, arith, true≢false, inl, inr}
-use Rattle.std.proofs.lemmas.Bool.{and_parts}
-use Rattle.std.proofs.lemmas.Int.{ints}
-use Rattle.euler_operators.specs.Common.{Plane, Point, origin, moved, cross, direction, dot, height, is_on, mate, same_point, IsIn, Model, content, face_at, face_of, faces_of, items_of, point_of, solid_of, Sound, Has, HasHalf, lists}
-use Rattle.euler_operators.proofs.Common.{add_none, count-append, dif-parts, difs, dot_origin, dot_sum, dot_turned, IsIn_head, IsIn_or_not, item_loop, mate_there, neg-dif, same_dif}
-use Rattle.euler_laws.proofs.Common.{first_listed, half_face, listed_cases, rest_listed}
-use Rattle.shapes.specs.Common.{anchor, area, boundary, corners, finish, is_flat, items_in, loops_of, normal, plane_of, six_volume, start, towards, volume_in}
-use Rattle.shapes.proofs.Common.{anchor_on, face_listed, face_of_loop, face_told, items_there, listed_face, some_direction}
+use Rattle.convex_laws.proofs.Prelude.{list_all, int_eq, ◌≡◌, ◌≢◌, ℕ, ℤ, pos, ◌+ℤ◌, ◌-ℤ◌, ◌*ℤ◌, neg_ℤ, int_lt, Bool, true, false, not, ◌&&◌, List, [], ◌∷◌, refl, sym, ap, subst, ◌∙◌, arith, true≢false, inl, inr, and_parts, ints, Plane, Point, origin, moved, cross, direction, dot, height, is_on, mate, same_point, IsIn, Model, content, face_at, face_of, faces_of, items_of, point_of, solid_of, Sound, Has, HasHalf, lists, add_none, count-append, dif-parts, difs, dot_origin, dot_sum, dot_turned, IsIn_head, IsIn_or_not, item_loop, mate_there, neg-dif, same_dif, first_listed, half_face, listed_cases, rest_listed, anchor, area, boundary, corners, finish, is_flat, items_in, loops_of, normal, plane_of, six_volume, start, towards, volume_in, anchor_on, face_listed, face_of_loop, face_told, items_there, listed_face, some_direction, ConvexSolidsHaveVolume, IsStrictlyConvex, IsVertexOf}
 use Rattle.solid_measure_laws.specs.Models.{normals_in}
 use Rattle.solid_measure_laws.proofs.Moved.{normals_close}
-use Rattle.convex_laws.specs.Convex.{ConvexSolidsHaveVolume, IsStrictlyConvex, IsVertexOf}
 use Rattle.convex_laws.proofs.Levels.{first_more, no_less, rest_more}
 
 -- ---- the six volumes, seen from a point

@@ -1,36 +1,14 @@
 -- A split makes no vertex outside: each half-space that holds the solid holds the cut points, and so both parts.
-use Rattle.std.proofs.Common.{◌≡◌, ◌≢◌, ◌⊎◌, ℕ, ◌+◌, ℤ, unsigned_abs, Bool, true, false, List, [], ◌∷◌, length, map, fold, Some, is_some, unwrap_or, refl, sym, ap, subst, ◌∙◌, arith, true≢false, inl, inr, filter, eq-eqb}
-use Rattle.std.proofs.lemmas.Bool.Decides.{eqb_tells, nat_tests}
-use Rattle.std.proofs.lemmas.Int.{ints}
-use Rattle.euler_operators.specs.Common.{Plane, Point, height, opposite, is_above, cut_between, IsIn, mate, plus, Table, Model, no_point, face_of, loop_of, solid_of, point_of, tail, Sound, Has, HasHalf, face_at, part}
+use Rattle.convex_laws.proofs.Prelude.{◌≡◌, ◌≢◌, ◌⊎◌, ℕ, ◌+◌, ℤ, unsigned_abs, Bool, true, false, List, [], ◌∷◌, length, map, fold, Some, is_some, unwrap_or, refl, sym, ap, subst, ◌∙◌, arith, true≢false, inl, inr, filter, eq-eqb, eqb_tells, nat_tests, ints, Plane, Point, height, opposite, is_above, cut_between, IsIn, mate, plus, Table, Model, no_point, face_of, loop_of, solid_of, point_of, tail, Sound, Has, HasHalf, face_at, part, from_map, IsIn_head, IsIn_rest, loop_there, mate_there, plus_there, point_row, row_some, IsIn-from_listed, listed-from_in, start, finish, corners, loops_of, Growing, growing, crossing_edges, all_cut, next_cut, with_crossings, faces_above, Drawing, straddling_pairs, with_drawings, below_halves, section_cycles, Opening, both_lists, holes_closed, opened_along, numbers_after, opened_at, outer_caps, face_of_loop, get-put_cases, on_one, on_some, CanBegin, edge_facts, Stays, drawing_stays, can_be_drawn, rewritings_sound, CanBeOpenedInTurn, upper_faces, opened_sound, can_open, openings_carry, vertices_are, listed_front, Machine, held, IsSplit, IsVertexOf, LiesBelow, SplitsStayBelow, loop_in_face, vertex_there, Agree, OnSolid, agree_on, half_is_on, has_owner, is_either, is_of, owner_is, solid_of_vertex, vertex_kept}
 use Rattle.euler_operators.specs.Table as table
-use Rattle.euler_operators.proofs.Common.{from_map, IsIn_head, IsIn_rest, loop_there, mate_there, plus_there, point_row, row_some}
-use Rattle.euler_laws.proofs.Common.{IsIn-from_listed, listed-from_in}
-use Rattle.shapes.specs.Common.{start, finish, corners, loops_of, Growing, growing, crossing_edges, all_cut, next_cut, with_crossings, faces_above, Drawing, straddling_pairs, with_drawings, below_halves, section_cycles, Opening, both_lists, holes_closed, opened_along, numbers_after, opened_at, outer_caps}
-use Rattle.shapes.proofs.Common.{face_of_loop, get-put_cases, on_one, on_some}
 use Rattle.solid_measure_laws.proofs.Cuts.{cut_divides}
-use Rattle.split_drawing_laws.specs.crossings.Laws.{CanBegin}
 use Rattle.split_drawing_laws.proofs.crossings.OneCut.{cut_rows, edge_cut}
-use Rattle.split_drawing_laws.proofs.crossings.Premises.{edge_facts}
 use Rattle.split_drawing_laws.proofs.crossings.Runs.{Going, cut_at, crossing_now, goes_now, going_on, kept_point, next_model, same_finish, same_start, uncut_now}
 use Rattle.split_drawing_laws.proofs.crossings.Steps.{cut_keeps, point_new}
 use Rattle.split_drawing_laws.proofs.crossings.Whole as cuts
-use Rattle.split_drawing_laws.specs.drawings.DrawnIn.{Stays}
-use Rattle.split_drawing_laws.proofs.drawings.Whole.{drawing_stays}
-use Rattle.split_drawing_laws.proofs.pairs.Whole.{can_be_drawn, rewritings_sound}
-use Rattle.split_opening_laws.specs.sections.InTurn.{CanBeOpenedInTurn, upper_faces}
-use Rattle.split_opening_laws.proofs.opening.Whole.{opened_sound}
-use Rattle.split_opening_laws.proofs.sections.InTurn.{can_open, openings_carry}
-use Rattle.split_opening_laws.proofs.sections.OpenedRows.{vertices_are}
 use Rattle.split_laws.proofs.drawn.Drawn.{begins}
 use Rattle.split_laws.proofs.volumes.Split as split
-use Rattle.euler_laws.proofs.Common.{listed_front}
-use Rattle.undo_journal.specs.Machine.{Machine, held}
-use Rattle.plane_split.specs.SplitModels.{IsSplit}
-use Rattle.convex_laws.specs.Convex.{IsVertexOf, LiesBelow, SplitsStayBelow}
 use Rattle.command_laws.proofs.Inner.{AgreeBut}
-use Rattle.command_laws.proofs.OnFaces.{loop_in_face, vertex_there}
-use Rattle.command_laws.proofs.Owners.{Agree, OnSolid, agree_on, half_is_on, has_owner, is_either, is_of, owner_is, solid_of_vertex, vertex_kept}
 use Rattle.convex_laws.proofs.Levels.{divided_low}
 use Rattle.command_laws.proofs.splits_laws.DrawnWithin.{drawings_within}
 use Rattle.command_laws.proofs.splits_laws.PartedWithin.{holes_keep, holes_within, opened_within, part_keeps}

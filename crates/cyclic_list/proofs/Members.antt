@@ -1,9 +1,6 @@
 -- What stands in lists that are made of others, and how many items they have.
-use Rattle.std.proofs.Common.{◌≡◌, ◌≢◌, ℕ, zero, suc, ◌+◌, ◌≤◌, ◌<◌, Bool, true, List, [], ◌∷◌, ◌++◌, map, length, refl, ap, arith, ◌⊎◌, inl, inr, filter, length-append}
+use Rattle.cyclic_list.proofs.Prelude.{◌≡◌, ◌≢◌, ℕ, zero, suc, ◌+◌, ◌≤◌, ◌<◌, Bool, true, List, [], ◌∷◌, ◌++◌, map, length, refl, ap, arith, ◌⊎◌, inl, inr, filter, length-append, and_from, eqb_tells, count, IsIn, IsApart, SameItems, head_or, before, after}
 use Rattle.std.specs.List.{list_all}
-use Rattle.std.proofs.lemmas.Bool.{and_from}
-use Rattle.std.proofs.lemmas.Bool.Decides.{eqb_tells}
-use Rattle.cyclic_list.specs.Items.{count, IsIn, IsApart, SameItems, head_or, before, after}
 use Rattle.cyclic_list.proofs.Lists.{tick_same, tick_other, count-append, split_at}
 use Rattle.cyclic_list.proofs.Rotations.{IsIn_head}
 use Rattle.cyclic_list.proofs.Maps.{from_map}

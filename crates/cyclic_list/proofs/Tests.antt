@@ -1,7 +1,6 @@
 -- What tests of numbers and sums of tests tell.
-use Rattle.std.proofs.Common.{◌≡◌, ◌≢◌, ℕ, suc, ◌<◌, ◌≤◌, ◌||◌, ◌&&◌, Bool, true, false, not, nat_eq, refl, sym, ◌∙◌, arith, ◌⊎◌, true≢false, nat_cmp, is_eq}
+use Rattle.cyclic_list.proofs.Prelude.{◌≡◌, ◌≢◌, ℕ, suc, ◌<◌, ◌≤◌, ◌||◌, ◌&&◌, Bool, true, false, not, nat_eq, refl, sym, ◌∙◌, arith, ◌⊎◌, true≢false, nat_cmp, is_eq, nat_tests}
 use mathlib.Core.Bool.{beq}
-use Rattle.std.proofs.lemmas.Bool.Decides.{nat_tests}
 
 -- ---- two tests
 

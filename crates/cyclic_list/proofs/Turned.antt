@@ -1,7 +1,5 @@
 -- A ring of three items or more, read backwards, is another ring.
-use Rattle.std.proofs.Common.{◌≡◌, ℕ, ◌≤◌, List, [], ◌∷◌, length, reverse, sym, ap, ◌∙◌, arith, refl}
-use Rattle.cyclic_list.specs.Items.{IsIn, IsApart, tick}
-use Rattle.cyclic_list.specs.Rings.{IsRotation, successor, predecessor}
+use Rattle.cyclic_list.proofs.Prelude.{◌≡◌, ℕ, ◌≤◌, List, [], ◌∷◌, length, reverse, sym, ap, ◌∙◌, arith, refl, IsIn, IsApart, tick, IsRotation, successor, predecessor}
 use Rattle.cyclic_list.proofs.Lists.{tick_same, tick_other}
 use Rattle.cyclic_list.proofs.Rings.{successor_inner, successor_same, predecessor-successor}
 use Rattle.cyclic_list.proofs.Maps.{successor-reverse}

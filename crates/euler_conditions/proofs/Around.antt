@@ -1,11 +1,6 @@
 -- A walk round a loop whose half-edges have their mates in some faces.
-use Rattle.std.proofs.Common.{◌≡◌, ◌≢◌, ℕ, ◌+◌, true, List, [], ◌∷◌, ◌++◌, ap, ◌∙◌, arith, inl, inr}
-use Rattle.std.proofs.lemmas.Bool.Decides.{eqb_tells}
-use Rattle.euler_operators.specs.Common.{IsIn, IsRotation, mate, Model, items_of, content, after, Sound, lists, face_at}
-use Rattle.euler_operators.proofs.Common.{count-append, tick_other, IsRotation-same}
-use Rattle.euler_laws.proofs.Common.{steps, Round}
+use Rattle.euler_conditions.proofs.Prelude.{◌≡◌, ◌≢◌, ℕ, ◌+◌, true, List, [], ◌∷◌, ◌++◌, ap, ◌∙◌, arith, inl, inr, eqb_tells, IsIn, IsRotation, mate, Model, items_of, content, after, Sound, lists, face_at, count-append, tick_other, IsRotation-same, steps, Round, StaysIn}
 use Rattle.euler_laws.proofs.shared.Rounds as rounds
-use Rattle.euler_conditions.specs.Parts.{StaysIn}
 
 -- the walk round loop l from its item first on has come to h, and all before stay in
 pub record HalfRound (M : Model) (fs : List ℕ) (l first h n : ℕ) : Type 0 where

@@ -1,17 +1,7 @@
 -- Edges between listed faces and others.
-use Rattle.std.proofs.Common.{◌≡◌, ◌≢◌, ℕ, ◌≤◌, Bool, true, false, cond, not, nat_eq, ◌||◌, List, [], ◌∷◌, ◌++◌, length, append_assoc, Some, None, Ok, Err, is_some, refl, sym, ap, subst, ◌∙◌, arith, true≢false, ◌⊎◌, inl, inr, ne_eqb, eq-eqb}
-use Rattle.std.proofs.lemmas.Bool.Decides.{nat_tests}
-use Rattle.std.proofs.lemmas.Bool.{not-true, false_from_ne_true}
-use Rattle.euler_operators.specs.Common.{IsIn, code, mate, edge_of, plus, minus, HalfEdge, Model, EdgeRow, LoopContent, lone, cycle, items_of, content, face_of, outer, loop_of, faces_of, is_ring_of, Sound, Has, HasHalf, Condition, AllHold, conditions, first_false, need, never, first_refusal, verdict, numbers_in_range, faces_known, faces_in, lists, strictly_rises, is_empty, is_bad_part, face_at, torn_edge, differ, has_rings}
+use Rattle.euler_conditions.proofs.Prelude.{◌≡◌, ◌≢◌, ℕ, ◌≤◌, Bool, true, false, cond, not, nat_eq, ◌||◌, List, [], ◌∷◌, ◌++◌, length, append_assoc, Some, None, Ok, Err, is_some, refl, sym, ap, subst, ◌∙◌, arith, true≢false, ◌⊎◌, inl, inr, ne_eqb, eq-eqb, nat_tests, not-true, false_from_ne_true, IsIn, code, mate, edge_of, plus, minus, HalfEdge, Model, EdgeRow, LoopContent, lone, cycle, items_of, content, face_of, outer, loop_of, faces_of, is_ring_of, Sound, Has, HasHalf, Condition, AllHold, conditions, first_false, need, never, first_refusal, verdict, numbers_in_range, faces_known, faces_in, lists, strictly_rises, is_empty, is_bad_part, face_at, torn_edge, differ, has_rings, plus_row, minus_row, mate_plus, mate_minus, in-holds, holds_in, loop_there, first_where_zero, zero_first_where, row_some, Tells, IsNextRing, Refusal, NoSolid, SolidTaken, BadPart, Part, halves_of_edge, outer_or_ring, all_hold, all_hold-back, verdict_passed, no_rings_means, face_there, all_where-rises, passes_listed, all_listed, faces_known-there, listed_in_solid, StaysIn, FaceLeadsOut, FaceStaysIn, AreFacesOf, parts_known}
 use Rattle.euler_operators.specs.declared.Content.TheVariants as Content
 use Rattle.euler_operators.specs.Table as table
-use Rattle.euler_operators.proofs.Common.{plus_row, minus_row, mate_plus, mate_minus, in-holds, holds_in, loop_there, first_where_zero, zero_first_where, row_some}
-use Rattle.halfedge_arena.specs.Store.{Tells, IsNextRing}
-use Rattle.euler_operators.specs.declared.Refusal.{Refusal}
-use Rattle.euler_operators.specs.declared.Why.TheVariants.{NoSolid, SolidTaken, BadPart}
-use Rattle.euler_operators.specs.declared.Op.TheVariants.{Part}
-use Rattle.euler_laws.proofs.Common.{halves_of_edge, outer_or_ring, all_hold, all_hold-back, verdict_passed, no_rings_means, face_there, all_where-rises, passes_listed, all_listed, faces_known-there, listed_in_solid}
-use Rattle.euler_conditions.specs.Parts.{StaysIn, FaceLeadsOut, FaceStaysIn, AreFacesOf, parts_known}
 use Rattle.euler_conditions.proofs.Orders.{part_refuses, part_holds}
 
 pub ring_has : (c : LoopContent) (h : HalfEdge) → Tells c (Content.Ring h) → IsIn (code h) (items_of c)

@@ -1,9 +1,6 @@
 -- Half-edges of codes, and the code of a mate.
-use Rattle.std.proofs.Common.{◌≡◌, ◌≢◌, ℕ, ◌+◌, ◌*◌, ◌/◌, ◌%◌, ◌^◌, ◌≤◌, ap, sym, ◌∙◌, arith, inl, inr, bit_xor}
-use Rattle.std.proofs.lemmas.Bool.Decides.{nat_tests}
+use Rattle.euler_conditions.proofs.Prelude.{◌≡◌, ◌≢◌, ℕ, ◌+◌, ◌*◌, ◌/◌, ◌%◌, ◌^◌, ◌≤◌, ap, sym, ◌∙◌, arith, inl, inr, bit_xor, nat_tests, HalfEdge, code, half, edge_of, mate, Model, is_number, Sound, HasHalf, edge_of-code, code-half, mate_cases, number_fits}
 use Rattle.std.proofs.lemmas.Nat.{xor_block, xor_comm}
-use Rattle.euler_operators.specs.Common.{HalfEdge, code, half, edge_of, mate, Model, is_number, Sound, HasHalf}
-use Rattle.euler_operators.proofs.Common.{edge_of-code, code-half, mate_cases, number_fits}
 
 -- an edge that is there has a number in range
 pub edge_fits : (M : Model) → Sound M → (h : HalfEdge) → HasHalf M (code h) → h.edge ≤ 1000000

@@ -1,11 +1,7 @@
 -- What a sound model has: the things that its half-edges name.
-use Rattle.std.proofs.Common.{◌≡◌, ◌≢◌, ℕ, ◌/◌, Bool, true, false, cond, not, nat_eq, ◌&&◌, [], refl, sym, ap, ◌∙◌, arith}
+use Rattle.euler_conditions.proofs.Prelude.{◌≡◌, ◌≢◌, ℕ, ◌/◌, Bool, true, false, cond, not, nat_eq, ◌&&◌, [], refl, sym, ap, ◌∙◌, arith, nat_tests, HalfEdge, code, edge_of, mate, Model, cycle, content, loop_of, tail, Sound, Has, HasHalf, leads_to, lesser, edge_of-code, edge_of-mate, number_real, loop_there}
 use mathlib.Core.Bool.{beq}
-use Rattle.std.proofs.lemmas.Bool.Decides.{nat_tests}
-use Rattle.euler_operators.specs.Common.{HalfEdge, code, edge_of, mate, Model, cycle, content, loop_of, tail, Sound, Has, HasHalf}
 use Rattle.euler_operators.specs.Table as table
-use Rattle.euler_conditions.specs.Ends.{leads_to, lesser}
-use Rattle.euler_operators.proofs.Common.{edge_of-code, edge_of-mate, number_real, loop_there}
 
 pub in_a_loop : (M : Model) → Sound M → (x : ℕ) → HasHalf M x → loop_of M x ≢ 0
 in_a_loop M sound x t = number_real _ (sound.loops_fit _ (loop_there M sound x t))

@@ -1,3 +1,4 @@
+mod Prelude
 pub mod Known
 pub mod Coded
 pub mod Orders

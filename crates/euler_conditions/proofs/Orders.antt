@@ -1,8 +1,5 @@
 -- The first refusal of conditions that are tested part by part.
-use Rattle.std.proofs.Common.{◌≡◌, Bool, true, false, cond, List, [], ◌∷◌, ◌++◌, Option, Some, None, Ok, Err, refl, ap, ◌∙◌}
-use Rattle.euler_operators.specs.declared.Refusal.{Refusal}
-use Rattle.euler_operators.specs.Common.{Condition, first_refusal, verdict}
-use Rattle.euler_conditions.specs.Answer.{answer}
+use Rattle.euler_conditions.proofs.Prelude.{◌≡◌, Bool, true, false, cond, List, [], ◌∷◌, ◌++◌, Option, Some, None, Ok, Err, refl, ap, ◌∙◌, Refusal, Condition, first_refusal, verdict, answer}
 
 -- a condition in front of others: a refusal, its own or one behind it, stays where more follows; where all hold, what follows is left
 refused_before : (b : Bool) (r e : Refusal) (x y : Option Refusal) → (verdict x ≡ Err e → verdict y ≡ Err e) → verdict (cond b x (Some r)) ≡ Err e → verdict (cond b y (Some r)) ≡ Err e

@@ -1,12 +1,6 @@
 -- The walk round one end of an edge meets every edge beside it.
-use Rattle.std.proofs.Common.{◌≡◌, ◌≢◌, ℕ, ◌+◌, ◌≤◌, Bool, true, false, cond, not, nat_eq, ◌&&◌, ◌||◌, List, [], ◌∷◌, ◌++◌, length, Some, is_some, refl, sym, ap, subst, ◌∙◌, arith, ◌⊎◌, inl, inr, eq-eqb, eqb-true}
-use Rattle.std.proofs.lemmas.Bool.Decides.{nat_tests, eqb_tells}
-use Rattle.std.proofs.lemmas.Bool.{and_parts, and_from, or_left, or_right, or_cases, not-true}
-use Rattle.euler_operators.specs.Common.{count, IsIn, rotate_to, walk_to, orbit, mate, edge_of, plus, minus, first_where, Model, EdgeRow, tail, after, round, Sound, HasHalf, parallel}
-use Rattle.euler_operators.proofs.Common.{count-append, tick_same, orbit_from, count-rotate_to, walk_done, walk_on, walk_over, plus_row, minus_row, mate_plus, mate_minus, mate-mate, edge_of-mate, plus_tail_row, minus_tail_row, first_where_zero, row_some, IsIn_push, length_below}
+use Rattle.euler_conditions.proofs.Prelude.{◌≡◌, ◌≢◌, ℕ, ◌+◌, ◌≤◌, Bool, true, false, cond, not, nat_eq, ◌&&◌, ◌||◌, List, [], ◌∷◌, ◌++◌, length, Some, is_some, refl, sym, ap, subst, ◌∙◌, arith, ◌⊎◌, inl, inr, eq-eqb, eqb-true, nat_tests, eqb_tells, and_parts, and_from, or_left, or_right, or_cases, not-true, count, IsIn, rotate_to, walk_to, orbit, mate, edge_of, plus, minus, first_where, Model, EdgeRow, tail, after, round, Sound, HasHalf, parallel, count-append, tick_same, orbit_from, count-rotate_to, walk_done, walk_on, walk_over, plus_row, minus_row, mate_plus, mate_minus, mate-mate, edge_of-mate, plus_tail_row, minus_tail_row, first_where_zero, row_some, IsIn_push, length_below, Fan, fan_of, halves_of_edge, steps, half_below, first_where_least, leads_to, lesser}
 use Rattle.euler_operators.specs.Table as table
-use Rattle.euler_laws.proofs.Common.{Fan, fan_of, halves_of_edge, steps, half_below, first_where_least}
-use Rattle.euler_conditions.specs.Ends.{leads_to, lesser}
 
 -- ---- what the walk has found
 

@@ -1,8 +1,5 @@
 -- The only face of a solid.
-use Rattle.std.proofs.Common.{◌≡◌, ℕ, nat_eq, List, [], ◌∷◌, Some, is_some, ap, ◌∙◌}
-use Rattle.euler_operators.specs.Common.{Model, faces_of, Has, lists}
-use Rattle.halfedge_arena.specs.Store.{only_item}
-use Rattle.euler_laws.proofs.Common.{first_listed, listed_passes}
+use Rattle.euler_conditions.proofs.Prelude.{◌≡◌, ℕ, nat_eq, List, [], ◌∷◌, Some, is_some, ap, ◌∙◌, Model, faces_of, Has, lists, only_item, first_listed, listed_passes}
 
 pub one_face : (fs : List ℕ) (f : ℕ) → only_item fs ≡ Some f → fs ≡ f ∷ []
 one_face [] f e = cc

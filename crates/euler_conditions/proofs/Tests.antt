@@ -1,9 +1,6 @@
 -- What conditions that are tested one after another answer: a direct term for each goal of a check.
-use Rattle.std.proofs.Common.{◌≡◌, ◌≢◌, ℕ, Bool, true, false, cond, not, nat_eq, List, [], ◌∷◌, Option, Some, None, Result, Ok, Err, refl, ap, ne_eqb, eq-eqb}
-use Rattle.euler_operators.specs.declared.Refusal.{Refusal}
+use Rattle.euler_conditions.proofs.Prelude.{◌≡◌, ◌≢◌, ℕ, Bool, true, false, cond, not, nat_eq, List, [], ◌∷◌, Option, Some, None, Result, Ok, Err, refl, ap, ne_eqb, eq-eqb, Refusal, Condition, first_refusal, verdict, answer}
 use Rattle.euler_operators.specs.declared.Why.{Why}
-use Rattle.euler_operators.specs.Common.{Condition, first_refusal, verdict}
-use Rattle.euler_conditions.specs.Answer.{answer}
 use Rattle.euler_conditions.proofs.Orders.{held_before}
 
 -- a refusal as a check answers it

@@ -1,8 +1,5 @@
 -- Every operator keeps a sound model sound, and its inverse is accepted after it and takes it back: by cases.
-use Rattle.std.proofs.Common.{◌≡◌, None}
-use Rattle.euler_operators.specs.Common.{Model, Sound, first_false, effect, inverse}
-use Rattle.euler_operators.specs.declared.Op.{Op}
-use Rattle.euler_operators.specs.declared.Op.TheVariants.{Mvfs, Kvfs, Mev, Kev, Mef, Kef, Kemr, Mekr, Kfmrh, Mfkrh, RingIn, RingOut, Outer, Merge, Part}
+use Rattle.euler_laws.proofs.Prelude.{◌≡◌, None, Model, Sound, first_false, effect, inverse, Op, Mvfs, Kvfs, Mev, Kev, Mef, Kef, Kemr, Mekr, Kfmrh, Mfkrh, RingIn, RingOut, Outer, Merge, Part}
 use Rattle.euler_laws.proofs.shared.Lawful.{IsLawful}
 use Rattle.euler_laws.proofs.kev.Kev.{mev_lawful, kev_lawful}
 use Rattle.euler_laws.proofs.mef.Kef.{mef_lawful, kef_lawful}

@@ -1,12 +1,7 @@
 -- What each operator adds to vertices less edges plus faces less rings.
-use Rattle.std.proofs.Common.{◌≡◌, ℕ, List, pos, neg_ℤ, ◌+ℤ◌, ◌+◌, ◌*◌, None, subst, arith}
+use Rattle.euler_laws.proofs.Prelude.{◌≡◌, ℕ, List, pos, neg_ℤ, ◌+ℤ◌, ◌+◌, ◌*◌, None, subst, arith, Point, HalfEdge, Corner, At, Lone, code, edge_of, Model, Sound, first_false, effect, inverse, mvfs, mev_at, mev_lone, mef, kemr, mfkrh, ring_in, ring_out, take_outer, merge, part, loop_to_face, face_to_outer, Op, Mvfs, Kvfs, Mev, Kev, Mef, Kef, Kemr, Mekr, Kfmrh, Mfkrh, RingIn, RingOut, Outer, Merge, Part, row_some, size, euler_number, growth}
 use Rattle.std.proofs.lemmas.Int.{ints}
-use Rattle.euler_operators.specs.Common.{Point, HalfEdge, Corner, At, Lone, code, edge_of, Model, Sound, first_false, effect, inverse, mvfs, mev_at, mev_lone, mef, kemr, mfkrh, ring_in, ring_out, take_outer, merge, part, loop_to_face, face_to_outer}
 use Rattle.euler_operators.specs.Table as table
-use Rattle.euler_operators.specs.declared.Op.{Op}
-use Rattle.euler_operators.specs.declared.Op.TheVariants.{Mvfs, Kvfs, Mev, Kev, Mef, Kef, Kemr, Mekr, Kfmrh, Mfkrh, RingIn, RingOut, Outer, Merge, Part}
-use Rattle.euler_operators.proofs.Common.{row_some}
-use Rattle.euler_laws.specs.Laws.{size, euler_number, growth}
 use Rattle.euler_laws.proofs.mev.Mev.{mev_goes, lone_goes, mixed_first, mixed_second}
 use Rattle.euler_laws.proofs.mef.Mef.{mef_goes}
 use Rattle.euler_laws.proofs.kemr.Kemr.{kemr_goes}

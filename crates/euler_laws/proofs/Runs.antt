@@ -1,8 +1,5 @@
 -- Lists of operators, each accepted in its turn, and their inverses.
-use Rattle.std.proofs.Common.{◌≡◌, List, [], ◌∷◌, ◌++◌, None, refl, sym, ap, subst, ◌∙◌}
-use Rattle.euler_operators.specs.Common.{Model, Sound, first_false, effect, inverse}
-use Rattle.euler_operators.specs.declared.Op.{Op}
-use Rattle.euler_laws.specs.Laws.{IsAccepted, effects, AreAccepted, inverses}
+use Rattle.euler_laws.proofs.Prelude.{◌≡◌, List, [], ◌∷◌, ◌++◌, None, refl, sym, ap, subst, ◌∙◌, Model, Sound, first_false, effect, inverse, Op, IsAccepted, effects, AreAccepted, inverses}
 use Rattle.euler_laws.proofs.Cases.{effect_keeps_sound, inverse_goes, inverse_undoes}
 
 pub effects-append : (M : Model) (ops more : List Op) → effects M (ops ++ more) ≡ effects (effects M ops) more

@@ -1,11 +1,7 @@
 -- How many rows tables have after a change, and how many rings a sound model has.
-use Rattle.std.proofs.Common.{◌≡◌, ◌≢◌, ℕ, suc, ◌+◌, ◌≤◌, ◌<◌, Bool, true, cond, not, nat_eq, nat_lt, List, [], ◌∷◌, length, Some, None, is_some, refl, sym, ap, ◌∙◌, arith, true≢false, option_map, nat_cmp, eq-eqb, eqb-true}
+use Rattle.euler_laws.proofs.Prelude.{◌≡◌, ◌≢◌, ℕ, suc, ◌+◌, ◌≤◌, ◌<◌, Bool, true, cond, not, nat_eq, nat_lt, List, [], ◌∷◌, length, Some, None, is_some, refl, sym, ap, ◌∙◌, arith, true≢false, option_map, nat_cmp, eq-eqb, eqb-true, and_parts, Table, put, remove, get, map_rows, map_entries, get-map_rows, all_where, all_in, Model, LoopRow, face_of, outer, Sound, Has, lists, strictly_rises, IsIn, face_row, row_some, size, all_rings}
 use Rattle.std.specs.Cmp.{nat_cmp_total}
 use Rattle.std.specs.FinMap.Entries as entries
-use Rattle.std.proofs.lemmas.Bool.{and_parts}
-use Rattle.euler_operators.specs.Common.{Table, put, remove, get, map_rows, map_entries, get-map_rows, all_where, all_in, Model, LoopRow, face_of, outer, Sound, Has, lists, strictly_rises, IsIn}
-use Rattle.euler_operators.proofs.Common.{face_row, row_some}
-use Rattle.euler_laws.specs.Laws.{size, all_rings}
 use Rattle.euler_laws.proofs.shared.Listed.{listed_passes, passes_listed, all_where-rises, first_listed, rest_listed, listed-from_in}
 
 -- ---- rows put, taken away and rewritten

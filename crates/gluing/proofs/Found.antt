@@ -1,9 +1,5 @@
 -- A search for the half-edge of a face's outer loop that starts at a point.
-use Rattle.std.proofs.Common.{◌≡◌, ℕ, Bool, true, false, List, [], ◌∷◌, Option, Some, None, is_some, refl, arith, option_map}
-use Rattle.std.proofs.lemmas.Bool.Decides.{eqb_tells}
-use Rattle.euler_operators.specs.Common.{IsIn, Model, LoopContent, lone, cycle, items_of, content, outer, Sound, HasHalf, is_lone}
-use Rattle.euler_operators.proofs.Common.{tick_other, in-holds}
-use Rattle.shapes.specs.Common.{first_such, rim}
+use Rattle.gluing.proofs.Prelude.{◌≡◌, ℕ, Bool, true, false, List, [], ◌∷◌, Option, Some, None, is_some, refl, arith, option_map, eqb_tells, IsIn, Model, LoopContent, lone, cycle, items_of, content, outer, Sound, HasHalf, is_lone, tick_other, in-holds, first_such, rim}
 
 pub rim_held : (c : LoopContent) (h : ℕ) → IsIn h (items_of c) → is_lone c ≡ false
 rim_held (lone v) h i = absurd (omega (arith, i))

@@ -1,16 +1,6 @@
 -- Two faces that are being glued: the items that are left, what stands beside the next one, and what its steps make.
-use Rattle.std.proofs.Common.{◌≡◌, ◌≢◌, ℕ, ◌+◌, ◌<◌, List, [], ◌∷◌, ◌++◌, length, None, refl, sym, ap, ◌∙◌, subst, arith, map, reverse, append_assoc, length-append}
-use Rattle.std.proofs.lemmas.List.{length-map, length-reverse}
-use Rattle.euler_operators.specs.Common.{IsIn, IsApart, head_or, last_or, canonical, tick, successor, predecessor, mate, half, Model, outer, cycle_of, Sound, HasHalf, first_false}
-use Rattle.euler_operators.proofs.Common.{count-append, tick_same, canonical-rotates, length-canonical, successor_head, successor_same, predecessor_head, predecessor_same, last_or_push, IsIn_last, reverse-cons, count-reverse}
+use Rattle.gluing.proofs.Prelude.{◌≡◌, ◌≢◌, ℕ, ◌+◌, ◌<◌, List, [], ◌∷◌, ◌++◌, length, None, refl, sym, ap, ◌∙◌, subst, arith, map, reverse, append_assoc, length-append, length-map, length-reverse, IsIn, IsApart, head_or, last_or, canonical, tick, successor, predecessor, mate, half, Model, outer, cycle_of, Sound, HasHalf, first_false, count-append, tick_same, canonical-rotates, length-canonical, successor_head, successor_same, predecessor_head, predecessor_same, last_or_push, IsIn_last, reverse-cons, count-reverse, Op, Kef, effects, AreAccepted, effects_keep_sound, Around, half_is, cycle_is, apart_xs, rim, partner, glue_ops, fresh_edge, closing, closings, seam, glued_part, DraftJournal, after_step, after_steps, step_after, steps_after, steps_make}
 use Rattle.euler_operators.specs.Model as model
-use Rattle.euler_operators.specs.declared.Op.{Op}
-use Rattle.euler_operators.specs.declared.Op.TheVariants.{Kef}
-use Rattle.euler_laws.specs.Laws.{effects, AreAccepted}
-use Rattle.euler_laws.proofs.Common.{effects_keep_sound, Around, half_is, cycle_is, apart_xs}
-use Rattle.shapes.specs.Common.{rim, partner, glue_ops, fresh_edge, closing, closings, seam, glued_part}
-use Rattle.undo_journal.specs.Journal.{DraftJournal, after_step, after_steps}
-use Rattle.undo_journal.proofs.Marks.{step_after, steps_after, steps_make}
 use Rattle.gluing_laws.proofs.glue.Stages.{Stage, around_l}
 use Rattle.gluing_laws.proofs.glue.Turn.{turn_accepted, turn_is}
 use Rattle.gluing_laws.proofs.glue.Ending.{ending_ok}

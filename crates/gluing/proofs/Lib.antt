@@ -1,3 +1,4 @@
+mod Prelude
 pub mod glue_checks_laws
 mod Found
 mod Remaining

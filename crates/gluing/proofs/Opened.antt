@@ -1,19 +1,9 @@
 -- Before two faces are glued: the first item of the one, and the half-edge of the other that starts where it does. And what opens
 -- the seam.
-use Rattle.std.proofs.Common.{◌≡◌, ◌≢◌, ℕ, ◌≤◌, Bool, true, false, List, [], ◌∷◌, ◌++◌, refl, sym, ap, ◌∙◌, subst, arith, None, unwrap_or}
-use Rattle.euler_operators.specs.Common.{Point, same_point, IsIn, head_or, last_or, Model, items_of, content, outer, point_of, Sound, Has, is_lone}
-use Rattle.euler_operators.proofs.Common.{last_or_push, IsIn_last, number_fits, half_number}
-use Rattle.euler_operators.specs.declared.Op.{Op}
-use Rattle.euler_laws.specs.Laws.{effects, AreAccepted}
-use Rattle.euler_laws.proofs.Common.{effects_keep_sound}
-use Rattle.shapes.specs.Common.{start, finish, first_such, rim, partner, glue_refusal, fresh_edge, opening, closings, glue_ops, glued_part}
-use Rattle.undo_journal.specs.Journal.{DraftJournal, after_steps}
-use Rattle.undo_journal.proofs.Marks.{steps_make}
+use Rattle.gluing.proofs.Prelude.{◌≡◌, ◌≢◌, ℕ, ◌≤◌, Bool, true, false, List, [], ◌∷◌, ◌++◌, refl, sym, ap, ◌∙◌, subst, arith, None, unwrap_or, Point, same_point, IsIn, head_or, last_or, Model, items_of, content, outer, point_of, Sound, Has, is_lone, last_or_push, IsIn_last, number_fits, half_number, Op, effects, AreAccepted, effects_keep_sound, start, finish, first_such, rim, partner, glue_refusal, fresh_edge, opening, closings, glue_ops, glued_part, DraftJournal, after_steps, steps_make, Facing, same_is, item_at}
 use Rattle.shapes.proofs.glue.Facing as facing
-use Rattle.shapes.proofs.Common.{Facing, same_is}
 use Rattle.shapes.proofs.glue.Facts as facts
 use Rattle.gluing_laws.proofs.glue.Opening.{opening_accepted, opening_is}
-use Rattle.gluing.specs.Rims.{item_at}
 use Rattle.gluing.proofs.Joined.{Joining, Halfway}
 
 -- a number that a search finds passes its test

@@ -1,12 +1,5 @@
 -- Operators that are still to be taken.
-use Rattle.std.proofs.Common.{◌≡◌, ℕ, List, [], ◌∷◌, refl, sym, ap, ◌∙◌, subst}
-use Rattle.euler_operators.specs.Common.{HalfEdge, At, code, half, mate, plus, minus, Model, solid_of}
-use Rattle.euler_operators.proofs.Common.{half-code}
-use Rattle.euler_operators.specs.declared.Op.{Op}
-use Rattle.euler_operators.specs.declared.Op.TheVariants.{Merge, Kfmrh, Mekr, Kev, Mef, Kef}
-use Rattle.euler_laws.specs.Laws.{effects, AreAccepted}
-use Rattle.euler_laws.proofs.Common.{Leads}
-use Rattle.shapes.specs.Common.{opening, closing}
+use Rattle.gluing.proofs.Prelude.{◌≡◌, ℕ, List, [], ◌∷◌, refl, sym, ap, ◌∙◌, subst, HalfEdge, At, code, half, mate, plus, minus, Model, solid_of, half-code, Op, Merge, Kfmrh, Mekr, Kev, Mef, Kef, effects, AreAccepted, Leads, opening, closing}
 
 -- ---- the operators of a glue, as half-edges are written in the code
 

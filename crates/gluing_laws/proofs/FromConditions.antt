@@ -1,10 +1,6 @@
 -- What the conditions of a glue say, and the laws.
-use Rattle.std.proofs.Common.{◌≡◌, ◌≢◌, ℕ, ◌+ℤ◌, None, ap, sym, ◌∙◌, map, reverse}
-use Rattle.euler_operators.specs.Common.{Model, solid_of, Sound, count}
-use Rattle.euler_operators.proofs.Common.{count-canonical, count-reverse}
-use Rattle.shapes.specs.Common.{six_volume, rim, glue_refusal, partner, glue_model}
+use Rattle.gluing_laws.proofs.Prelude.{◌≡◌, ◌≢◌, ℕ, ◌+ℤ◌, None, ap, sym, ◌∙◌, map, reverse, Model, solid_of, Sound, count, count-canonical, count-reverse, six_volume, rim, glue_refusal, partner, glue_model, facing}
 use Rattle.shapes.proofs.glue.Facts as facts
-use Rattle.shapes.proofs.glue.Facts.{facing}
 use Rattle.gluing_laws.proofs.glue.Ending.{glued_all, glued_along_is}
 use Rattle.gluing_laws.proofs.Seams.{Seamed, Glued}
 use Rattle.gluing_laws.proofs.Measures.{solids_add, others_stay}

@@ -1,3 +1,4 @@
+mod Prelude
 pub mod glue
 pub mod Listed
 pub mod Seams

@@ -1,8 +1,6 @@
 -- How often a number stands in what a search lists. The volumes of lists of faces are passed on.
-use Rattle.std.proofs.Common.{◌≡◌, ℕ, Bool, true, cond, List, Option, Some, None, sym, ◌∙◌, arith}
-use Rattle.euler_operators.specs.Common.{count, SameItems, Table, lists, strictly_rises}
+use Rattle.gluing_laws.proofs.Prelude.{◌≡◌, ℕ, Bool, true, cond, List, Option, Some, None, sym, ◌∙◌, arith, count, SameItems, Table, lists, strictly_rises, listed_passes, listed_as, all_where-rises, IsIn-from_listed, listed-from_in, within, counted_once, none_counted}
 use Rattle.euler_operators.specs.Table as table
-use Rattle.euler_laws.proofs.Common.{listed_passes, listed_as, all_where-rises, IsIn-from_listed, listed-from_in, within, counted_once, none_counted}
 pub use Rattle.shapes.proofs.measures.Sums.{volume_of, volume_append, volume_same, same_volumes}
 
 -- ---- lists

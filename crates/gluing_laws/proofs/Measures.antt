@@ -1,12 +1,7 @@
 -- The glued solid: its other faces measure what they did, and the two that go added nothing together.
-use Rattle.std.proofs.Common.{◌≡◌, ◌≢◌, ℕ, true, false, cond, nat_eq, Bool, List, [], ◌∷◌, Option, Some, None, unwrap_or, refl, sym, ap, ◌∙◌, arith, inl, ◌+◌, ℤ, pos, ◌+ℤ◌, neg_ℤ, ◌++◌, map, is_some, true≢false, ◌⊎◌, option_map, ne_eqb, eq-eqb, eqb-true}
-use Rattle.std.proofs.lemmas.Bool.Decides.{nat_tests, eqb_tells}
-use Rattle.euler_operators.specs.Common.{dot, count, IsIn, head_or, SameItems, successor, Table, tables, get-map_rows, Model, lone, cycle, FaceRow, LoopRow, no_face, no_loop, items_of, tail, content, face_of, outer, solid_of, point_of, rings_of, faces_of, after, Has, lists, faces_to_solid, mate}
-use Rattle.euler_operators.proofs.Common.{tick_same, tick_other, count-append, canonical_nil, IsIn_head, in-holds, face_row, item_loop, IsIn_some_head, IsIn_successor, moved_none, none_added}
+use Rattle.gluing_laws.proofs.Prelude.{◌≡◌, ◌≢◌, ℕ, true, false, cond, nat_eq, Bool, List, [], ◌∷◌, Option, Some, None, unwrap_or, refl, sym, ap, ◌∙◌, arith, inl, ◌+◌, ℤ, pos, ◌+ℤ◌, neg_ℤ, ◌++◌, map, is_some, true≢false, ◌⊎◌, option_map, ne_eqb, eq-eqb, eqb-true, nat_tests, eqb_tells, dot, count, IsIn, head_or, SameItems, successor, Table, tables, get-map_rows, Model, lone, cycle, FaceRow, LoopRow, no_face, no_loop, items_of, tail, content, face_of, outer, solid_of, point_of, rings_of, faces_of, after, Has, lists, faces_to_solid, mate, tick_same, tick_other, count-append, canonical_nil, IsIn_head, in-holds, face_row, item_loop, IsIn_some_head, IsIn_successor, moved_none, none_added, listed-from_in, listed_passes, listed_as, face_there, solid_either, mapped_some, loop_row, start, items_in, loops_of, boundary, corners, finish, rewritten, rewritten_row, area, normal, anchor, first_vertex, is_flat, volume_in, six_volume, negated, AgreeOn, IsReplaced, face_of_loop, area-append, corner_told, area_same, area_opposed, dot_back, normal_agrees, renamed_not, replaced_area, rings_agree, volume_stays, volume_told}
 use Rattle.euler_operators.specs.Table as table
-use Rattle.euler_laws.proofs.Common.{listed-from_in, listed_passes, listed_as, face_there, solid_either, mapped_some, loop_row}
-use Rattle.shapes.specs.Common.{start, items_in, loops_of, boundary, corners, finish, rewritten, rewritten_row, area, normal, anchor, first_vertex, is_flat, volume_in, six_volume, negated}
-use Rattle.shapes.proofs.Common.{AgreeOn, IsReplaced, face_of_loop, area-append, corner_told, area_same, area_opposed, dot_back, normal_agrees, renamed_not, replaced_area, rings_agree, tail_in, volume_stays, volume_told}
+use Rattle.shapes.proofs.Common.{tail_in}
 use Rattle.gluing_laws.proofs.Listed.{one_if, passed, same_search, volume_of, count_where, volume_append, volume_same, same_volumes}
 use Rattle.gluing_laws.proofs.Seams as seams
 use Rattle.gluing_laws.proofs.Seams.{Seamed, Glued, Stays, side}

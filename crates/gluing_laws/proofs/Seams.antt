@@ -1,11 +1,6 @@
 -- Two faces of two solids along which these are glued: what follows in a sound model, and what the glued model holds.
-use Rattle.std.proofs.Common.{◌≡◌, ◌≢◌, ℕ, nat_eq, List, [], true, sym, ap, ◌∙◌, arith, ◌⊎◌, inl, inr, map, option_map}
-use Rattle.euler_operators.specs.Common.{IsIn, SameItems, count, mate, edge_of, Model, cycle, holds, tail, loop_of, content, face_of, solid_of, outer, rings_of, point_of, Sound, Has, HasHalf, StandsIn, faces_to_solid, get-map_rows}
-use Rattle.euler_operators.proofs.Common.{from_map, in-holds, mate_there, IsIn-map, IsIn_or_not, mate-mate, edge_of-mate, same_edge}
+use Rattle.gluing_laws.proofs.Prelude.{◌≡◌, ◌≢◌, ℕ, nat_eq, List, [], true, sym, ap, ◌∙◌, arith, ◌⊎◌, inl, inr, map, option_map, IsIn, SameItems, count, mate, edge_of, Model, cycle, holds, tail, loop_of, content, face_of, solid_of, outer, rings_of, point_of, Sound, Has, HasHalf, StandsIn, faces_to_solid, get-map_rows, from_map, in-holds, mate_there, IsIn-map, IsIn_or_not, mate-mate, edge_of-mate, same_edge, one_solid_round, start, finish, rewritten_row, renamed, without_rows, is_flat, renamed_tails, paired, renamed_cases, without_there, tail_renamed}
 use Rattle.euler_operators.specs.Table as table
-use Rattle.euler_laws.proofs.Common.{one_solid_round}
-use Rattle.shapes.specs.Common.{start, finish, rewritten_row, renamed, without_rows, is_flat, renamed_tails, paired}
-use Rattle.shapes.proofs.Common.{renamed_cases, without_there, tail_renamed}
 
 -- the items hs of f have partners, the items gs of g, which go back along them
 pub record Seamed (M : Model) (f g : ℕ) (partner_of : ℕ → ℕ) (hs gs : List ℕ) : Type 0 where

@@ -1,9 +1,7 @@
 -- Faces without rings.
-use Rattle.std.proofs.Common.{◌≡◌, ℕ, Bool, true, false, cond, not, nat_eq, ◌&&◌, List, [], ◌∷◌, length, Option, Some, None, is_some, unwrap_or, refl, sym, ap, arith, true≢false}
+use Rattle.halfedge_arena.proofs.Prelude.{◌≡◌, ℕ, Bool, true, false, cond, not, nat_eq, ◌&&◌, List, [], ◌∷◌, length, Option, Some, None, is_some, unwrap_or, refl, sym, ap, arith, true≢false, get, Model, LoopRow, face_of, outer, is_ring_of, rings_of, no_loop}
 use Rattle.boundary_model.proofs.Tables.{passes, count-all_where}
 use Rattle.boundary_model.specs.Items.{count}
-use Rattle.boundary_model.specs.Table.{get}
-use Rattle.boundary_model.specs.Model.{Model, LoopRow, face_of, outer, is_ring_of, rings_of, no_loop}
 
 -- where a face's rings are none, no loop is one
 pub no_ring : (M : Model) (f k : ℕ) → length (rings_of M f) ≡ 0 → is_ring_of M f k ≡ false

@@ -1,11 +1,6 @@
 -- The point where a segment meets a plane, put together from its coordinates.
-use Rattle.std.proofs.Common.{◌≡◌, Bool, true, false, cond, ℤ, pos, Some, None, refl, sym, ◌∙◌, arith, ◌-ℤ◌, ◌*ℤ◌, ◌&&◌, Option, int_div, int_rem, int_eq}
+use Rattle.lattice.proofs.Prelude.{◌≡◌, Bool, true, false, cond, ℤ, pos, Some, None, refl, sym, ◌∙◌, arith, ◌-ℤ◌, ◌*ℤ◌, ◌&&◌, Option, int_div, int_rem, int_eq, Point, Plane, is_coordinate, IsInRange, IsWithin, height, opposite, whole_quotient, cut_multiple, cut_point}
 use Rattle.std.specs.Cmp.Derive.{both_true}
-use Rattle.lattice.specs.declared.Point.{Point}
-use Rattle.lattice.specs.declared.Plane.{Plane}
-use Rattle.lattice.specs.Point.{is_coordinate, IsInRange}
-use Rattle.lattice.specs.Ranges.{IsWithin}
-use Rattle.lattice.specs.Vectors.{height, opposite, whole_quotient, cut_multiple, cut_point}
 use Rattle.lattice.proofs.Magnitudes.{fits, held, held_short, held_is, coordinate_is, coordinate_held}
 
 -- a coordinate that the code asked for

@@ -1,12 +1,5 @@
 -- Where a segment crosses a plane: heights of opposite signs, the same point from either end, and that it is in range.
-use Rattle.std.proofs.Common.{◌≡◌, ◌≢◌, ℕ, zero, suc, ◌+◌, ◌*◌, ◌/◌, ◌≤◌, true, false, ◌&&◌, ℤ, pos, negsuc, refl, sym, ap, subst, ◌∙◌, arith, ◌-ℤ◌, ◌*ℤ◌, neg_ℤ, unsigned_abs, int_div, int_eq}
-use Rattle.std.proofs.lemmas.Int.{ints}
-use Rattle.std.proofs.Math.Nat.{div-le_of_le-mul}
-use Rattle.lattice.specs.declared.Point.{Point}
-use Rattle.lattice.specs.declared.Plane.{Plane}
-use Rattle.lattice.specs.Point.{is_coordinate, IsInRange}
-use Rattle.lattice.specs.Ranges.{IsWithin}
-use Rattle.lattice.specs.Vectors.{opposite, are_opposite, same_point, cut_between}
+use Rattle.lattice.proofs.Prelude.{◌≡◌, ◌≢◌, ℕ, zero, suc, ◌+◌, ◌*◌, ◌/◌, ◌≤◌, true, false, ◌&&◌, ℤ, pos, negsuc, refl, sym, ap, subst, ◌∙◌, arith, ◌-ℤ◌, ◌*ℤ◌, neg_ℤ, unsigned_abs, int_div, int_eq, ints, div-le_of_le-mul, Point, Plane, is_coordinate, IsInRange, IsWithin, opposite, are_opposite, same_point, cut_between}
 use Rattle.lattice.proofs.Magnitudes.{coordinates, coordinate_within, product_within}
 
 -- ---- signs

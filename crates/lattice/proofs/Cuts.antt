@@ -1,14 +1,7 @@
 -- Where a segment meets a plane: how great the numbers are.
-use Rattle.std.proofs.Common.{◌≡◌, ℕ, ◌*◌, ◌≤◌, true, cond, ℤ, pos, Some, None, refl, sym, ap, subst, ◌∙◌, arith, ◌+ℤ◌, ◌-ℤ◌, ◌*ℤ◌, FitsSigned, unsigned_abs, int_div, int_rem, int_eq}
-use Rattle.std.specs.Int.{cast_signed, cast_unsigned}
-use Rattle.std.proofs.lemmas.Int.{to_z-of_z, fits_signed_from_abs, quot_is}
+use Rattle.lattice.proofs.Prelude.{◌≡◌, ℕ, ◌*◌, ◌≤◌, true, cond, ℤ, pos, Some, None, refl, sym, ap, subst, ◌∙◌, arith, ◌+ℤ◌, ◌-ℤ◌, ◌*ℤ◌, FitsSigned, unsigned_abs, int_div, int_rem, int_eq, cast_signed, cast_unsigned, to_z-of_z, fits_signed_from_abs, quot_is, Point, Plane, is_coordinate, IsInRange, IsWithin, IsCutPlane, height, opposite, whole_quotient}
 use lib.Signed.{mag_rem}
 use mir.Syntax.{w64, w128}
-use Rattle.lattice.specs.declared.Point.{Point}
-use Rattle.lattice.specs.declared.Plane.{Plane}
-use Rattle.lattice.specs.Point.{is_coordinate, IsInRange}
-use Rattle.lattice.specs.Ranges.{IsWithin, IsCutPlane}
-use Rattle.lattice.specs.Vectors.{height, opposite, whole_quotient}
 use Rattle.lattice.proofs.Crossings.{cut_within, quotient_within, within_coordinate}
 use Rattle.lattice.proofs.Magnitudes.{coordinates, coordinate_within, product_within, sum_within, fits, held, held_short, held_is, coordinate_is, IsExactWithin, difference_told}
 

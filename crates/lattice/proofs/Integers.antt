@@ -1,8 +1,7 @@
 -- Equations between sums and products of integers: each integer is read as a difference of two naturals, and `omega` compares these.
 --     difs          for `simp`: sums, differences and products of differences are differences
 --     dif-parts     an integer as a difference, for `rw`
-use Rattle.std.proofs.Common.{arith, ◌≡◌, ℕ, ◌+◌, ◌*◌, ℤ, pos, ◌+ℤ◌, ◌-ℤ◌, ◌*ℤ◌, neg_ℤ}
-use Rattle.std.proofs.lemmas.Int.{ints}
+use Rattle.lattice.proofs.Prelude.{arith, ◌≡◌, ℕ, ◌+◌, ◌*◌, ℤ, pos, ◌+ℤ◌, ◌-ℤ◌, ◌*ℤ◌, neg_ℤ, ints}
 use borrow.Author.Differences.{up, down, same_in, product_is}
 
 -- u - v

@@ -1,3 +1,4 @@
+mod Prelude
 pub mod Magnitudes
 pub mod Orders
 mod Cuts

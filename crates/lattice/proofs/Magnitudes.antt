@@ -1,14 +1,7 @@
 -- How great sums and products are, and that the code's are exact.
-use Rattle.std.proofs.Common.{◌≡◌, ℕ, ◌+◌, ◌*◌, ◌≤◌, true, ℤ, refl, sym, ap, subst, ◌∙◌, arith, ◌+ℤ◌, ◌-ℤ◌, ◌*ℤ◌, ◌&&◌, FitsSigned, unsigned_abs}
-use Rattle.std.specs.Int.{cast_signed, cast_unsigned}
-use Rattle.std.proofs.lemmas.Int.{ints, to_z-of_z, unsigned_abs-mul, fits_signed_from_abs}
+use Rattle.lattice.proofs.Prelude.{◌≡◌, ℕ, ◌+◌, ◌*◌, ◌≤◌, true, ℤ, refl, sym, ap, subst, ◌∙◌, arith, ◌+ℤ◌, ◌-ℤ◌, ◌*ℤ◌, ◌&&◌, FitsSigned, unsigned_abs, cast_signed, cast_unsigned, ints, to_z-of_z, unsigned_abs-mul, fits_signed_from_abs, mul-le-mul, Point, is_coordinate, IsInRange, IsWithin, IsVectorWithin, is_offset}
 use Rattle.std.proofs.lemmas.Bool.{and_parts}
-use Rattle.std.proofs.Math.Nat.{mul-le-mul}
 use mir.Syntax.{w32, w64, w128}
-use Rattle.lattice.specs.declared.Point.{Point}
-use Rattle.lattice.specs.Point.{is_coordinate, IsInRange}
-use Rattle.lattice.specs.Ranges.{IsWithin, IsVectorWithin}
-use Rattle.lattice.specs.Vectors.{is_offset}
 
 pub coordinate_within : (x : ℤ) → is_coordinate x ≡ true → IsWithin 1000000000 x
 coordinate_within x e = grind (arith, ints)

@@ -1,8 +1,5 @@
 -- A multiple of a number, divided by that number.
-use Rattle.std.proofs.Common.{◌≡◌, ◌≢◌, ℕ, ◌*◌, ◌%◌, ◌/◌, cond, ℤ, pos, negsuc, Some, None, refl, sym, ap, ◌∙◌, arith, ◌-ℤ◌, ◌*ℤ◌, neg_ℤ, zero, suc, unsigned_abs, int_div, int_rem, int_eq}
-use Rattle.std.proofs.lemmas.Int.{unsigned_abs-mul}
-use Rattle.std.proofs.Math.Nat.{mul-mod_left, mul-div_cancel, zero-div}
-use Rattle.lattice.specs.Vectors.{whole_quotient}
+use Rattle.lattice.proofs.Prelude.{◌≡◌, ◌≢◌, ℕ, ◌*◌, ◌%◌, ◌/◌, cond, ℤ, pos, negsuc, Some, None, refl, sym, ap, ◌∙◌, arith, ◌-ℤ◌, ◌*ℤ◌, neg_ℤ, zero, suc, unsigned_abs, int_div, int_rem, int_eq, unsigned_abs-mul, mul-mod_left, mul-div_cancel, zero-div, whole_quotient}
 use Rattle.lattice.proofs.Integers.{dif, dif-parts, difs, same_dif}
 
 nothing_left : (z w : ℤ) → unsigned_abs z % unsigned_abs w ≡ 0 → int_rem z w ≡ pos 0

@@ -1,8 +1,6 @@
 -- The order of points.
-use Rattle.std.proofs.Common.{◌≡◌, ℤ, int_cmp, Ordering, Less, Equal, Greater, refl, arith, int_lt, ◌&&◌, ◌||◌, is_lt, is_eq, is_gt, int_eq}
+use Rattle.lattice.proofs.Prelude.{◌≡◌, ℤ, int_cmp, Ordering, Less, Equal, Greater, refl, arith, int_lt, ◌&&◌, ◌||◌, is_lt, is_eq, is_gt, int_eq, Point, lex_less}
 use Rattle.std.specs.Ordering.{ordering_then}
-use Rattle.lattice.specs.declared.Point.{Point}
-use Rattle.lattice.specs.Vectors.{lex_less}
 
 pub less_is : (p q : Point) → is_lt (ordering_then (ordering_then (int_cmp p.x q.x) (int_cmp p.y q.y)) (int_cmp p.z q.z)) ≡ lex_less p q
 less_is p q = grind (arith)

@@ -1,7 +1,5 @@
 -- A rectangle with its edges along x and y, u and v long.
-use Rattle.std.proofs.Common.{refl, arith, ◌∙◌, ap, ◌≡◌, ℕ, ℤ, pos, ◌+ℤ◌, ◌-ℤ◌, ◌*ℤ◌, neg_ℤ}
-use Rattle.lattice.specs.declared.Point.{Point}
-use Rattle.lattice.specs.Vectors.{origin, moved, dot, cross}
+use Rattle.lattice.proofs.Prelude.{refl, arith, ◌∙◌, ap, ◌≡◌, ℕ, ℤ, pos, ◌+ℤ◌, ◌-ℤ◌, ◌*ℤ◌, neg_ℤ, Point, origin, moved, dot, cross}
 use Rattle.lattice.proofs.Integers.{dif, dif-parts, difs, same_dif, number}
 use Rattle.lattice.proofs.Vectors.{vec, same_vector, add_none}
 

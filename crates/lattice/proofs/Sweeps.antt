@@ -1,7 +1,5 @@
 -- What a closed path sweeps. Step i of the path leads from p i to q i; d is the vector of the sweep.
-use Rattle.std.proofs.Common.{refl, arith, ◌∙◌, sym, ap, ◌≡◌, ℕ, zero, suc, ◌<◌, ℤ, pos, ◌+ℤ◌, ◌-ℤ◌, ◌*ℤ◌}
-use Rattle.lattice.specs.declared.Point.{Point}
-use Rattle.lattice.specs.Vectors.{origin, moved, dot, cross}
+use Rattle.lattice.proofs.Prelude.{refl, arith, ◌∙◌, sym, ap, ◌≡◌, ℕ, zero, suc, ◌<◌, ℤ, pos, ◌+ℤ◌, ◌-ℤ◌, ◌*ℤ◌, Point, origin, moved, dot, cross}
 use Rattle.lattice.proofs.Integers.{dif, dif-parts, difs, same_dif, number}
 use Rattle.lattice.proofs.Vectors.{same_vector, vec, from_to, moved_none, none_moved, moved_twice, dot_moved, dot_origin, twice_sum}
 

@@ -1,8 +1,5 @@
 -- Equations between vectors: sums, and products along and across.
-use Rattle.std.proofs.Common.{refl, arith, ◌∙◌, ◌≡◌, ℕ, ℤ, pos, ◌+ℤ◌, ◌-ℤ◌, ◌*ℤ◌}
-use Rattle.std.proofs.lemmas.Int.{ints}
-use Rattle.lattice.specs.declared.Point.{Point}
-use Rattle.lattice.specs.Vectors.{origin, moved, dot}
+use Rattle.lattice.proofs.Prelude.{refl, arith, ◌∙◌, ◌≡◌, ℕ, ℤ, pos, ◌+ℤ◌, ◌-ℤ◌, ◌*ℤ◌, ints, Point, origin, moved, dot}
 use Rattle.lattice.proofs.Integers.{dif, dif-parts, difs, same_dif, number}
 
 pub same_vector : (p q : Point) → p.x ≡ q.x → p.y ≡ q.y → p.z ≡ q.z → p ≡ q

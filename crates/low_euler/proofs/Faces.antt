@@ -1,14 +1,8 @@
 -- The faces of a solid, met in the order of their numbers.
-use Rattle.std.proofs.Common.{◌≡◌, ◌≢◌, ℕ, ◌<◌, ◌≤◌, Bool, true, false, cond, nat_eq, nat_lt, T, ◌&&◌, List, [], ◌∷◌, ◌++◌, append-nil, Some, None, is_some, unwrap_or, refl, sym, ap, ◌∙◌, arith, inl, inr, nat_cmp}
+use Rattle.low_euler.proofs.Prelude.{◌≡◌, ◌≢◌, ℕ, ◌<◌, ◌≤◌, Bool, true, false, cond, nat_eq, nat_lt, T, ◌&&◌, List, [], ◌∷◌, ◌++◌, append-nil, Some, None, is_some, unwrap_or, refl, sym, ap, ◌∙◌, arith, inl, inr, nat_cmp, nat_tests, eqb_tells, and_parts, false_from_ne_true, Table, get, all_where, all_in, Model, FaceRow, no_face, solid_of, faces_of, is_number, NumbersFit, and_left, and_right, all_where_none, find_here, find_later, row_some, and_first, found_past, is_face_of, IsNextFace}
 use Rattle.std.specs.FinMap.Entries.{find, is_sorted}
-use Rattle.std.proofs.lemmas.Bool.Decides.{nat_tests, eqb_tells}
-use Rattle.std.proofs.lemmas.Bool.{and_parts, false_from_ne_true}
 use Rattle.std.proofs.lemmas.Option.{same_Some}
 use Rattle.euler_operators.specs.Table as table
-use Rattle.euler_operators.specs.Common.{Table, get, all_where, all_in, Model, FaceRow, no_face, solid_of, faces_of, is_number, NumbersFit}
-use Rattle.euler_operators.proofs.Common.{and_left, and_right, all_where_none, find_here, find_later, row_some, and_first}
-use Rattle.euler_laws.proofs.Common.{found_past}
-use Rattle.euler_conditions.specs.Store.{is_face_of, IsNextFace}
 
 -- ---- the numbers of a table whose rows pass a test
 

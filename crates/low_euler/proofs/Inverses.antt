@@ -1,13 +1,7 @@
 -- The inverse of an operator, from what the arena's readers answer.
-use Rattle.std.proofs.Common.{◌≡◌, ℕ, Bool, cond, nat_eq, ◌&&◌, List, Some, None, sym, ap, subst, ◌∙◌}
-use Rattle.euler_operators.specs.Common.{Point, Corner, At, Lone, HalfEdge, code, half, mate, IsIn, IsApart, between, beyond, successor, Model, items_of, after, tail, loop_of, face_of, outer, content, point_of, faces_of, cycle_of, Sound, HasHalf, first_false, lone_vertex, inverse, head_or_zero, kev_corner, kev_corner_mate, corner_of}
+use Rattle.low_euler.proofs.Prelude.{◌≡◌, ℕ, Bool, cond, nat_eq, ◌&&◌, List, Some, None, sym, ap, subst, ◌∙◌, Point, Corner, At, Lone, HalfEdge, code, half, mate, IsIn, IsApart, between, beyond, successor, Model, items_of, tail, loop_of, face_of, outer, content, point_of, faces_of, cycle_of, Sound, HasHalf, first_false, lone_vertex, inverse, head_or_zero, kev_corner, kev_corner_mate, corner_of, half-code, mate_other, edge_of-mate, cycle_there, cycle_sound, only_item, one_face, Op, Mvfs, Kvfs, Mev, Kev, Mef, Kef, Kemr, Mekr, kemr_goes}
+use Rattle.euler_operators.specs.Common.{after}
 use Rattle.euler_operators.specs.Table as table
-use Rattle.euler_operators.proofs.Common.{half-code, mate_other, edge_of-mate, cycle_there, cycle_sound}
-use Rattle.euler_conditions.specs.Store.{only_item}
-use Rattle.euler_conditions.proofs.Solids.{one_face}
-use Rattle.euler_operators.specs.declared.Op.{Op}
-use Rattle.euler_operators.specs.declared.Op.TheVariants.{Mvfs, Kvfs, Mev, Kev, Mef, Kef, Kemr, Mekr}
-use Rattle.euler_laws.proofs.Common.{kemr_goes}
 use Rattle.low_euler.proofs.Parts.{corner_between, between_back}
 
 -- a half-edge by its code

@@ -1,3 +1,4 @@
+mod Prelude
 pub mod face_operators_laws
 pub mod loop_operators_laws
 pub mod steps_laws

@@ -1,15 +1,6 @@
 -- The numbers that an accepted operator makes lie in range, and room that is made one number after another.
-use Rattle.std.proofs.Common.{◌≡◌, ℕ, ◌≤◌, true, List, [], ◌∷◌, None, Result, OnOk, IsOk, refl, sym, ap, ◌∙◌, arith}
-use Rattle.std.proofs.lemmas.Bool.Decides.{nat_tests}
-use Rattle.std.proofs.lemmas.Result.{on_ok_weaker}
-use Rattle.euler_operators.specs.Common.{HalfEdge, code, edge_of, Kind, Model, Sound, is_number, first_false}
-use Rattle.euler_conditions.specs.Store.{Store, HasGrown}
-use Rattle.euler_operators.specs.declared.Op.{Op}
+use Rattle.low_euler.proofs.Prelude.{◌≡◌, ℕ, ◌≤◌, true, List, [], ◌∷◌, None, Result, OnOk, IsOk, refl, sym, ap, ◌∙◌, arith, nat_tests, on_ok_weaker, HalfEdge, code, edge_of, Kind, Model, Sound, is_number, first_false, Store, HasGrown, Op, edge_of-code, mvfs_goes, mev_holds, mef_goes, kemr_goes, join_goes, mfkrh_goes, part_goes, AllRoom, made, AllFit, KeepsRoom}
 use Rattle.euler_operators.specs.declared.Op.TheVariants as op
-use Rattle.euler_operators.proofs.Common.{edge_of-code}
-use Rattle.euler_laws.proofs.Common.{mvfs_goes, mev_holds, mef_goes, kemr_goes, join_goes, mfkrh_goes, part_goes}
-use Rattle.euler_conditions.specs.Ready.{AllRoom, made}
-use Rattle.low_euler.specs.Room.{AllFit, KeepsRoom}
 
 -- the numbers that an operator makes are in range where its conditions hold
 edge_fits : (h : HalfEdge) → is_number (edge_of (code h)) ≡ true → is_number h.edge ≡ true

@@ -1,13 +1,5 @@
 -- Faces that go to another solid one by one, until the solid has none.
-use Rattle.std.proofs.Common.{◌≡◌, ◌≢◌, ℕ, ◌<◌, Bool, true, false, cond, nat_eq, ◌&&◌, [], ◌∷◌, ◌+◌, length, Option, Some, None, is_some, unwrap_or, refl, sym, ap, ◌∙◌, arith, inl, inr, option_map, ne_eqb}
-use Rattle.std.proofs.lemmas.Bool.Decides.{eqb_tells}
-use Rattle.std.proofs.lemmas.Bool.{false_from_ne_true}
-use Rattle.euler_operators.specs.Common.{count, tick, Table, get, map_rows, put, remove, get-map_rows, Model, FaceRow, no_face, solid_of, outer, faces_of, Sound, first_false, effect, merge, faces_to_solid}
-use Rattle.euler_operators.proofs.Common.{tick_same, tick_other, get-put_here, get-put_other, map-put, put_same, map_same, all_where_none, none_all_where, passes, count-all_where, same_length}
-use Rattle.euler_operators.specs.declared.Op.TheVariants.{Merge}
-use Rattle.euler_laws.proofs.Common.{merge_goes, no_zero}
-use Rattle.euler_conditions.specs.Store.{Store, set_solid, take_solid, is_face_of, IsNextFace}
-use Rattle.euler_conditions.specs.Ready.{after}
+use Rattle.low_euler.proofs.Prelude.{◌≡◌, ◌≢◌, ℕ, ◌<◌, Bool, true, false, cond, nat_eq, ◌&&◌, [], ◌∷◌, ◌+◌, length, Option, Some, None, is_some, unwrap_or, refl, sym, ap, ◌∙◌, arith, inl, inr, option_map, ne_eqb, eqb_tells, false_from_ne_true, count, tick, Table, get, map_rows, put, remove, get-map_rows, Model, FaceRow, no_face, solid_of, outer, faces_of, Sound, first_false, effect, merge, faces_to_solid, tick_same, tick_other, get-put_here, get-put_other, map-put, put_same, map_same, all_where_none, none_all_where, passes, count-all_where, same_length, Merge, merge_goes, no_zero, Store, set_solid, take_solid, is_face_of, IsNextFace, after}
 use Rattle.low_euler.proofs.Faces.{row_there, row_tells}
 
 pub merge_apart : (M : Model) (s t : ℕ) → first_false M (Merge s t) ≡ None → nat_eq s t ≡ false

@@ -1,10 +1,6 @@
 -- The first items of the two parts of a ring that is cut at two of its items.
-use Rattle.std.proofs.Common.{◌≡◌, ◌≢◌, ℕ, cond, nat_eq, List, [], ◌∷◌, ◌++◌, sym, ap, ◌∙◌, arith}
-use Rattle.std.proofs.lemmas.Bool.Decides.{eqb_tells}
-use Rattle.euler_operators.specs.Common.{count, IsIn, IsApart, head_or, rotate_to, rest, between, beyond, successor, At, Lone, half, corner_of}
+use Rattle.low_euler.proofs.Prelude.{◌≡◌, ◌≢◌, ℕ, cond, nat_eq, List, [], ◌∷◌, ◌++◌, sym, ap, ◌∙◌, arith, eqb_tells, count, IsIn, IsApart, head_or, rotate_to, rest, between, beyond, successor, At, Lone, half, corner_of, count-append, count-before, before_at, tick_same, tick_other, rest_same, rotate_to-rotates, rest_at, ring_split, apart_split, nat_eq_itself, after_first}
 use Rattle.euler_operators.specs.Items.{before}
-use Rattle.euler_operators.proofs.Common.{count-append, count-before, before_at, tick_same, tick_other, rest_same, rotate_to-rotates, rest_at, ring_split, apart_split, nat_eq_itself}
-use Rattle.euler_laws.proofs.Common.{after_first}
 
 -- the corner of a list that stands before b, by the item that comes next
 corner_cases : (xs : List ℕ) (b l : ℕ) → count b xs ≡ 0 → corner_of xs l ≡ cond (nat_eq (head_or b xs) b) (Lone l) (At (half (head_or b xs)))

@@ -1,11 +1,5 @@
 -- An operator whose room was made is accepted then, and steps on.
-use Rattle.std.proofs.Common.{◌≡◌, ℕ, None, refl, sym, subst, ap, ◌∙◌}
-use Rattle.euler_operators.specs.Common.{Point, Corner, HalfEdge, Model, Sound, first_false, effect, inverse}
-use Rattle.euler_operators.specs.declared.Op.{Op}
-use Rattle.euler_operators.specs.declared.Op.TheVariants.{Mvfs, Kvfs, Mev, Kev, Mef, Kef}
-use Rattle.euler_conditions.specs.Store.{Store, has_room, HasGrown}
-use Rattle.euler_conditions.specs.Ready.{IsReady, HasRoomFor, Accepts, after, made}
-use Rattle.low_euler.specs.Room.{IsStepped}
+use Rattle.low_euler.proofs.Prelude.{◌≡◌, ℕ, None, refl, sym, subst, ap, ◌∙◌, Point, Corner, HalfEdge, Model, Sound, first_false, effect, inverse, Op, Mvfs, Kvfs, Mev, Kev, Mef, Kef, Store, has_room, HasGrown, IsReady, HasRoomFor, Accepts, after, made, IsStepped}
 use Rattle.low_euler.proofs.Undone.{ready_after, keeps_room, room_after}
 
 pub accepted_grown : (r s : Store) (o : Op) → IsReady r → first_false r.model o ≡ None → HasGrown r s → HasRoomFor s o → Accepts s o

@@ -1,11 +1,5 @@
 -- An operator that was applied leaves a sound model, in which its inverse is accepted and gives the model before.
-use Rattle.std.proofs.Common.{◌≡◌, ℕ, List, ap, ◌∙◌}
-use Rattle.euler_operators.specs.Common.{Kind, Solid, Face, Loop, Edge, Vertex, Model, first_false, effect, inverse}
-use Rattle.euler_conditions.specs.Store.{Store}
-use Rattle.euler_operators.specs.declared.Op.{Op}
-use Rattle.euler_laws.proofs.Common.{effect_keeps_sound, inverse_goes, inverse_undoes}
-use Rattle.euler_conditions.specs.Ready.{IsReady, AllRoom, HasRoomFor, Accepts, after, made}
-use Rattle.low_euler.specs.Room.{KeepsRoom}
+use Rattle.low_euler.proofs.Prelude.{◌≡◌, ℕ, List, ap, ◌∙◌, Kind, Solid, Face, Loop, Edge, Vertex, Model, first_false, effect, inverse, Store, Op, effect_keeps_sound, inverse_goes, inverse_undoes, IsReady, AllRoom, HasRoomFor, Accepts, after, made, KeepsRoom}
 use Rattle.low_euler.proofs.Made.{room_kept}
 
 pub ready_after : (s : Store) (o : Op) → Accepts s o → IsReady (after s o)

@@ -1,17 +1,11 @@
 -- The conditions of a split: those that are tested first, and those that are tested once the faces are drawn.
-use Rattle.std.proofs.Common.{◌≡◌, ℕ, true, Some, Result, Err, sym, ap, ◌∙◌}
-use Rattle.euler_operators.specs.Common.{Plane, Model, Sound, first_refusal}
+use Rattle.plane_split.proofs.Prelude.{◌≡◌, ℕ, true, Some, Result, Err, sym, ap, ◌∙◌, Plane, Model, Sound, first_refusal, Refusal, split_begins, with_crossings, Drawing, straddling_pairs, with_drawings, first_conditions, later_conditions, split_conditions, split_refusal, can_be_drawn, put_aside}
 use Rattle.euler_operators.specs.Table as table
-use Rattle.euler_operators.specs.declared.Refusal.{Refusal}
 use Rattle.shapes.proofs.Common.{first_refusal-append, first_refusal-refused}
-use Rattle.shapes.proofs.split.Facts.{split_begins}
-use Rattle.shapes.specs.Common.{with_crossings, Drawing, straddling_pairs, with_drawings, first_conditions, later_conditions, split_conditions, split_refusal}
 use Rattle.split_drawing_laws.specs.crossings.Laws.{CanBegin}
 use Rattle.split_drawing_laws.proofs.crossings.Whole.{crossings_keep}
-use Rattle.split_drawing_laws.proofs.pairs.Whole.{can_be_drawn}
 use Rattle.split_laws.specs.drawn.Kept.{KeepsSolids}
 use Rattle.split_laws.proofs.drawn.Solids.{drawing_keeps}
-use Rattle.split_drawing.specs.solid_drawing.Drawn.{put_aside}
 use Rattle.undo_journal.specs.declared.session.Failure.{Failure}
 use Rattle.undo_journal.specs.declared.session.Failure.TheVariants as failure
 

@@ -1,3 +1,4 @@
+mod Prelude
 mod Conditions
 mod SplitModels
 mod Parted

@@ -1,22 +1,11 @@
 -- A solid opened along its section and parted, once its faces are drawn.
-use Rattle.std.proofs.Common.{◌≡◌, ℕ, List, [], ◌∷◌, ◌++◌, None, sym, ap, ◌∙◌, subst}
-use Rattle.euler_operators.specs.Common.{Plane, Model, Sound}
-use Rattle.euler_operators.specs.declared.Op.TheVariants.{Part}
-use Rattle.euler_laws.proofs.Common.{Leads, some_taken}
-use Rattle.shapes.specs.Common.{faces_above, below_halves, section_cycles, Drawing, with_drawings, Caps, Opening, all_opened, opened_at, upper_left, split_refusal, split_model}
+use Rattle.plane_split.proofs.Prelude.{◌≡◌, ℕ, List, [], ◌∷◌, ◌++◌, None, sym, ap, ◌∙◌, subst, Plane, Model, Sound, Part, Leads, some_taken, faces_above, below_halves, section_cycles, Drawing, with_drawings, Opening, all_opened, opened_at, upper_left, split_refusal, split_model, rewritings_made, CanBeOpenedInTurn, drawing_of, IsSection, cycles_of, put_aside, opened_section, unopened, openings_ops, hole_ops, upper_ops, ops_above, split_above, split_ops, split_accepted, split_made}
+use Rattle.shapes.specs.Common.{Caps}
 use Rattle.split_drawing_laws.specs.pairs.Laws.{rewriting_ops}
-use Rattle.split_drawing_laws.proofs.pairs.Whole.{rewritings_made}
-use Rattle.split_opening_laws.specs.sections.InTurn.{CanBeOpenedInTurn}
 use Rattle.split_laws.proofs.drawn.Drawn.{begins, can_open_all}
-use Rattle.split_drawing.specs.Progress.{drawing_of}
 use Rattle.split_drawing.specs.declared.Progress.{Progress}
-use Rattle.split_sections.specs.section_checks.Sections.{IsSection, cycles_of}
 use Rattle.split_sections.specs.declared.section_checks.section.Section.{Section}
-use Rattle.split_drawing.specs.solid_drawing.Drawn.{put_aside}
-use Rattle.plane_split.specs.solid_opening.Capped.{opened_section, unopened}
-use Rattle.split_laws.specs.SplitOps.{openings_ops, hole_ops, upper_ops, ops_above, split_above, split_ops}
 use Rattle.split_laws.proofs.Openings.{openings_go}
-use Rattle.split_laws.proofs.Whole.{split_accepted, split_made}
 use Rattle.plane_split.specs.Drawn.{IsDrawn}
 
 module _ (M : Model) (s : ℕ) (p : Plane) (t : ℕ) (sound : Sound M) (accepted : split_refusal M s p t ≡ None) where

@@ -1,8 +1,7 @@
 -- A plane of four numbers that are passed to a call.
 use mir.Val.{SFits, of_z, to_z}
-use Rattle.std.proofs.Common.{◌≡◌, w64, ℤ}
+use Rattle.plane_split.proofs.Prelude.{◌≡◌, w64, ℤ, Plane}
 use Rattle.std.proofs.lemmas.Int.{to_z-of_z}
-use Rattle.euler_operators.specs.Common.{Plane}
 
 abbrev pub passed_plane : ℤ → ℤ → ℤ → ℤ → Plane
 passed_plane a b c d = record { a = to_z w64 (of_z w64 a); b = to_z w64 (of_z w64 b); c = to_z w64 (of_z w64 c); d = to_z w64 (of_z w64 d) }

@@ -1,9 +1,5 @@
 -- The laws of splits for the models that a session holds before one and after it.
-use Rattle.std.proofs.Common.{◌≡◌, ◌≢◌, ℕ, ◌+ℤ◌, false, sym, ap, subst, ◌∙◌}
-use Rattle.euler_operators.specs.Common.{Plane, Sound, Has}
-use Rattle.undo_journal.specs.Machine.{Machine, held}
-use Rattle.shapes.specs.Common.{vertices_of, six_volume, some_above, some_below, split_model}
-use Rattle.split_laws.proofs.Whole.{split_sound}
+use Rattle.plane_split.proofs.Prelude.{◌≡◌, ◌≢◌, ℕ, ◌+ℤ◌, false, sym, ap, subst, ◌∙◌, Plane, Sound, Has, Machine, held, vertices_of, six_volume, some_above, some_below, split_model, split_sound}
 use Rattle.split_laws.proofs.measures.Parts.{parts_there, volumes_shared, others_kept, vertices_sided}
 use Rattle.plane_split.specs.SplitModels.{IsSplit}
 

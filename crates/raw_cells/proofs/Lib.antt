@@ -1,3 +1,4 @@
+mod Prelude
 pub mod Memory
 pub mod numbers_laws
 pub mod Sharing

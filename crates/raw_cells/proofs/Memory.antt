@@ -1,7 +1,7 @@
 -- What the walks of a block share. Assumes `Logic`.
 --     slot_emptied, emptied      what places held is forgotten, and their room is left
 --     no_places, none_lent       nowhere there is no place
-use Rattle.std.proofs.Common.{◌≡◌, ℕ, ◌+◌, ◌<◌, List, [], ◌∷◌, ◌++◌, length, replicate, Some, None, refl, subst, arith}
+use Rattle.raw_cells.proofs.Prelude.{◌≡◌, ℕ, ◌+◌, ◌<◌, List, [], ◌∷◌, ◌++◌, length, replicate, Some, None, refl, subst, arith, El, R, elτ, slot, slots, sz, Place, mark, value_out, places_own, places_lent}
 use seplogic.Ra.Ura.{Ura}
 use base.Fraction.{full_share}
 use base.Fml.{Lft, fat, froom}
@@ -14,11 +14,7 @@ use denote.RawPtr.{null_ptr}
 use denote.Shadow.{makes_shadow}
 use denote.Struct.Struct.{Struct}
 use denote.Struct.Owning.{shape}
-use Rattle.core.proofs.mem.Param.{El, R, elτ}
 use Rattle.std.proofs.RcSteps.{Good}
-use Rattle.circular_buffer.specs.Ownership.{slot, slots}
-use Rattle.circular_buffer.proofs.Memory.{sz, Place, mark, value_out}
-use Rattle.raw_cells.specs.Ownership.{places_own, places_lent}
 use Rattle.raw_cells.specs.contracts.block.Places as places
 use Rattle.raw_cells.specs.contracts.block.Base as base_type
 

@@ -1,5 +1,5 @@
 -- A box of a node, as a value that is passed. Assumes nothing: these are definitions.
-use Rattle.std.proofs.Common.{[], ◌∷◌, refl}
+use Rattle.raw_ring.proofs.Prelude.{[], ◌∷◌, refl, Al, ghosts, dict, the_row as R}
 use base.Fml.{ftrue}
 use mir.Syntax.{Dict, impl, tcons, tnil, dnil}
 use denote.RattleType.{RattleType}
@@ -7,13 +7,10 @@ use mir.Raw.{raw}
 use denote.Exit.{no}
 use denote.Param.{arg, layout}
 use denote.Param.Laws.{Laws, arg_laws}
-use Rattle.std.proofs.alloc.Calls.{Al}
 use Rattle.std.specs.contracts.alloc.Global.{the_row as Z}
 use Rattle.std.proofs.alloc.Global.TheLaws.{the_row_laws as LZ}
-use Rattle.std.specs.contracts.impls.GlobalAllocator.TheImpl.{ghosts, dict}
 use Rattle.std.specs.contracts.boxed.Box as box
 use Rattle.std.proofs.boxed.Box.TheLaws as laws
-use Rattle.raw_ring.specs.contracts.node.Node.{the_row as R}
 use Rattle.raw_ring.proofs.node.Node.TheLaws.{the_row_laws as L}
 
 abbrev pub node_box : RattleType

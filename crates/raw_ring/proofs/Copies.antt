@@ -4,11 +4,7 @@
 --     told, IsCopied-live, IsCopied-asleep      one code that is copied
 --     IsBegun, Begun-..      the codes below n are copied
 --     IsFollowed, Followed-..      the codes below n have their successors;  and at the end the map is the same
-use Rattle.std.proofs.Common.{◌≡◌, ℕ, ◌+◌, ◌<◌, ◌≤◌, ◌==◌, true, false, cond, Option, Some, None, is_some, inl, inr, refl, sym, ap, ◌∙◌, arith, nat_cmp}
-use Rattle.std.specs.FinMap.{get, insert, empty, contains_key, get-empty}
-use Rattle.std.proofs.lemmas.Bool.{eqb-false, cases_lt, false≢true}
-use Rattle.std.proofs.lemmas.Option.{same_Some}
-use Rattle.raw_ring.specs.Rings.{Spot, RingMap, awake, of_spot, spot, next_of, tail_of, label_of, IsLive, IsAsleep, with_room, Exchanged, IsPermutation}
+use Rattle.raw_ring.proofs.Prelude.{◌≡◌, ℕ, ◌+◌, ◌<◌, ◌≤◌, ◌==◌, true, false, cond, Option, Some, None, is_some, inl, inr, refl, sym, ap, ◌∙◌, arith, nat_cmp, get, insert, empty, contains_key, get-empty, eqb-false, cases_lt, false≢true, same_Some, Spot, RingMap, awake, of_spot, spot, next_of, tail_of, label_of, IsLive, IsAsleep, with_room, Exchanged, IsPermutation}
 use Rattle.raw_ring.specs.Copying.{but_next, IsAlike, IsCopied, IsLed}
 use Rattle.raw_ring.proofs.Mapping.{get-put, same_ring, test_same, test_is, test_other, asleep_is}
 use Rattle.raw_ring.proofs.Tying.{none_by}

@@ -3,16 +3,8 @@
 --     place_there, label_there, live_there, lies_at, has_label      the parts of a row
 --     changed      one row is written;  column_here, column_other      one column;  cell_written      a column of cells
 --     IsFurther, rows_reached, ok_more      the columns reach further
-use Rattle.std.proofs.Common.{◌≡◌, ◌≢◌, ℕ, zero, suc, ◌<◌, ◌≤◌, Bool, true, false, cond, List, [], ◌∷◌, length, set, slice_set, Option, Some, None, IsSome, is_some, Result, Ok, Err, OnOk, refl, sym, ap, ◌∙◌, subst, arith, nat_eq, inl, inr, true≢false, eq-eqb, ne_eqb, get_or-set_same, get_or-set_other, length-set}
-use Rattle.std.proofs.lemmas.Bool.{cases_eq}
+use Rattle.raw_ring.proofs.Prelude.{◌≡◌, ◌≢◌, ℕ, zero, suc, ◌<◌, ◌≤◌, Bool, true, false, cond, List, [], ◌∷◌, length, set, slice_set, Option, Some, None, IsSome, is_some, Result, Ok, Err, OnOk, refl, sym, ap, ◌∙◌, subst, arith, nat_eq, inl, inr, true≢false, eq-eqb, ne_eqb, get_or-set_same, get_or-set_other, length-set, cases_eq, IsNext, row_at, has_row, NodePtr, Row, or_zero, LiesAt, HasLabel, or_false, marks, with_marks, joined, AreJoined}
 use Rattle.std.proofs.lemmas.Bool.Decides.{eqb_tells}
-use Rattle.raw_cells.specs.Numbers.{IsNext}
-use Rattle.raw_cells.specs.Rows.{row_at, has_row}
-use Rattle.raw_ring.specs.declared.node.NodePtr.{NodePtr}
-use Rattle.raw_ring.specs.declared.row.Row.{Row}
-use Rattle.raw_ring.specs.Rings.{or_zero}
-use Rattle.raw_ring.specs.Table.{LiesAt, HasLabel}
-use Rattle.raw_ring.specs.Joined.{or_false, marks, with_marks, joined, AreJoined}
 use Rattle.raw_ring.proofs.Mapping.{rows_written, row_within}
 use Rattle.raw_ring.proofs.Pointers.{some_of}
 

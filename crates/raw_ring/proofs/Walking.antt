@@ -1,14 +1,6 @@
 -- A walk round a ring: where it begins, and what its steps read.
-use Rattle.std.proofs.Common.{◌≡◌, ℕ, List, Some, IsSome, refl, sym, ap, ◌∙◌, subst}
-use Rattle.std.proofs.lemmas.Option.{same_Some}
+use Rattle.raw_ring.proofs.Prelude.{◌≡◌, ℕ, List, Some, IsSome, refl, sym, ap, ◌∙◌, subst, same_Some, Node, Row, row_at, Cell, node_at, of_node, next_at, code_at, or_zero, next_of, IsLive, Rows, code_of, ring_map, IsTied, IsPlace}
 use denote.RawPtr.{Ptr}
-use Rattle.raw_ring.specs.declared.node.Node.{Node}
-use Rattle.raw_ring.specs.declared.row.Row.{Row}
-use Rattle.raw_cells.specs.Rows.{row_at}
-use Rattle.raw_ring.specs.Cells.{Cell, node_at, of_node, next_at, code_at}
-use Rattle.raw_ring.specs.Rings.{or_zero, next_of, IsLive}
-use Rattle.raw_ring.specs.Tied.{Rows, code_of, ring_map, IsTied}
-use Rattle.raw_ring.specs.Walks.{IsPlace}
 use Rattle.raw_ring.proofs.Mapping.{is_live}
 use Rattle.raw_ring.proofs.Tying.{node_there, goes, next_is, permutes}
 

@@ -1,16 +1,8 @@
 -- Each sound model is taken apart, step by step; and made again by the inverses, in the opposite order.
-use Rattle.std.proofs.Common.{◌≡◌, ℕ, zero, suc, ◌+◌, ◌<◌, Bool, true, not, nat_eq, List, [], ◌++◌, is_some, sym, ap, ◌∙◌, subst, arith, ◌⊎◌, ◌↔◌, All, inl, inr, true≢false, eqb-true}
-use Rattle.std.proofs.lemmas.Bool.{not-true, not-false, eqb-false}
-use Rattle.std.proofs.lemmas.List.Elements.{All-nil, All-append}
+use Rattle.reached_models.proofs.Prelude.{◌≡◌, ℕ, zero, suc, ◌+◌, ◌<◌, Bool, true, not, nat_eq, List, [], ◌++◌, is_some, sym, ap, ◌∙◌, subst, arith, ◌⊎◌, ◌↔◌, All, inl, inr, true≢false, eqb-true, not-true, not-false, eqb-false, All-nil, All-append, mate, edge_of, plus, Model, LoopRow, EdgeRow, lone, loop_of, content, face_of, outer, empty_model, is_lone, lone_vertex, Sound, Has, HasHalf, row_some, face_row, content_row, lone_there, mate-mate, mate_plus, plus_there, Op, AreAccepted, effects, inverses, Leads, leads_none, leads_on, leads_sound, inverses_go, inverses_undo, effects_keep_sound, halves_of_edge, OperatorsLead, IsBuilder}
 use Rattle.euler_operators.specs.Table as table
-use Rattle.euler_operators.specs.Common.{mate, edge_of, plus, Model, LoopRow, EdgeRow, lone, loop_of, content, face_of, outer, empty_model, is_lone, lone_vertex, Sound, Has, HasHalf}
-use Rattle.euler_operators.proofs.Common.{row_some, face_row, content_row, lone_there, mate-mate, mate_plus, plus_there}
-use Rattle.euler_operators.specs.declared.Op.{Op}
-use Rattle.euler_laws.specs.Laws.{AreAccepted, effects, inverses}
-use Rattle.euler_laws.proofs.Common.{Leads, leads_none, leads_on, leads_sound, inverses_go, inverses_undo, effects_keep_sound, halves_of_edge}
 use Rattle.euler_laws.proofs.shared.Rows.{lone_is}
 use Rattle.euler_laws.proofs.shared.Empty.{empty_sound}
-use Rattle.reached_models.specs.Laws.{OperatorsLead, IsBuilder}
 use Rattle.reached_models.proofs.Takers.{IsTaker, build_back}
 use Rattle.reached_models.proofs.Found.{NonePasses, found_or_none}
 use Rattle.reached_models.proofs.Weights.{Shrinks, weight}

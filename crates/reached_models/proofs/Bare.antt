@@ -1,14 +1,6 @@
 -- A lone loop that is no ring goes with its face: by itself it is a solid, or it becomes one first.
-use Rattle.std.proofs.Common.{◌≡◌, ◌≢◌, ℕ, ◌+◌, Bool, true, false, cond, not, nat_eq, ◌&&◌, ◌||◌, List, [], ◌∷◌, None, is_some, refl, sym, ap, ◌∙◌, subst, arith, true≢false, inl, inr, ne_eqb, eqb-true}
-use Rattle.std.proofs.lemmas.Bool.Decides.{nat_tests, eqb_tells}
-use Rattle.std.proofs.lemmas.Bool.{and_parts, not-true, eqb-false}
+use Rattle.reached_models.proofs.Prelude.{◌≡◌, ◌≢◌, ℕ, ◌+◌, Bool, true, false, cond, not, nat_eq, ◌&&◌, ◌||◌, List, [], ◌∷◌, None, is_some, refl, sym, ap, ◌∙◌, subst, arith, true≢false, inl, inr, ne_eqb, eqb-true, nat_tests, eqb_tells, and_parts, not-true, eqb-false, mate, Model, FaceRow, lone, loop_of, content, face_of, solid_of, outer, faces_of, lone_vertex, lists, head_or_zero, Sound, Has, HasHalf, face_at, first_false, effect, kvfs_at, part, content_cycle, mate_there, loop_there, row_some, solid_row, same_content, Op, Kvfs, Part, size, KvfsGoes, faces_one, OtherSolids, PartGoes, part_accepted, size-remove, size-map_rows, in_faces, face_in, first_listed}
 use Rattle.euler_operators.specs.Table as table
-use Rattle.euler_operators.specs.Common.{mate, Model, FaceRow, lone, loop_of, content, face_of, solid_of, outer, faces_of, lone_vertex, lists, head_or_zero, Sound, Has, HasHalf, face_at, first_false, effect, kvfs_at, part}
-use Rattle.euler_operators.proofs.Common.{content_cycle, mate_there, loop_there, row_some, solid_row, same_content}
-use Rattle.euler_operators.specs.declared.Op.{Op}
-use Rattle.euler_operators.specs.declared.Op.TheVariants.{Kvfs, Part}
-use Rattle.euler_laws.specs.Laws.{size}
-use Rattle.euler_laws.proofs.Common.{KvfsGoes, faces_one, OtherSolids, PartGoes, part_accepted, size-remove, size-map_rows, in_faces, face_in, first_listed}
 use Rattle.euler_laws.proofs.faces.Solids.{kvfs_accepted}
 use Rattle.euler_laws.proofs.merge.Part as parting
 use Rattle.euler_laws.proofs.merge.Merge.{face_same}

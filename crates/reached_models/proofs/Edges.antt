@@ -1,11 +1,6 @@
 -- An edge of a sound model in which no loop is a ring or lone, and both half-edges of each edge stand in one loop: one can go.
-use Rattle.std.proofs.Common.{◌≡◌, ◌≢◌, ℕ, Bool, true, not, nat_eq, ◌&&◌, is_some, refl, sym, ap, ◌∙◌, arith, inl, inr, eqb-true}
-use Rattle.std.proofs.lemmas.Bool.Decides.{nat_tests, eqb_tells}
-use Rattle.std.proofs.lemmas.Bool.{and_parts, not-true, eqb-false}
+use Rattle.reached_models.proofs.Prelude.{◌≡◌, ◌≢◌, ℕ, Bool, true, not, nat_eq, ◌&&◌, is_some, refl, sym, ap, ◌∙◌, arith, inl, inr, eqb-true, nat_tests, eqb_tells, and_parts, not-true, eqb-false, IsIn, head_or, mate, edge_of, plus, Model, LoopContent, lone, cycle, EdgeRow, items_of, loop_of, content, after, round, Sound, Has, HasHalf, StandsIn, Reaches, here, further, IsIn_some_head, in-holds, row_some, mate_there, mate-mate, edge_of-mate, mate_plus, plus_there, KevGoes, half_after, loop_after, halves_of_edge}
 use Rattle.euler_operators.specs.Table as table
-use Rattle.euler_operators.specs.Common.{IsIn, head_or, mate, edge_of, plus, Model, LoopContent, lone, cycle, EdgeRow, items_of, loop_of, content, after, round, Sound, Has, HasHalf, StandsIn, Reaches, here, further}
-use Rattle.euler_operators.proofs.Common.{IsIn_some_head, in-holds, row_some, mate_there, mate-mate, edge_of-mate, mate_plus, plus_there}
-use Rattle.euler_laws.proofs.Common.{KevGoes, half_after, loop_after, halves_of_edge}
 use Rattle.reached_models.proofs.Free.{Free, free_number, one_missed}
 use Rattle.reached_models.proofs.Found.{Found, NonePasses, found_or_none}
 use Rattle.reached_models.proofs.Weights.{Shrinks}

@@ -1,8 +1,6 @@
 -- A sound model without edges and lone loops is the empty one.
-use Rattle.std.proofs.Common.{◌≡◌, ℕ, Option, Some, None, is_some, refl, sym, ap, ◌∙◌, inl, inr}
+use Rattle.reached_models.proofs.Prelude.{◌≡◌, ℕ, Option, Some, None, is_some, refl, sym, ap, ◌∙◌, inl, inr, Table, get-empty, same_table, Model, LoopContent, lone, cycle, head_or, content, outer, empty_model, Sound, Has, HasHalf, holds, plus, IsIn_some_head, in-holds, plus_there}
 use Rattle.euler_operators.specs.Table as table
-use Rattle.euler_operators.specs.Common.{Table, get-empty, same_table, Model, LoopContent, lone, cycle, head_or, content, outer, empty_model, Sound, Has, HasHalf, holds, plus}
-use Rattle.euler_operators.proofs.Common.{IsIn_some_head, in-holds, plus_there}
 use Rattle.euler_laws.proofs.shared.Undo.{same_model}
 use Rattle.reached_models.proofs.Edges.{NoLone}
 

@@ -1,8 +1,5 @@
 -- A table has a row that passes a test, or none does.
-use Rattle.std.proofs.Common.{◌≡◌, ℕ, Bool, true, false, List, [], ◌∷◌, Some, refl, ap, ◌∙◌, ◌⊎◌, inl, inr}
-use Rattle.euler_operators.specs.Common.{Table, get, all_where, lists}
-use Rattle.euler_operators.proofs.Common.{none_all_where}
-use Rattle.euler_laws.proofs.Common.{first_listed, listed_passes}
+use Rattle.reached_models.proofs.Prelude.{◌≡◌, ℕ, Bool, true, false, List, [], ◌∷◌, Some, refl, ap, ◌∙◌, ◌⊎◌, inl, inr, Table, get, all_where, lists, none_all_where, first_listed, listed_passes}
 
 -- a number whose row passes
 pub record Found {X : Type 0} (p : ℕ → X → Bool) (t : Table X) : Type 0 where

@@ -1,10 +1,6 @@
 -- A number that a table doesn't use, where its numbers go to different numbers of another table and one of these is missed.
-use Rattle.std.proofs.Common.{◌≡◌, ◌≢◌, ℕ, ◌+◌, ◌≤◌, ◌<◌, true, false, List, [], ◌∷◌, map, length, Some, None, is_some, refl, sym, ap, ◌∙◌, arith, true≢false, inl, inr}
-use Rattle.std.proofs.lemmas.Bool.Decides.{nat_tests, eqb_tells}
+use Rattle.reached_models.proofs.Prelude.{◌≡◌, ◌≢◌, ℕ, ◌+◌, ◌≤◌, ◌<◌, true, false, List, [], ◌∷◌, map, length, Some, None, is_some, refl, sym, ap, ◌∙◌, arith, true≢false, inl, inr, nat_tests, eqb_tells, IsIn, IsApart, Table, get, all_where, is_number, lists, strictly_rises, Has, NumbersFit, IsApart-images, length_below, number_fits, one_or_more, row_some, tick_same, tick_other, from_map, all_where_has, all_where_in, all_where-rises, counted_once, rises_apart, rises_on, first_listed, listed-from_in}
 use Rattle.std.proofs.lemmas.List.{length-map}
-use Rattle.euler_operators.specs.Common.{IsIn, IsApart, Table, get, all_where, is_number, lists, strictly_rises, Has, NumbersFit}
-use Rattle.euler_operators.proofs.Common.{IsApart-images, length_below, number_fits, one_or_more, row_some, tick_same, tick_other, from_map}
-use Rattle.euler_laws.proofs.Common.{all_where_has, all_where_in, all_where-rises, counted_once, rises_apart, rises_on, first_listed, listed-from_in}
 
 -- a number of a kind that the table doesn't use
 pub record Free {X : Type 0} (t : Table X) : Type 0 where

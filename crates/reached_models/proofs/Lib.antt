@@ -1,3 +1,4 @@
+mod Prelude
 pub mod Takers
 pub mod Free
 pub mod Weights

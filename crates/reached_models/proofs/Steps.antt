@@ -1,10 +1,5 @@
 -- The steps by which a sound model is taken apart, each with what has to be so that it can be taken.
-use Rattle.std.proofs.Common.{◌≡◌, ◌≢◌, ℕ, None, sym, ap, ◌∙◌, subst, arith}
-use Rattle.euler_operators.specs.Common.{half, mate, Model, loop_of, face_of, outer, Sound, Has, HasHalf, first_false, effect, inverse}
-use Rattle.euler_operators.proofs.Common.{code-half, mate_there, loop_there}
-use Rattle.euler_operators.specs.declared.Op.{Op}
-use Rattle.euler_operators.specs.declared.Op.TheVariants.{Kev, Kef, Kemr, Mfkrh}
-use Rattle.euler_laws.proofs.Common.{Grown, mef_grows, mev_grows, mfkrh_grows, kemr_grows, effect_keeps_sound, inverse_goes, inverse_undoes, mfkrh_accepted, KefGoes, kef_accepted, KevGoes, kev_accepted, KemrGoes}
+use Rattle.reached_models.proofs.Prelude.{◌≡◌, ◌≢◌, ℕ, None, sym, ap, ◌∙◌, subst, arith, half, mate, Model, loop_of, face_of, outer, Sound, Has, HasHalf, first_false, effect, inverse, code-half, mate_there, loop_there, Op, Kev, Kef, Kemr, Mfkrh, Grown, mef_grows, mev_grows, mfkrh_grows, kemr_grows, effect_keeps_sound, inverse_goes, inverse_undoes, mfkrh_accepted, KefGoes, kef_accepted, KevGoes, kev_accepted, KemrGoes}
 use Rattle.euler_laws.proofs.mekr.Mekr.{kemr_accepted}
 use Rattle.reached_models.proofs.Free.{Free, free_number}
 use Rattle.reached_models.proofs.Weights.{Shrinks, shrinks_by}

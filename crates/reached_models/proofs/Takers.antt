@@ -1,11 +1,5 @@
 -- The six operators that take models apart.
-use Rattle.std.proofs.Common.{List, [], ◌∷◌, All}
-use Rattle.std.proofs.lemmas.List.Elements.{All-nil, All-head, All-tail, All-push}
-use Rattle.euler_operators.specs.Common.{Model, effect, inverse}
-use Rattle.euler_operators.specs.declared.Op.{Op}
-use Rattle.euler_operators.specs.declared.Op.TheVariants.{Kvfs, Kev, Kef, Kemr, Mfkrh, Part}
-use Rattle.euler_laws.specs.Laws.{inverses}
-use Rattle.reached_models.specs.Laws.{IsBuilder}
+use Rattle.reached_models.proofs.Prelude.{List, [], ◌∷◌, All, All-nil, All-head, All-tail, All-push, Model, effect, inverse, Op, Kvfs, Kev, Kef, Kemr, Mfkrh, Part, inverses, IsBuilder}
 
 abbrev pub IsTaker : Op → Type 0
 IsTaker (Kvfs s) = Unit {0}

@@ -1,10 +1,5 @@
 -- A number that each step of taking a model apart makes smaller.
-use Rattle.std.proofs.Common.{◌≡◌, ℕ, ◌+◌, ◌*◌, ◌<◌, List, [], ◌∷◌, length, None, All, refl, arith}
-use Rattle.std.proofs.lemmas.List.Elements.{All-nil, All-cons}
-use Rattle.euler_operators.specs.Common.{Model, Sound, first_false, effect}
-use Rattle.euler_operators.specs.declared.Op.{Op}
-use Rattle.euler_laws.specs.Laws.{size, all_rings}
-use Rattle.euler_laws.proofs.Common.{loops_are, effect_keeps_sound, Leads, leads_one, leads_first}
+use Rattle.reached_models.proofs.Prelude.{◌≡◌, ℕ, ◌+◌, ◌*◌, ◌<◌, List, [], ◌∷◌, length, None, All, refl, arith, All-nil, All-cons, Model, Sound, first_false, effect, Op, size, all_rings, loops_are, effect_keeps_sound, Leads, leads_one, leads_first}
 use Rattle.reached_models.proofs.Takers.{IsTaker}
 
 -- three for each edge, one for each loop, and one more for each ring

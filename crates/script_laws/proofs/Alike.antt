@@ -1,24 +1,9 @@
 -- Machines from which lines are answered alike.
-use Rattle.std.proofs.Common.{◌≡◌, ◌≢◌, inr, ℕ, Bool, true, false, cond, List, [], ◌∷◌, ◌++◌, codes, Option, Some, None, Result, Ok, Err, refl, sym, ap, subst, ◌∙◌, arith, true≢false}
-use Rattle.euler_operators.specs.declared.Refusal.{Refusal}
-use Rattle.euler_operators.specs.Common.{Model}
-use Rattle.undo_journal.specs.Machine.{Machine, held, undo_refusal, undo}
-use Rattle.script_reader.specs.Grammar.{request_of}
-use Rattle.script_reader.specs.Lines.{lines_of}
+use Rattle.script_laws.proofs.Prelude.{◌≡◌, ◌≢◌, inr, ℕ, Bool, true, false, cond, List, [], ◌∷◌, ◌++◌, codes, Option, Some, None, Result, Ok, Err, refl, sym, ap, subst, ◌∙◌, arith, true≢false, Refusal, Model, Machine, held, undo_refusal, undo, request_of, lines_of, words, Request, Fault, listing, done, answer_text, moved, obeyed, answered, answer_of, machine_after, output_from, Answer, Reply as Told, Listing, EndsLine, ended, oks, Adds, UndoAndRedoCanBeLeftOut, UndoneLinesCanBeLeftOut}
 use Rattle.script_reader.specs.Newline as newline
-use Rattle.script_reader.specs.Words.{words}
 use Rattle.commands.specs.declared.command.Command.TheVariants as command
-use Rattle.script_reader.specs.declared.command.Request.{Request}
 use Rattle.script_reader.specs.declared.command.Request.TheVariants as request
-use Rattle.script_reader.specs.declared.command.Fault.{Fault}
 use Rattle.solid_listing.specs.declared.reply.Reply.TheVariants as reply
-use Rattle.solid_listing.specs.Listing.{listing}
-use Rattle.script_running.specs.script_judging.Judging.{done, answer_text}
-use Rattle.script_running.specs.Output.{moved, obeyed, answered, answer_of, machine_after, output_from}
-use Rattle.script_running.specs.declared.script_judging.judging.Answer.{Answer}
-use Rattle.script_running.specs.declared.script_judging.judging.Answer.TheVariants.{Reply as Told, Listing}
-use Rattle.script_laws.specs.Scripts.{EndsLine, ended, oks, Adds}
-use Rattle.script_laws.specs.Laws.{UndoAndRedoCanBeLeftOut, UndoneLinesCanBeLeftOut}
 use Rattle.script_laws.proofs.Behind.{after, reached, reached_append, adds_from, from_adds, alike, lines_append, ends_append, ends_line}
 use Rattle.script_laws.proofs.Kept.{done_text, one_line, one_answer}
 use Rattle.script_laws.proofs.Spelled.{undoing, redoing, no_undo, no_redo}

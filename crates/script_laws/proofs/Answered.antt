@@ -1,9 +1,7 @@
 -- What a run to the end leaves.
-use Rattle.std.proofs.Common.{ℕ, false, List, Option, Result, Ok, Err, IfOk, refl}
+use Rattle.script_laws.proofs.Prelude.{ℕ, false, List, Option, Result, Ok, Err, IfOk, refl, Summary, Answered}
 use Rattle.script_running.specs.Runs.{Runs, Served}
-use Rattle.script_running.specs.declared.script_judging.judging.Summary.{Summary}
 use Rattle.script_running.specs.declared.running.RunFault.{RunFault}
-use Rattle.script_laws.specs.Scripts.{Answered}
 use Rattle.script_laws.proofs.Ran.{runs_answer}
 use Rattle.script_laws.proofs.Told.{runs_tell}
 

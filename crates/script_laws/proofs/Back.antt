@@ -1,9 +1,5 @@
 -- Undone to the start.
-use Rattle.std.proofs.Common.{◌≡◌, inl, ℕ, zero, suc, true, List, [], ◌++◌, codes, length, refl, sym, subst, ◌∙◌, true≢false}
-use Rattle.undo_journal.specs.Machine.{Machine, start}
-use Rattle.script_reader.specs.Lines.{lines_of}
-use Rattle.script_laws.specs.Scripts.{answers, EndsLine, times, oks, IsTakenBack}
-use Rattle.script_laws.specs.Laws.{UndosLeadBack, SomeUndosLeadBack}
+use Rattle.script_laws.proofs.Prelude.{◌≡◌, inl, ℕ, zero, suc, true, List, [], ◌++◌, codes, length, refl, sym, subst, ◌∙◌, true≢false, Machine, start, lines_of, answers, EndsLine, times, oks, IsTakenBack, UndosLeadBack, SomeUndosLeadBack}
 use Rattle.script_laws.proofs.Behind.{reached, reached_append, adds_from, alike, ends_append, ends_line}
 use Rattle.script_laws.proofs.Undone.{machine, turned, first_of, undone_to, nothing_left, as_many, lines_first}
 use Rattle.script_laws.proofs.Alike.{Alike, lines_alike}

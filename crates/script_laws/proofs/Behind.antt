@@ -1,12 +1,5 @@
 -- What comes behind a script.
-use Rattle.std.proofs.Common.{◌≡◌, inl, inr, ℕ, ◌<◌, Bool, true, false, cond, ◌↔◌, List, [], ◌∷◌, ◌++◌, length, refl, sym, ap, subst, ◌∙◌, arith, append-nil, append_assoc, ◌==◌}
-use Rattle.std.proofs.lemmas.List.{append_cancel_left}
-use Rattle.std.specs.List.{onto_first}
-use Rattle.undo_journal.specs.Machine.{Machine, start}
-use Rattle.script_reader.specs.Lines.{lines_of}
-use Rattle.script_running.specs.script_judging.Judging.{answer_text}
-use Rattle.script_running.specs.Output.{answer_of, machine_after, output_from}
-use Rattle.script_laws.specs.Scripts.{answers, EndsLine, ended, Adds}
+use Rattle.script_laws.proofs.Prelude.{◌≡◌, inl, inr, ℕ, ◌<◌, Bool, true, false, cond, ◌↔◌, List, [], ◌∷◌, ◌++◌, length, refl, sym, ap, subst, ◌∙◌, arith, append-nil, append_assoc, ◌==◌, append_cancel_left, onto_first, Machine, start, lines_of, answer_text, answer_of, machine_after, output_from, answers, EndsLine, ended, Adds}
 
 -- ---- lines
 

@@ -1,39 +1,13 @@
 -- What blocks, splits, undos and redos of a script make.
-use Rattle.std.proofs.Common.{◌≡◌, ◌⊎◌, inl, inr, ℕ, Bool, true, false, List, [], ◌∷◌, Option, Some, None, Result, Ok, Err, ℤ, pos, int_lt, refl, sym, ap, subst, ◌∙◌}
-use Rattle.std.specs.List.{AllByRecursion}
-use Rattle.euler_operators.specs.Common.{Model, Has, is_number}
+use Rattle.script_laws.proofs.Prelude.{◌≡◌, ◌⊎◌, inl, inr, ℕ, Bool, true, false, List, [], ◌∷◌, Option, Some, None, Result, Ok, Err, ℤ, pos, int_lt, refl, sym, ap, subst, ◌∙◌, AllByRecursion, Model, Has, is_number, Refusal, Why, NumberRange, NoSolid, Machine, start, held, undo, undo_refusal, redo, redo_refusal, block, block_refusal, plane_with, split, split_refusal, block_made, BuiltHaveVolume, IsBuilt, redone, solid_split, started, undone, answer, face_refusal, solid_refusal, plane_of, is_flat, six_volume, counts, Change, Question, value_or_refusal, request_of, lines_of, over, Request, Fault, reply_text, AsksFor, asked_for, answer_when, answer_text, moved, given, obeyed, answered, answer_of, machine_after, Answer, Reply as Says, IsBlockOrSplit, OnlyBlocksAndSplits, BlocksAndSplitsHaveVolume}
 use Rattle.euler_operators.specs.Table as table
 use Rattle.euler_operators.specs.Refusal as why
-use Rattle.euler_operators.specs.declared.Refusal.{Refusal}
-use Rattle.euler_operators.specs.declared.Why.{Why}
-use Rattle.euler_operators.specs.declared.Why.TheVariants.{NumberRange, NoSolid}
-use Rattle.undo_journal.specs.Machine.{Machine, start, held, undo, undo_refusal, redo, redo_refusal}
-use Rattle.sweeps.specs.Machine.{block, block_refusal}
-use Rattle.plane_split.specs.Machine.{plane_with, split, split_refusal}
-use Rattle.convex_laws.specs.Convex.{block_made, BuiltHaveVolume, IsBuilt, redone, solid_split, started, undone}
-use Rattle.solid_measure.specs.Measure.{answer, face_refusal, solid_refusal, plane_of, is_flat, six_volume, counts}
-use Rattle.commands.specs.declared.command.Change.{Change}
 use Rattle.commands.specs.declared.command.Change.TheVariants as change
-use Rattle.commands.specs.declared.command.Question.{Question}
 use Rattle.commands.specs.declared.command.Question.TheVariants as question
 use Rattle.commands.specs.declared.command.Command.TheVariants as command
 use Rattle.commands.specs.declared.command.Told.TheVariants as told
-use Rattle.commands.specs.Telling.{value_or_refusal}
-use Rattle.script_reader.specs.Grammar.{request_of}
-use Rattle.script_reader.specs.Lines.{lines_of}
-use Rattle.script_reader.specs.Polygon.{over}
-use Rattle.script_reader.specs.declared.command.Request.{Request}
 use Rattle.script_reader.specs.declared.command.Request.TheVariants as request
-use Rattle.script_reader.specs.declared.command.Fault.{Fault}
 use Rattle.solid_listing.specs.declared.reply.Reply.TheVariants as reply
-use Rattle.solid_listing.specs.Replies.{reply_text}
-use Rattle.script_running.specs.Laws.{AsksFor, asked_for}
-use Rattle.script_running.specs.script_judging.Judging.{answer_when, answer_text}
-use Rattle.script_running.specs.Output.{moved, given, obeyed, answered, answer_of, machine_after}
-use Rattle.script_running.specs.declared.script_judging.judging.Answer.{Answer}
-use Rattle.script_running.specs.declared.script_judging.judging.Answer.TheVariants.{Reply as Says}
-use Rattle.script_laws.specs.Scripts.{IsBlockOrSplit, OnlyBlocksAndSplits}
-use Rattle.script_laws.specs.Laws.{BlocksAndSplitsHaveVolume}
 use Rattle.script_laws.proofs.Behind.{after, reached}
 use Rattle.script_laws.proofs.Measured.{asks, volume_adds}
 

@@ -1,23 +1,9 @@
 -- What isn't answered `ok` leaves the machine as it was.
-use Rattle.std.proofs.Common.{◌≡◌, ◌⊎◌, inl, inr, ℕ, false, List, [], ◌∷◌, ◌++◌, codes, Option, Some, None, Result, Ok, Err, refl, sym, ap, ◌∙◌, append-nil}
-use Rattle.euler_operators.specs.declared.Refusal.{Refusal}
-use Rattle.undo_journal.specs.Machine.{Machine}
-use Rattle.script_reader.specs.Grammar.{request_of}
-use Rattle.script_reader.specs.Lines.{lines_of}
+use Rattle.script_laws.proofs.Prelude.{◌≡◌, ◌⊎◌, inl, inr, ℕ, false, List, [], ◌∷◌, ◌++◌, codes, Option, Some, None, Result, Ok, Err, refl, sym, ap, ◌∙◌, append-nil, Refusal, Machine, request_of, lines_of, Command, Request, Fault, first_line, reply_text, done, answer_text, moved, given, obeyed, answered, answer_of, machine_after, output_from, Answer, EndsLine, ended, AnswersStay, OthersCanBeLeftOut}
 use Rattle.script_reader.specs.Newline as newline
-use Rattle.commands.specs.declared.command.Command.{Command}
 use Rattle.commands.specs.declared.command.Command.TheVariants as command
-use Rattle.script_reader.specs.declared.command.Request.{Request}
 use Rattle.script_reader.specs.declared.command.Request.TheVariants as request
-use Rattle.script_reader.specs.declared.command.Fault.{Fault}
-use Rattle.script_reader.proofs.LinesOf.{first_line}
 use Rattle.solid_listing.specs.declared.reply.Reply.TheVariants as reply
-use Rattle.solid_listing.specs.Replies.{reply_text}
-use Rattle.script_running.specs.script_judging.Judging.{done, answer_text}
-use Rattle.script_running.specs.Output.{moved, given, obeyed, answered, answer_of, machine_after, output_from}
-use Rattle.script_running.specs.declared.script_judging.judging.Answer.{Answer}
-use Rattle.script_laws.specs.Scripts.{EndsLine, ended}
-use Rattle.script_laws.specs.Laws.{AnswersStay, OthersCanBeLeftOut}
 use Rattle.script_laws.proofs.Behind.{after, ends_append, ends_line, reached, reached_append, from_adds, adds_from, alike}
 
 abbrev Stays : Machine → Answer × Machine → Type 0

@@ -1,3 +1,4 @@
+mod Prelude
 mod Behind
 mod Kept
 mod Texts

@@ -1,16 +1,6 @@
 -- Scripts that come to equal listings.
-use Rattle.std.proofs.Common.{◌≡◌, ℕ, false, List, [], ◌∷◌, codes, refl, sym, subst, ◌∙◌}
-use Rattle.std.proofs.lemmas.Bool.{false≢true}
-use Rattle.euler_operators.specs.Common.{Sound}
-use Rattle.undo_journal.specs.Machine.{Machine, held}
-use Rattle.undo_journal.specs.Journal.{Journal, new_journal}
-use Rattle.script_reader.specs.Lines.{lines_of}
-use Rattle.solid_listing.specs.Listing.{listing}
+use Rattle.script_laws.proofs.Prelude.{◌≡◌, ℕ, false, List, [], ◌∷◌, codes, refl, sym, subst, ◌∙◌, false≢true, Sound, Machine, held, Journal, new_journal, lines_of, listing, answer_of, HasHistory, LinesLeadOn, HistoriesMakeConsistent, judges_to, EqualListingsGoOnAlike}
 use Rattle.solid_listing.specs.Telling.{ListingTells}
-use Rattle.script_running.specs.Output.{answer_of}
-use Rattle.script_running.specs.Histories.{HasHistory, LinesLeadOn, HistoriesMakeConsistent}
-use Rattle.script_running.proofs.Outputs.{judges_to}
-use Rattle.script_laws.specs.Laws.{EqualListingsGoOnAlike}
 use Rattle.script_laws.proofs.Behind.{after, reached, from_adds, alike}
 use Rattle.script_laws.proofs.Undone.{list_text}
 use Rattle.script_laws.proofs.Alike.{lines_alike}

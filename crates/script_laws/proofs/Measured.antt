@@ -1,44 +1,22 @@
 -- What volumes are answered behind larger commands.
-use Rattle.std.proofs.Common.{◌≡◌, ℕ, List, [], ◌∷◌, ◌++◌, codes, Option, Some, None, ℤ, pos, ◌+ℤ◌, ◌*ℤ◌, true, false, arith, refl, sym, ap, ◌∙◌}
-use Rattle.std.specs.Fmt.{signed_decimal}
-use Rattle.euler_operators.specs.Common.{Plane, Point, Model, Sound, Has, direction, dot, is_number, solid_of}
+use Rattle.script_laws.proofs.Prelude.{◌≡◌, ℕ, List, [], ◌∷◌, ◌++◌, codes, Option, Some, None, ℤ, pos, ◌+ℤ◌, ◌*ℤ◌, true, false, arith, refl, sym, ap, ◌∙◌, signed_decimal, Plane, Point, Model, Sound, Has, direction, dot, is_number, solid_of, Refusal, NoSolid, normal, Machine, held, block, block_refusal, sweep, sweep_refusal, plane_with, split, split_refusal, answer, face_refusal, solid_refusal, six_volume, Question, Command, Told, asked, value_or_refusal, Request, spaced, reply_text, LinesLeadOn, HistoriesMakeConsistent, asked_for, done, refused, answer_when, answer_text, moved, obeyed, given, answer_of, machine_after, Reply as Says, Answer, EndsLine, ended, Adds, volume_answer, BlocksMeasure, PartsShareVolumes, SweepsMeasure, GluesMeasure}
 use Rattle.euler_operators.specs.Table as table
 use Rattle.euler_operators.specs.Refusal as why
-use Rattle.euler_operators.specs.declared.Refusal.{Refusal}
-use Rattle.euler_operators.specs.declared.Why.TheVariants.{NoSolid}
-use Rattle.shapes.specs.Common.{is_flat, normal, plane_of}
+use Rattle.shapes.specs.Common.{is_flat, plane_of}
 use Rattle.shapes.proofs.glue.Facts.{glue_goes}
 use Rattle.sweeps_laws.proofs.prism.Accepted.{face_there}
-use Rattle.undo_journal.specs.Machine.{Machine, held}
-use Rattle.sweeps.specs.Machine.{block, block_refusal, sweep, sweep_refusal}
 use Rattle.sweeps.specs.Measures.{NewBlock, OthersThanSwept, SweptSolid}
 use Rattle.gluing.specs.Machine.{glue, glue_refusal}
 use Rattle.gluing.specs.Measures.{GluedSolid}
-use Rattle.plane_split.specs.Machine.{plane_with, split, split_refusal}
 use Rattle.plane_split.specs.SplitModels.{PartsAreHeld, HeldShareVolumes}
 use Rattle.command_laws.specs.Solids.{BlocksAreThere, GluesJoinSolids, SweepsKeepSolids, SweptAreThere}
-use Rattle.solid_measure.specs.Measure.{answer, face_refusal, solid_refusal, six_volume}
 use Rattle.commands.specs.declared.command.Change.TheVariants as change
-use Rattle.commands.specs.declared.command.Question.{Question}
 use Rattle.commands.specs.declared.command.Question.TheVariants as question
-use Rattle.commands.specs.declared.command.Command.{Command}
 use Rattle.commands.specs.declared.command.Command.TheVariants as command
-use Rattle.commands.specs.declared.command.Told.{Told}
 use Rattle.commands.specs.declared.command.Told.TheVariants as told
-use Rattle.commands.specs.Telling.{asked, value_or_refusal}
-use Rattle.script_reader.specs.declared.command.Request.{Request}
 use Rattle.script_reader.specs.declared.command.Request.TheVariants as request
-use Rattle.solid_listing.specs.Lines.{spaced}
-use Rattle.solid_listing.specs.Replies.{reply_text}
 use Rattle.solid_listing.specs.declared.reply.Reply.TheVariants as reply
-use Rattle.script_running.specs.Histories.{LinesLeadOn, HistoriesMakeConsistent}
-use Rattle.script_running.specs.Laws.{asked_for}
-use Rattle.script_running.specs.script_judging.Judging.{done, refused, answer_when, answer_text}
-use Rattle.script_running.specs.Output.{moved, obeyed, given, answer_of, machine_after}
-use Rattle.script_running.specs.declared.script_judging.judging.Answer.TheVariants.{Reply as Says}
-use Rattle.script_running.specs.declared.script_judging.judging.Answer.{Answer}
-use Rattle.script_laws.specs.Scripts.{EndsLine, ended, Adds}
-use Rattle.script_laws.specs.Laws.{Spells, volume_answer, BlocksMeasure, PartsShareVolumes, SweepsMeasure, GluesMeasure}
+use Rattle.script_laws.specs.Laws.{Spells}
 use Rattle.script_laws.proofs.Behind.{reached, from_adds, adds_from, ends_append, ends_line}
 use Rattle.script_laws.proofs.Kept.{one_answer, reached_line}
 use Rattle.script_laws.proofs.Undone.{goes, answer_is, machine_is}

@@ -1,25 +1,8 @@
 -- The volumes in a text of answers.
-use Rattle.std.proofs.Common.{◌≡◌, inl, inr, ℕ, zero, suc, ◌+◌, ◌/◌, ◌%◌, ◌≤◌, Bool, true, false, cond, nat_lt, List, [], ◌∷◌, ◌++◌, codes, length, ℤ, pos, negsuc, int_lt, refl, sym, ap, subst, ◌∙◌, arith, append_assoc, decimal, ◌==◌}
-use Rattle.std.proofs.lemmas.Bool.Decides.{nat_tests}
+use Rattle.script_laws.proofs.Prelude.{◌≡◌, inl, inr, ℕ, zero, suc, ◌+◌, ◌/◌, ◌%◌, ◌≤◌, Bool, true, false, cond, nat_lt, List, [], ◌∷◌, ◌++◌, codes, length, ℤ, pos, negsuc, int_lt, refl, sym, ap, subst, ◌∙◌, arith, append_assoc, decimal, ◌==◌, nat_tests, digits, digits_onto, digit_glyph, signed_decimal, AllByRecursion, Kind, Solid, Face, Loop, Edge, Vertex, Model, Machine, held, BuiltHaveVolume, IsBuilt, started, lines_of, Lacks, line_text, text_of, line, lines, listing, or_empty, reply_words, reply_text, answer_text, answer_of, machine_after, Answer, Silent, Reply as Says, Listing, EndsLine, ended, Tells, volume_answer, WrittenVolumesArePositive, VolumesArePositive}
 use Rattle.std.proofs.lemmas.Int.{ints}
-use Rattle.std.specs.Fmt.{digits, digits_onto, digit_glyph, signed_decimal}
-use Rattle.std.specs.List.{AllByRecursion}
-use Rattle.euler_operators.specs.Common.{Kind, Solid, Face, Loop, Edge, Vertex, Model}
-use Rattle.undo_journal.specs.Machine.{Machine, held}
-use Rattle.convex_laws.specs.Convex.{BuiltHaveVolume, IsBuilt, started}
-use Rattle.script_reader.specs.Lines.{lines_of}
-use Rattle.script_reader.specs.Newline.{Lacks}
-use Rattle.solid_listing.specs.Lines.{line_text, text_of}
-use Rattle.solid_listing.specs.Listing.{line, lines, listing, or_empty}
-use Rattle.solid_listing.specs.Replies.{reply_words, reply_text}
 use Rattle.solid_listing.specs.declared.reply.Reply.{Reply}
 use Rattle.solid_listing.specs.declared.reply.Reply.TheVariants as reply
-use Rattle.script_running.specs.script_judging.Judging.{answer_text}
-use Rattle.script_running.specs.Output.{answer_of, machine_after}
-use Rattle.script_running.specs.declared.script_judging.judging.Answer.{Answer}
-use Rattle.script_running.specs.declared.script_judging.judging.Answer.TheVariants.{Silent, Reply as Says, Listing}
-use Rattle.script_laws.specs.Scripts.{EndsLine, ended, Tells}
-use Rattle.script_laws.specs.Laws.{volume_answer, WrittenVolumesArePositive, VolumesArePositive}
 use Rattle.script_laws.proofs.Behind.{reached, ends_append, ends_line, from_adds}
 use Rattle.script_laws.proofs.Kept.{one_answer, reached_line}
 use Rattle.script_laws.proofs.Texts.{decimal_digits, IsOther, all_listed, is_line, listing_others, reply_line}

@@ -1,9 +1,5 @@
 -- What a run writes.
-use Rattle.std.proofs.Common.{◌≡◌, ℕ, ◌-◌, ◌≤◌, false, List, length, refl, ap, ◌∙◌, arith, take_all}
-use Rattle.script_reader.specs.Lines.{lines_of, within_limit}
-use Rattle.script_running.specs.Output.{output_of}
-use Rattle.script_laws.specs.Scripts.{answers}
-use Rattle.script_laws.specs.Laws.{RunsAnswer}
+use Rattle.script_laws.proofs.Prelude.{◌≡◌, ℕ, ◌-◌, ◌≤◌, false, List, length, refl, ap, ◌∙◌, arith, take_all, lines_of, within_limit, output_of, answers, RunsAnswer}
 
 pub all_within : (given : List ℕ) → length given ≤ 67108864 → within_limit 0 given ≡ given
 unfolding within_limit

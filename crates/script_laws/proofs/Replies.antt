@@ -1,20 +1,9 @@
 -- A text begins with one reply at most.
-use Rattle.std.proofs.Common.{◌≡◌, ℕ, suc, ◌^◌, ◌<◌, Bool, true, false, cond, nat_lt, List, [], ◌∷◌, ◌++◌, map, codes, ℤ, pos, negsuc, refl, sym, ap, ◌∙◌, arith, decimal}
-use Rattle.std.proofs.lemmas.List.{append_cancel_left}
-use Rattle.std.proofs.lemmas.Bool.Decides.{nat_tests}
-use Rattle.std.proofs.lemmas.Bool.{and_from}
-use Rattle.std.proofs.lemmas.Fmt.{decimal_is_IsNumeral_wide}
-use Rattle.std.specs.Fmt.{signed_decimal}
+use Rattle.script_laws.proofs.Prelude.{◌≡◌, ℕ, suc, ◌^◌, ◌<◌, Bool, true, false, cond, nat_lt, List, [], ◌∷◌, ◌++◌, map, codes, ℤ, pos, negsuc, refl, sym, ap, ◌∙◌, arith, decimal, append_cancel_left, nat_tests, and_from, decimal_is_IsNumeral_wide, signed_decimal, AllByRecursion, digits_value, lines_of, line_text, reply_words, reply_text, Fits, RepliesTell}
 use Rattle.std.specs.Int.Signed.{mag}
-use Rattle.std.specs.List.{AllByRecursion}
-use Rattle.std.specs.Str.Parse.{digits_value}
-use Rattle.script_reader.specs.Lines.{lines_of}
-use Rattle.solid_listing.specs.Lines.{line_text}
-use Rattle.solid_listing.specs.Replies.{reply_words, reply_text}
 use Rattle.solid_listing.specs.declared.reply.Reply.{Reply}
 use Rattle.solid_listing.specs.declared.reply.Reply.TheVariants as reply
 use Rattle.solid_listing.proofs.Parsing.{is_clean, are_clean, is_good, parsed, parsed_text, parsed_one}
-use Rattle.script_laws.specs.Laws.{Fits, RepliesTell}
 use Rattle.script_laws.proofs.Texts.{AreDigits, decimal_digits, reply_line}
 
 -- ---- digits

@@ -1,15 +1,10 @@
 -- Which lines spell undo, and which redo.
-use Rattle.std.proofs.Common.{◌≡◌, ◌≢◌, inl, inr, ℕ, List, [], ◌∷◌, codes, Ok, ap, ◌∙◌}
+use Rattle.script_laws.proofs.Prelude.{◌≡◌, ◌≢◌, inl, inr, ℕ, List, [], ◌∷◌, codes, Ok, ap, ◌∙◌, words, kinds_of, build, word_of, request_of, Spells, WordsSpell, Request, line_ok}
 use Rattle.script_reader.specs.Places.{Word}
-use Rattle.script_reader.specs.Words.{words}
-use Rattle.script_reader.specs.Grammar.{kinds_of, build, word_of, request_of}
-use Rattle.script_reader.specs.Spelling.{Spells, WordsSpell}
 use Rattle.commands.specs.declared.command.Command.TheVariants as command
-use Rattle.script_reader.specs.declared.command.Request.{Request}
 use Rattle.script_reader.specs.declared.command.Request.TheVariants.{Give}
 use Rattle.script_reader.specs.declared.name.Name.{Name}
 use Rattle.script_reader.specs.declared.name.Name.TheVariants as name
-use Rattle.script_reader.proofs.LineLaws.{line_ok}
 
 -- the lines that ask for undo and redo
 abbrev pub undoing : Request

@@ -1,24 +1,7 @@
 -- The lines of an answer's text, and how many of them are `ok`.
-use Rattle.std.proofs.Common.{◌≡◌, ◌≢◌, inl, inr, ℕ, zero, suc, ◌+◌, ◌/◌, ◌%◌, ◌≤◌, Bool, true, false, cond, ◌&&◌, nat_eq, nat_lt, List, [], ◌∷◌, ◌++◌, map, codes, flat_map, bytes_eq, ℤ, pos, negsuc, refl, sym, ap, ◌∙◌, arith, append-nil, append_assoc, true≢false, decimal, ◌==◌}
-use Rattle.std.proofs.lemmas.Bool.Decides.{nat_tests}
-use Rattle.std.proofs.lemmas.Bool.{cases_Bool}
-use Rattle.std.specs.Fmt.{signed_decimal, digits, digits_onto, digit_glyph}
-use Rattle.std.specs.List.{AllByRecursion}
-use Rattle.euler_operators.specs.Common.{Kind, Solid, Face, Loop, Edge, Vertex, is_first, edge_of, Model, LoopContent, lone, cycle, content, rings_of}
-use Rattle.undo_journal.specs.Machine.{Machine, held}
-use Rattle.script_reader.specs.Newline.{Lacks, has_newline}
-use Rattle.script_reader.specs.Lines.{lines_of}
-use Rattle.script_reader.proofs.LinesOf.{first_line}
-use Rattle.script_reader.proofs.NewlineLaws.{Lacks-append}
-use Rattle.solid_listing.specs.Lines.{spaced, line_text, text_of}
-use Rattle.solid_listing.specs.Listing.{half_word, content_words, line, numbers_of, kind_lines, kinds, lines, or_empty, listing}
-use Rattle.solid_listing.specs.Replies.{reply_words, reply_text}
+use Rattle.script_laws.proofs.Prelude.{◌≡◌, ◌≢◌, inl, inr, ℕ, zero, suc, ◌+◌, ◌/◌, ◌%◌, ◌≤◌, Bool, true, false, cond, ◌&&◌, nat_eq, nat_lt, List, [], ◌∷◌, ◌++◌, map, codes, flat_map, bytes_eq, ℤ, pos, negsuc, refl, sym, ap, ◌∙◌, arith, append-nil, append_assoc, true≢false, decimal, ◌==◌, nat_tests, cases_Bool, signed_decimal, digits, digits_onto, digit_glyph, AllByRecursion, Kind, Solid, Face, Loop, Edge, Vertex, is_first, edge_of, Model, LoopContent, lone, cycle, content, rings_of, Machine, held, Lacks, has_newline, lines_of, first_line, Lacks-append, spaced, line_text, text_of, half_word, content_words, line, numbers_of, kind_lines, kinds, lines, or_empty, listing, reply_words, reply_text, answer_text, Answer, Silent, Reply as Told, Listing, EndsLine, count_lines, oks}
 use Rattle.solid_listing.specs.declared.reply.Reply.{Reply}
 use Rattle.solid_listing.specs.declared.reply.Reply.TheVariants as reply
-use Rattle.script_running.specs.script_judging.Judging.{answer_text}
-use Rattle.script_running.specs.declared.script_judging.judging.Answer.{Answer}
-use Rattle.script_running.specs.declared.script_judging.judging.Answer.TheVariants.{Silent, Reply as Told, Listing}
-use Rattle.script_laws.specs.Scripts.{EndsLine, count_lines, oks}
 use Rattle.script_laws.proofs.Behind.{lines_append, ends_append}
 
 -- ---- words without newlines

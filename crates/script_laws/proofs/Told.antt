@@ -1,43 +1,15 @@
 -- What a run writes where memory may be refused.
-use Rattle.std.proofs.Common.{◌≡◌, ◌≢◌, ◌⊎◌, inl, inr, ℕ, false, List, [], ◌∷◌, ◌++◌, codes, Option, Some, None, Result, Ok, Err, refl, sym, ap, subst, ◌∙◌, append-nil}
-use Rattle.std.proofs.lemmas.Bool.{false≢true}
-use Rattle.std.specs.List.{AllByRecursion}
-use Rattle.euler_operators.specs.Common.{Model}
-use Rattle.euler_operators.specs.declared.Refusal.{Refusal}
-use Rattle.undo_journal.specs.Machine.{Machine, held}
-use Rattle.solid_measure.specs.Measure.{answer, face_refusal, solid_refusal, plane_of, is_flat, six_volume, counts}
-use Rattle.script_reader.specs.Grammar.{request_of}
+use Rattle.script_laws.proofs.Prelude.{◌≡◌, ◌≢◌, ◌⊎◌, inl, inr, ℕ, false, List, [], ◌∷◌, ◌++◌, codes, Option, Some, None, Result, Ok, Err, refl, sym, ap, subst, ◌∙◌, append-nil, false≢true, AllByRecursion, Model, Refusal, Machine, held, answer, face_refusal, solid_refusal, plane_of, is_flat, six_volume, counts, request_of, lines_of, within_limit, Lacks, Journal, new_journal, over, Command, Change, Question, Told, asked, value_or_refusal, TellsSession, Request, Fault, reply_text, answer_when, Gives, Obeys, Answers, Judges, answer_text, one_line, asked_for, answer_of, machine_after, Answer, Reply as Says, Summary, judges_so, AsksForChange, EndsLine, ended, Tells, RunsTell, BrokenRunsTell, FailedRunsTell}
 use Rattle.script_reader.specs.Lined.{IsLined}
-use Rattle.script_reader.specs.Lines.{lines_of, within_limit}
-use Rattle.script_reader.specs.Newline.{Lacks}
-use Rattle.undo_journal.specs.Journal.{Journal, new_journal}
 use Rattle.undo_journal.proofs.Journals.{same_machine}
-use Rattle.script_reader.specs.Polygon.{over}
-use Rattle.commands.specs.declared.command.Command.{Command}
 use Rattle.commands.specs.declared.command.Command.TheVariants as command
-use Rattle.commands.specs.declared.command.Change.{Change}
-use Rattle.commands.specs.declared.command.Question.{Question}
 use Rattle.commands.specs.declared.command.Question.TheVariants as question
-use Rattle.commands.specs.declared.command.Told.{Told}
 use Rattle.commands.specs.declared.command.Told.TheVariants as told
-use Rattle.commands.specs.Telling.{asked, value_or_refusal, TellsSession}
 use Rattle.commands.proofs.Kept.{session_kept}
-use Rattle.script_reader.specs.declared.command.Request.{Request}
 use Rattle.script_reader.specs.declared.command.Request.TheVariants as request
-use Rattle.script_reader.specs.declared.command.Fault.{Fault}
 use Rattle.script_reader.proofs.LinedLaws.{lines_are_lined}
 use Rattle.solid_listing.specs.declared.reply.Reply.TheVariants as reply
-use Rattle.solid_listing.specs.Replies.{reply_text}
-use Rattle.script_running.specs.script_judging.Judging.{answer_when, Gives, Obeys, Answers, Judges, answer_text, one_line}
-use Rattle.script_running.specs.Laws.{asked_for}
 use Rattle.script_running.specs.Outs.{Outs}
-use Rattle.script_running.specs.Output.{answer_of, machine_after}
-use Rattle.script_running.specs.declared.script_judging.judging.Answer.{Answer}
-use Rattle.script_running.specs.declared.script_judging.judging.Answer.TheVariants.{Reply as Says}
-use Rattle.script_running.specs.declared.script_judging.judging.Summary.{Summary}
-use Rattle.script_running.proofs.Outputs.{judges_so}
-use Rattle.script_laws.specs.Scripts.{AsksForChange, EndsLine, ended, Tells}
-use Rattle.script_laws.specs.Laws.{RunsTell, BrokenRunsTell, FailedRunsTell}
 use Rattle.script_laws.proofs.Behind.{reached, adds_from, ends_append, ends_line}
 use Rattle.script_laws.proofs.Kept.{one_answer, reached_line}
 use Rattle.script_laws.proofs.Ran.{all_within}

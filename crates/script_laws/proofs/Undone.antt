@@ -1,29 +1,10 @@
 -- Undo and redo in a script.
-use Rattle.std.proofs.Common.{◌≡◌, ◌≢◌, ℕ, zero, suc, ◌+◌, Bool, true, false, cond, nat_eq, List, [], ◌∷◌, ◌++◌, codes, length, Option, Some, None, Result, Ok, Err, refl, sym, ap, ◌∙◌, arith, append-nil, append_assoc}
-use Rattle.std.proofs.lemmas.Bool.Decides.{nat_tests}
-use Rattle.std.specs.List.{AllByRecursion}
-use Rattle.euler_operators.specs.declared.Refusal.{Refusal}
-use Rattle.euler_operators.specs.Common.{Model}
-use Rattle.undo_journal.specs.Machine.{Machine, start, held, undo, undo_refusal, redo, redo_refusal}
-use Rattle.solid_measure.specs.Measure.{answer, face_refusal, solid_refusal, plane_of, is_flat, six_volume, counts}
-use Rattle.script_reader.specs.Grammar.{arguments, request_of}
-use Rattle.script_reader.specs.Lines.{lines_of}
-use Rattle.script_reader.specs.Words.{words}
-use Rattle.commands.specs.declared.command.Question.{Question}
+use Rattle.script_laws.proofs.Prelude.{◌≡◌, ◌≢◌, ℕ, zero, suc, ◌+◌, Bool, true, false, cond, nat_eq, List, [], ◌∷◌, ◌++◌, codes, length, Option, Some, None, Result, Ok, Err, refl, sym, ap, ◌∙◌, arith, append-nil, append_assoc, nat_tests, AllByRecursion, Refusal, Model, Machine, start, held, undo, undo_refusal, redo, redo_refusal, answer, face_refusal, solid_refusal, plane_of, is_flat, six_volume, counts, arguments, request_of, lines_of, words, Question, Told, asked, value_or_refusal, Request, Fault, listing, done, answer_when, answer_text, moved, obeyed, answered, answer_of, machine_after, output_from, Answer, answers, EndsLine, times, HasNo, oks, Adds}
 use Rattle.commands.specs.declared.command.Question.TheVariants as question
 use Rattle.commands.specs.declared.command.Command.TheVariants as command
-use Rattle.commands.specs.declared.command.Told.{Told}
 use Rattle.commands.specs.declared.command.Told.TheVariants as told
-use Rattle.commands.specs.Telling.{asked, value_or_refusal}
-use Rattle.script_reader.specs.declared.command.Request.{Request}
 use Rattle.script_reader.specs.declared.command.Request.TheVariants as request
-use Rattle.script_reader.specs.declared.command.Fault.{Fault}
-use Rattle.solid_listing.specs.Listing.{listing}
 use Rattle.solid_listing.proofs.EmptyModels.{empty-listing}
-use Rattle.script_running.specs.script_judging.Judging.{done, answer_when, answer_text}
-use Rattle.script_running.specs.Output.{moved, obeyed, answered, answer_of, machine_after, output_from}
-use Rattle.script_running.specs.declared.script_judging.judging.Answer.{Answer}
-use Rattle.script_laws.specs.Scripts.{answers, EndsLine, times, HasNo, oks, Adds}
 use Rattle.script_laws.proofs.Behind.{after, reached, adds_from}
 use Rattle.script_laws.proofs.Kept.{done_text}
 use Rattle.script_laws.proofs.Spelled.{undoing, redoing, no_undo, no_redo}

@@ -1,15 +1,7 @@
 -- Scripts and their answers, computed.
-use Rattle.std.proofs.Common.{refl}
-use Rattle.std.specs.Fmt.{digits}
-use Rattle.euler_operators.specs.Common.{mate, code, half, edge_of, is_first, empty_model, point_of, content, tail, loop_of, face_of, solid_of, outer, arc, holds, after, rotate_to, canonical, rest, conditions, first_false, has_rings, effect, mvfs, mev_lone, mev_at}
+use Rattle.script_laws.proofs.Prelude.{refl, digits, mate, code, half, edge_of, is_first, empty_model, point_of, content, tail, loop_of, face_of, solid_of, outer, arc, holds, after, rotate_to, canonical, rest, conditions, first_false, has_rings, effect, mvfs, mev_lone, mev_at, boundary, corners, lamina_conditions, lamina_model, loops_of, normal, prism_conditions, prism_model, raised, taken_in, with_side, lines, listing, reply_text, arguments, answer_of, machine_after, answers, AnsweredSo, OthersMayHaveNone}
 use Rattle.euler_operators.specs.Table as table
-use Rattle.shapes.specs.Common.{boundary, corners, is_flat, lamina_conditions, lamina_model, loops_of, normal, plane_of, prism_conditions, prism_model, raised, six_volume, taken_in, with_side}
-use Rattle.solid_listing.specs.Listing.{lines, listing}
-use Rattle.solid_listing.specs.Replies.{reply_text}
-use Rattle.script_reader.specs.Grammar.{arguments}
-use Rattle.script_running.specs.Output.{answer_of, machine_after}
-use Rattle.script_laws.specs.Scripts.{answers}
-use Rattle.script_laws.specs.Laws.{AnsweredSo, OthersMayHaveNone}
+use Rattle.shapes.specs.Common.{is_flat, plane_of, six_volume}
 
 pub answered_so : AnsweredSo
 unfolding digits mate code half edge_of is_first rotate_to canonical rest holds after table.empty table.get table.put table.remove table.map_rows table.first_where table.all_where empty_model point_of content tail loop_of face_of solid_of outer arc conditions first_false has_rings effect mvfs mev_lone mev_at lines listing reply_text arguments answer_of machine_after answers

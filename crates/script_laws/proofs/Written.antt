@@ -1,25 +1,13 @@
 -- Lines of words spell commands.
-use Rattle.std.proofs.Common.{◌≡◌, inl, inr, ℕ, suc, ◌*◌, ◌^◌, ◌<◌, ◌≤◌, List, [], ◌∷◌, ◌++◌, map, codes, length, length-append, ℤ, pos, negsuc, neg_ℤ, Ok, refl, sym, ap, arith, decimal}
-use Rattle.std.proofs.lemmas.Fmt.{decimal_is_IsNumeral, decimal_nonempty, length-decimal-le, length_signed_le}
+use Rattle.script_laws.proofs.Prelude.{◌≡◌, inl, inr, ℕ, suc, ◌*◌, ◌^◌, ◌<◌, ◌≤◌, List, [], ◌∷◌, ◌++◌, map, codes, length, length-append, ℤ, pos, negsuc, neg_ℤ, Ok, refl, sym, ap, arith, decimal, decimal_is_IsNumeral, decimal_nonempty, length-decimal-le, length_signed_le, signed_decimal, AllByRecursion, AllDigits, request_of, HasNoGap, IsAtGap, IsParted, SaysNumber, SaysInteger, IsAscii, WordsSpell, words, Request, ok_line, Lacks-append, spaced, IsWritten, BlockLinesSpell, SplitLinesSpell, VolumeLinesSpell}
 use Rattle.std.proofs.lemmas.Str.Parse.{digit_from_value}
-use Rattle.std.specs.Fmt.{signed_decimal}
-use Rattle.std.specs.List.{AllByRecursion}
-use Rattle.std.specs.Str.Parse.{AllDigits}
-use Rattle.script_reader.specs.Grammar.{request_of}
 use Rattle.script_reader.specs.Newline as newline
-use Rattle.script_reader.specs.Spelling.{HasNoGap, IsAtGap, IsParted, SaysNumber, SaysInteger, IsAscii, WordsSpell}
-use Rattle.script_reader.specs.Words.{words}
 use Rattle.commands.specs.declared.command.Change.TheVariants as change
 use Rattle.commands.specs.declared.command.Question.TheVariants as question
 use Rattle.commands.specs.declared.command.Command.TheVariants as command
-use Rattle.script_reader.specs.declared.command.Request.{Request}
 use Rattle.script_reader.specs.declared.command.Request.TheVariants as request
 use Rattle.script_reader.specs.declared.name.Name.TheVariants as name
-use Rattle.script_reader.proofs.LineLaws.{ok_line}
-use Rattle.script_reader.proofs.NewlineLaws.{Lacks-append}
 use Rattle.script_reader.proofs.PartLaws.{parted_words}
-use Rattle.solid_listing.specs.Lines.{spaced}
-use Rattle.script_laws.specs.Laws.{IsWritten, BlockLinesSpell, SplitLinesSpell, VolumeLinesSpell}
 
 -- ---- words
 

@@ -1,9 +1,7 @@
 -- Bytes below 128, by index and by list.
-use Rattle.std.proofs.Common.{◌≡◌, ℕ, zero, suc, ◌<◌, ◌≤◌, Bool, true, false, List, [], ◌∷◌, Err, length, sym, refl, arith, nat_lt, slice_index, MatchBool, IsAscii}
+use Rattle.script_reader.proofs.Prelude.{◌≡◌, ℕ, zero, suc, ◌<◌, ◌≤◌, Bool, true, false, List, [], ◌∷◌, Err, length, sym, refl, arith, nat_lt, slice_index, MatchBool, nat_tests, is_ascii, request_of, NotAscii}
+use Rattle.std.proofs.Common.{IsAscii}
 use Rattle.std.specs.Str.{IsNotAscii}
-use Rattle.std.proofs.lemmas.Bool.Decides.{nat_tests}
-use Rattle.script_reader.specs.Grammar.{is_ascii, request_of}
-use Rattle.script_reader.specs.declared.command.Fault.TheVariants.{NotAscii}
 
 all_below : (line : List ℕ) → IsAscii line → is_ascii line ≡ true
 all_below [] all = refl

@@ -1,21 +1,6 @@
 -- A line whose words spell a command is ASCII: each of its bytes belongs to such a word, or separates two.
-use Rattle.std.proofs.Common.{◌≡◌, ◌≢◌, inl, inr, ℕ, ◌≤◌, Bool, true, false, List, [], ◌∷◌, length, Ok, refl, subst, arith, ℤ, nat_lt}
-use Rattle.std.specs.List.{onto_first}
-use Rattle.std.specs.Str.Parse.{AllDigits}
-use Rattle.std.proofs.lemmas.Bool.{cases_Bool}
-use Rattle.std.proofs.lemmas.Bool.Decides.{nat_tests}
-use Rattle.std.proofs.lemmas.Str.Parse.{digit_from_value}
-use Rattle.euler_operators.specs.Common.{Point, HalfEdge, Corner, At, Lone}
-use Rattle.script_reader.specs.Words.{is_space, joined, words}
-use Rattle.script_reader.specs.Places.{Word, Kind, Number, Integer, Half, AnyCorner, Place, Places, InOrOut, Meaning}
-use Rattle.script_reader.specs.Grammar.{Builder, word_of, kinds_of, build, is_ascii, request_of_words, request_of}
-use Rattle.script_reader.specs.declared.command.Request.{Request}
-use Rattle.script_reader.specs.declared.command.Request.TheVariants.{Nothing}
-use Rattle.script_reader.specs.declared.name.Name.{Name}
+use Rattle.script_reader.proofs.Prelude.{◌≡◌, ◌≢◌, inl, inr, ℕ, ◌≤◌, Bool, true, false, List, [], ◌∷◌, length, Ok, refl, subst, arith, ℤ, nat_lt, onto_first, AllDigits, cases_Bool, nat_tests, digit_from_value, Point, HalfEdge, Corner, At, Lone, is_space, joined, words, Word, Kind, Number, Integer, Half, AnyCorner, Place, Places, InOrOut, Meaning, Builder, word_of, kinds_of, build, is_ascii, request_of_words, request_of, Request, Nothing, Name, Way, In, Out, SaysNumber, SaysInteger, SaysHalf, SaysCorner, SaysWay, sign, Begins, BeginsPlace, ArePoints, Means, Spells, WordsSpell, IsAscii}
 use Rattle.script_reader.specs.declared.name.Name.TheVariants as name
-use Rattle.script_reader.specs.declared.places.Way.{Way}
-use Rattle.script_reader.specs.declared.places.Way.TheVariants.{In, Out}
-use Rattle.script_reader.specs.Spelling.{SaysNumber, SaysInteger, SaysHalf, SaysCorner, SaysWay, sign, Begins, BeginsPlace, ArePoints, Means, Spells, WordsSpell, IsAscii}
 use Rattle.script_reader.proofs.LineLaws.{words_ok, ascii_told, told_ascii}
 
 abbrev AreAscii : List Word → Type 0

@@ -1,7 +1,5 @@
 -- A corner that begins as a lone loop does.
-use Rattle.std.proofs.Common.{◌≡◌, ℕ, ◌≤◌, List, [], ◌∷◌, length, get_or, refl, sym, subst, arith, ◌∙◌}
-use Rattle.script_reader.specs.Words.{first_by}
-use Rattle.script_reader.specs.Places.{lone_of, corner_of}
+use Rattle.script_reader.proofs.Prelude.{◌≡◌, ℕ, ◌≤◌, List, [], ◌∷◌, length, get_or, refl, sym, subst, arith, ◌∙◌, first_by, lone_of, corner_of}
 use Rattle.script_reader.proofs.FirstLaws.{first_longer}
 
 pub lone_first : (line : List ℕ) → 1 ≤ length line → get_or line 0 0 ≡ 64 → first_by lone_of line ≡ first_by corner_of line

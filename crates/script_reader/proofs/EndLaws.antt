@@ -1,15 +1,6 @@
 -- Behind the last line the answer stays.
-use Rattle.std.proofs.Common.{◌≡◌, ◌≢◌, inl, inr, ℕ, true, false, List, [], ◌++◌, length, Option, refl, sym, ap, subst, ◌∙◌, arith, append-nil}
-use Rattle.std.proofs.lemmas.List.{nil_from_length}
-use Rattle.script_reader.specs.Newline.{Lacks, has_newline}
-use Rattle.script_reader.specs.Lines.{within_limit, FirstLine, Answers}
-use Rattle.script_reader.specs.State.{unread_of, ending_of, is_ready, IsStill}
-use Rattle.script_reader.specs.Next.{Went}
-use Rattle.script_reader.specs.declared.lines.Ending.{Ending}
-use Rattle.script_reader.specs.declared.lines.Ending.TheVariants.{Open, Ended, Failed, Over}
-use Rattle.script_reader.specs.declared.lines.Found.{Found}
+use Rattle.script_reader.proofs.Prelude.{◌≡◌, ◌≢◌, inl, inr, ℕ, true, false, List, [], ◌++◌, length, Option, refl, sym, ap, subst, ◌∙◌, arith, append-nil, nil_from_length, Lacks, has_newline, within_limit, FirstLine, Answers, unread_of, ending_of, is_ready, IsStill, Went, Ending, Open, Ended, Failed, Over, Found, Lines}
 use Rattle.script_reader.specs.declared.lines.Found.TheVariants as found
-use Rattle.script_reader.specs.declared.lines.Lines.{Lines}
 use Rattle.script_reader.proofs.NewlineLaws.{Lacks-front, has-lacks, has-newline}
 use Rattle.script_reader.proofs.LinesLaws.{limit_none}
 use Rattle.script_reader.specs.Ends.{IsLast}

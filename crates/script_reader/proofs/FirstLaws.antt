@@ -1,8 +1,5 @@
 -- What the first word of a line says.
-use Rattle.std.proofs.Common.{◌≡◌, ℕ, ◌<◌, false, List, ◌∷◌, Option, Some, None, Ok, Err, length, take, drop, refl, ap, one-add, option_map}
-use Rattle.script_reader.specs.Words.{is_space, words, word_len, IsAtWord, first_by}
-use Rattle.script_reader.specs.Places.{Word, said, next_of}
-use Rattle.script_reader.specs.declared.command.Fault.{Fault}
+use Rattle.script_reader.proofs.Prelude.{◌≡◌, ℕ, ◌<◌, false, List, ◌∷◌, Option, Some, None, Ok, Err, length, take, drop, refl, ap, one-add, option_map, is_space, words, word_len, IsAtWord, first_by, Word, said, next_of, Fault}
 use Rattle.script_reader.proofs.WordLaws.{first_word}
 
 pub first_longer : {A : Type 0} (read : Word → Option A) (c : ℕ) (cs : List ℕ) → is_space c ≡ false → first_by read (c ∷ cs) ≡ first_by (λ (w : Word). read (c ∷ w)) cs

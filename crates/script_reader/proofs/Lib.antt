@@ -1,3 +1,4 @@
+mod Prelude
 pub mod AsciiLaws
 pub mod AsciiWords
 pub mod LinesLaws

@@ -1,17 +1,6 @@
 -- What a line spells, and what is wrong with it.
-use Rattle.std.proofs.Common.{◌≡◌, inl, inr, ℕ, ◌<◌, ◌≤◌, Bool, true, false, List, [], ◌∷◌, length, Some, Ok, Err, refl, subst, arith, nat_lt, bytes_eq, find}
-use Rattle.std.proofs.lemmas.Bool.{cases_Bool}
-use Rattle.std.proofs.lemmas.Bool.Decides.{nat_tests}
-use Rattle.std.proofs.lemmas.Slice.Eq.{bytes_eq-Decides}
-use Rattle.script_reader.specs.Words.{words}
-use Rattle.script_reader.specs.Places.{Word, Kind, read}
-use Rattle.script_reader.specs.Grammar.{Builder, names, word_of, kinds_of, build, read_all, name_of, arguments, is_comment, request_of_words, is_ascii, request_of}
-use Rattle.script_reader.specs.declared.command.Request.{Request}
-use Rattle.script_reader.specs.declared.command.Request.TheVariants.{Nothing}
-use Rattle.script_reader.specs.declared.command.Fault.{Fault}
-use Rattle.script_reader.specs.declared.name.Name.{Name}
+use Rattle.script_reader.proofs.Prelude.{◌≡◌, inl, inr, ℕ, ◌<◌, ◌≤◌, Bool, true, false, List, [], ◌∷◌, length, Some, Ok, Err, refl, subst, arith, nat_lt, bytes_eq, find, cases_Bool, nat_tests, bytes_eq-Decides, words, Word, Kind, read, Builder, names, word_of, kinds_of, build, read_all, name_of, arguments, is_comment, request_of_words, is_ascii, request_of, Request, Nothing, Fault, Name, Spells, Misspells, IsComment, WordsSpell, WordsMisspell, IsAscii, LineSpells, LineMisspells}
 use Rattle.script_reader.specs.declared.name.Name.TheVariants as name
-use Rattle.script_reader.specs.Spelling.{Spells, Misspells, IsComment, WordsSpell, WordsMisspell, IsAscii, LineSpells, LineMisspells}
 use Rattle.script_reader.proofs.OptionLaws.{some_or_none, bind_ok, bind_err}
 use Rattle.script_reader.proofs.PlaceLaws.{read_ok, ok_read, read_err, err_read}
 

@@ -1,9 +1,5 @@
 -- The lines of a text are its parts between newlines.
-use Rattle.std.proofs.Common.{◌≡◌, ◌≢◌, inl, inr, ℕ, List, [], ◌∷◌, refl, sym, ap, subst, ◌∙◌, arith, ◌==◌}
-use Rattle.std.specs.List.{onto_first}
-use Rattle.std.proofs.lemmas.Bool.{cases_Bool}
-use Rattle.std.proofs.lemmas.Bool.Decides.{nat_tests}
-use Rattle.script_reader.specs.Lines.{lines_of}
+use Rattle.script_reader.proofs.Prelude.{◌≡◌, ◌≢◌, inl, inr, ℕ, List, [], ◌∷◌, refl, sym, ap, subst, ◌∙◌, arith, ◌==◌, onto_first, cases_Bool, nat_tests, lines_of}
 use Rattle.script_reader.proofs.LinesOf.{first_line, last_line}
 use Rattle.script_reader.specs.Lined.{IsLined}
 

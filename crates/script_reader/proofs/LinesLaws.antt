@@ -1,19 +1,6 @@
 -- Going to the next line.
-use Rattle.std.proofs.Common.{◌≡◌, ◌⊎◌, inl, inr, ℕ, ◌+◌, ◌-◌, ◌<◌, ◌≤◌, Bool, true, false, List, [], ◌∷◌, ◌++◌, length, take, refl, sym, ap, subst, ◌∙◌, arith, append_assoc, length-append, Option, append-nil, take_all, take_at, drop_at}
-use Rattle.std.proofs.lemmas.List.{take-append-le}
-use Rattle.std.proofs.Math.Seq.{take-add, take-append-add}
-use Rattle.std.proofs.lemmas.Bool.{cases_lt}
-use Rattle.std.proofs.KnownBytes.{Consumes-nil, Consumes-trans}
-use Rattle.std.specs.Io.KnownBytes.{Consumes}
-use Rattle.script_reader.specs.Buffer.{Holding}
-use Rattle.script_reader.specs.Newline.{Lacks}
-use Rattle.script_reader.specs.State.{is_ready, has_line, IsStill}
+use Rattle.script_reader.proofs.Prelude.{◌≡◌, ◌⊎◌, inl, inr, ℕ, ◌+◌, ◌-◌, ◌<◌, ◌≤◌, Bool, true, false, List, [], ◌∷◌, ◌++◌, length, take, refl, sym, ap, subst, ◌∙◌, arith, append_assoc, length-append, Option, append-nil, take_all, take_at, drop_at, take-append-le, take-add, take-append-add, cases_lt, Consumes-nil, Consumes-trans, Consumes, Holding, Lacks, is_ready, has_line, IsStill, Lines, within_limit, Reads, Answers, Advances, LastAnswer, Ending, Open, Ended, Failed, Over, Found}
 use Rattle.script_reader.proofs.NewlineLaws.{Lacks-append, has-lacks}
-use Rattle.script_reader.specs.declared.lines.Lines.{Lines}
-use Rattle.script_reader.specs.Lines.{within_limit, Reads, Answers, Advances, LastAnswer}
-use Rattle.script_reader.specs.declared.lines.Ending.{Ending}
-use Rattle.script_reader.specs.declared.lines.Ending.TheVariants.{Open, Ended, Failed, Over}
-use Rattle.script_reader.specs.declared.lines.Found.{Found}
 use Rattle.script_reader.specs.declared.lines.Found.TheVariants as found
 
 -- a read is still to come

@@ -1,10 +1,5 @@
 -- The lines of a text that begins with a line.
-use Rattle.std.proofs.Common.{◌≡◌, ◌≢◌, inl, inr, ℕ, ◌<◌, false, List, [], ◌∷◌, ◌++◌, length, refl, sym, ap, ◌∙◌, arith, append_assoc, length-append, ◌==◌}
-use Rattle.std.proofs.lemmas.Bool.{cases_Bool}
-use Rattle.std.proofs.lemmas.Bool.Decides.{nat_tests}
-use Rattle.std.specs.List.{onto_first}
-use Rattle.script_reader.specs.Newline.{Lacks}
-use Rattle.script_reader.specs.Lines.{lines_of, with_newlines}
+use Rattle.script_reader.proofs.Prelude.{◌≡◌, ◌≢◌, inl, inr, ℕ, ◌<◌, false, List, [], ◌∷◌, ◌++◌, length, refl, sym, ap, ◌∙◌, arith, append_assoc, length-append, ◌==◌, cases_Bool, nat_tests, onto_first, Lacks, lines_of, with_newlines}
 
 differs : (b : ℕ) → b ≢ 10 → (b == 10) ≡ false
 differs b h = grind (arith, nat_tests)

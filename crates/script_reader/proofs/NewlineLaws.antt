@@ -1,9 +1,5 @@
 -- Newlines, by index and by list.
-use Rattle.std.proofs.Common.{◌≡◌, inl, inr, ℕ, suc, ◌+◌, ◌-◌, ◌<◌, ◌≤◌, min, true, false, List, [], ◌∷◌, ◌++◌, length, take, drop, get_or, refl, sym, ap, subst, ◌∙◌, arith, add-one, drop-cons, slice_range, nat_lt, take-take, drop-drop, take_at, get_or-take, get_or-drop}
-use Rattle.std.proofs.Math.Seq.{take-add}
-use Rattle.std.proofs.lemmas.Bool.{cases_Bool}
-use Rattle.std.proofs.lemmas.Bool.Decides.{nat_tests}
-use Rattle.script_reader.specs.Newline.{Lacks, has_newline, FirstNewline}
+use Rattle.script_reader.proofs.Prelude.{◌≡◌, inl, inr, ℕ, suc, ◌+◌, ◌-◌, ◌<◌, ◌≤◌, min, true, false, List, [], ◌∷◌, ◌++◌, length, take, drop, get_or, refl, sym, ap, subst, ◌∙◌, arith, add-one, drop-cons, slice_range, nat_lt, take-take, drop-drop, take_at, get_or-take, get_or-drop, take-add, cases_Bool, nat_tests, Lacks, has_newline, FirstNewline}
 
 pub Lacks-append : (xs ys : List ℕ) → Lacks xs → Lacks ys → Lacks (xs ++ ys)
 Lacks-append [] ys h k = k

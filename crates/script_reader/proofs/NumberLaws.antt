@@ -1,15 +1,6 @@
 -- Digits up to a separator.
-use Rattle.std.proofs.Common.{◌≡◌, inl, inr, Bool, ℕ, ◌+◌, ◌-◌, ◌*◌, ◌^◌, ◌<◌, ◌≤◌, List, [], ◌∷◌, true, false, Option, Some, None, length, take, drop, get_or, refl, sym, ap, subst, le_refl, arith, ◌∙◌, ℤ, nat_lt, option_map, option_and_then, ◌&&◌, if◌then◌else◌}
+use Rattle.script_reader.proofs.Prelude.{◌≡◌, inl, inr, Bool, ℕ, ◌+◌, ◌-◌, ◌*◌, ◌^◌, ◌<◌, ◌≤◌, List, [], ◌∷◌, true, false, Option, Some, None, length, take, drop, get_or, refl, sym, ap, subst, le_refl, arith, ◌∙◌, ℤ, nat_lt, option_map, option_and_then, ◌&&◌, if◌then◌else◌, cases_Bool, take_rest, nat_tests, common_steps, is_space, word_len, first_by, value_after, all_digits, below, magnitude, number_of, negative, integer_of, digits_after, half_of, sign, HalfEdge}
 use Rattle.std.specs.Char.{is_ascii_digit}
-use Rattle.std.proofs.lemmas.Bool.{cases_Bool}
-use Rattle.std.proofs.lemmas.List.{take_rest}
-use Rattle.std.proofs.lemmas.Bool.Decides.{nat_tests}
-use Rattle.std.proofs.lemmas.Grind.{common_steps}
-use Rattle.script_reader.specs.Words.{is_space, word_len, first_by}
-use Rattle.script_reader.specs.Numbers.{value_after, all_digits, below, magnitude, number_of, negative, integer_of, digits_after}
-use Rattle.script_reader.specs.Places.{half_of}
-use Rattle.script_reader.specs.Spelling.{sign}
-use Rattle.euler_operators.specs.Common.{HalfEdge}
 use Rattle.script_reader.proofs.FirstLaws.{first_longer}
 
 value_grows : (n : ℕ) (cs : List ℕ) → n ≤ value_after n cs

@@ -1,7 +1,5 @@
 -- What a chain of tests gives, taken apart.
-use Rattle.std.proofs.Common.{◌≡◌, ◌⊎◌, inl, inr, Bool, true, false, Option, Some, None, Result, Ok, Err, refl, option_map, option_and_then, if◌then◌else◌}
-use Rattle.script_reader.specs.Places.{◌>>=◌}
-use Rattle.script_reader.specs.declared.command.Fault.{Fault}
+use Rattle.script_reader.proofs.Prelude.{◌≡◌, ◌⊎◌, inl, inr, Bool, true, false, Option, Some, None, Result, Ok, Err, refl, option_map, option_and_then, if◌then◌else◌, ◌>>=◌, Fault}
 
 pub some_or_none : {A : Type 0} (o : Option A) → ((x : A) × (o ≡ Some x)) ⊎ (o ≡ None)
 some_or_none (Some x) = inl (x, refl)

@@ -1,11 +1,5 @@
 -- The words of a line are its parts between separators.
-use Rattle.std.proofs.Common.{◌≡◌, inl, inr, ℕ, ◌<◌, true, false, List, [], ◌∷◌, ◌++◌, length, refl, ap, subst, ◌∙◌, arith, ◌==◌}
-use Rattle.std.specs.List.{onto_first}
-use Rattle.std.proofs.lemmas.Bool.{cases_Bool}
-use Rattle.std.proofs.lemmas.Bool.Decides.{nat_tests}
-use Rattle.script_reader.specs.Words.{is_space, joined, words}
-use Rattle.script_reader.specs.Places.{Word}
-use Rattle.script_reader.specs.Spelling.{IsSeparator, IsGap, HasNoGap, IsAtGap, IsParted}
+use Rattle.script_reader.proofs.Prelude.{◌≡◌, inl, inr, ℕ, ◌<◌, true, false, List, [], ◌∷◌, ◌++◌, length, refl, ap, subst, ◌∙◌, arith, ◌==◌, onto_first, cases_Bool, nat_tests, is_space, joined, words, Word, IsSeparator, IsGap, HasNoGap, IsAtGap, IsParted}
 
 separates : (b : ℕ) → is_space b ≡ true → IsSeparator b
 separates b e = elim (cases_Bool (b == 32)) [

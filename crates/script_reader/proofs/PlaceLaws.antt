@@ -1,11 +1,5 @@
 -- What the words at one place say, and what is wrong with them.
-use Rattle.std.proofs.Common.{◌≡◌, inl, inr, ℕ, zero, suc, ◌≤◌, List, [], ◌∷◌, length, Option, Some, None, Result, Ok, Err, refl, sym, ap, subst, arith, ℤ}
-use Rattle.euler_operators.specs.Common.{Point}
-use Rattle.script_reader.specs.Numbers.{integer_of}
-use Rattle.script_reader.specs.Places.{Word, Kind, Number, Integer, Half, AnyCorner, Place, Places, InOrOut, Meaning, ◌>>=◌, said, next_of, point_of, points_of, read}
-use Rattle.script_reader.specs.declared.command.Fault.{Fault}
-use Rattle.script_reader.specs.declared.command.Fault.TheVariants.{BadWord, BadNumber}
-use Rattle.script_reader.specs.Spelling.{SaysInteger, Begins, BeginsPlace, ArePoints, Means, FailsWord, FailsPlace, FailsPoints, Fails}
+use Rattle.script_reader.proofs.Prelude.{◌≡◌, inl, inr, ℕ, zero, suc, ◌≤◌, List, [], ◌∷◌, length, Option, Some, None, Result, Ok, Err, refl, sym, ap, subst, arith, ℤ, Point, integer_of, Word, Kind, Number, Integer, Half, AnyCorner, Place, Places, InOrOut, Meaning, ◌>>=◌, said, next_of, point_of, points_of, read, Fault, BadWord, BadNumber, SaysInteger, Begins, BeginsPlace, ArePoints, Means, FailsWord, FailsPlace, FailsPoints, Fails}
 use Rattle.script_reader.proofs.OptionLaws.{some_or_none, bind_ok, bind_err}
 use Rattle.script_reader.proofs.SayingLaws.{Tells, tells_number, tells_integer, tells_half, tells_corner, tells_way}
 use Rattle.script_reader.proofs.PointLaws.{no_words}

@@ -1,8 +1,5 @@
 -- Points that are read one after the other.
-use Rattle.std.proofs.Common.{◌≡◌, ◌≢◌, ℕ, zero, suc, ◌-◌, ◌<◌, List, [], ◌∷◌, ◌++◌, length, Result, Ok, Err, refl, sym, ap, ◌∙◌, append_assoc, arith, length-append}
-use Rattle.euler_operators.specs.Common.{Point}
-use Rattle.script_reader.specs.declared.command.Fault.{Fault}
-use Rattle.script_reader.specs.Places.{Word, ◌>>=◌, point_of, points_of}
+use Rattle.script_reader.proofs.Prelude.{◌≡◌, ◌≢◌, ℕ, zero, suc, ◌-◌, ◌<◌, List, [], ◌∷◌, ◌++◌, length, Result, Ok, Err, refl, sym, ap, ◌∙◌, append_assoc, arith, length-append, Point, Fault, Word, ◌>>=◌, point_of, points_of}
 
 -- what was read before, and what is still read
 abbrev pub with_front : List Point → Result (List Point × List Word) Fault → Result (List Point × List Word) Fault

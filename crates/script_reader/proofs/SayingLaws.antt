@@ -1,17 +1,6 @@
 -- What one word says.
-use Rattle.std.proofs.Common.{◌≡◌, inl, inr, ℕ, ◌<◌, ◌≤◌, ◌^◌, Bool, true, false, List, [], ◌∷◌, Option, Some, None, refl, sym, ap, subst, ◌∙◌, arith, rules, ◌==◌, ◌&&◌, ℤ, pos, neg_ℤ, codes, option_map, option_and_then, nat_lt, nat_le, bytes_eq}
-use Rattle.std.specs.Str.Parse.{IsNumeral, AllDigits, digits_value}
-use Rattle.std.proofs.lemmas.Bool.{cases_Bool, and_parts}
-use Rattle.std.proofs.lemmas.Bool.Decides.{nat_tests}
-use Rattle.std.proofs.lemmas.Slice.Eq.{bytes_eq-Decides}
-use Rattle.std.proofs.lemmas.Str.Parse.{IsNumeralModel, numerals_by_fold, digit_from_value}
-use Rattle.euler_operators.specs.Common.{HalfEdge, Corner, At, Lone}
-use Rattle.script_reader.specs.Numbers.{value_after, all_digits, below, magnitude, number_of, negative, not_negative, integer_of}
-use Rattle.script_reader.specs.Places.{Word, half_with, half_of, lone_of, or_else, corner_of, way_of}
-use Rattle.script_reader.specs.declared.places.Way.{Way}
-use Rattle.script_reader.specs.declared.places.Way.TheVariants.{In, Out}
+use Rattle.script_reader.proofs.Prelude.{◌≡◌, inl, inr, ℕ, ◌<◌, ◌≤◌, ◌^◌, Bool, true, false, List, [], ◌∷◌, Option, Some, None, refl, sym, ap, subst, ◌∙◌, arith, rules, ◌==◌, ◌&&◌, ℤ, pos, neg_ℤ, codes, option_map, option_and_then, nat_lt, nat_le, bytes_eq, IsNumeral, AllDigits, digits_value, cases_Bool, and_parts, nat_tests, bytes_eq-Decides, IsNumeralModel, numerals_by_fold, digit_from_value, HalfEdge, Corner, At, Lone, value_after, all_digits, below, magnitude, number_of, negative, not_negative, integer_of, Word, half_with, half_of, lone_of, or_else, corner_of, way_of, Way, In, Out, SaysNumber, SaysInteger, SaysHalf, SaysCorner, SaysWay, sign}
 use Rattle.script_reader.proofs.NumberLaws.{is_below}
-use Rattle.script_reader.specs.Spelling.{SaysNumber, SaysInteger, SaysHalf, SaysCorner, SaysWay, sign}
 use Rattle.script_reader.proofs.OptionLaws.{map_some, then_some, test_some}
 
 -- a word is read as what it says

@@ -1,18 +1,7 @@
 -- Each answer is the next line of the bytes.
-use Rattle.std.proofs.Common.{◌≡◌, ◌≢◌, inl, inr, ℕ, suc, ◌+◌, ◌-◌, ◌<◌, ◌≤◌, true, List, [], ◌∷◌, ◌++◌, length, refl, sym, ap, subst, ◌∙◌, arith, append_assoc, length-append, length-take, Option, append-nil}
-use Rattle.std.proofs.lemmas.List.{append_cancel_right, nil_from_length}
-use Rattle.std.proofs.KnownBytes.{Consumes-nil, Consumes-trans}
-use Rattle.std.specs.Io.KnownBytes.{Consumes, IsAtEnd}
-use Rattle.script_reader.specs.Lines.{lines_of, with_newlines, within_limit, FirstLine}
-use Rattle.script_reader.specs.Newline.{Lacks}
-use Rattle.script_reader.specs.State.{reader_of, taken_of, unread_of, line_of, has_line, IsFresh, IsStill}
-use Rattle.script_reader.specs.Next.{Went}
+use Rattle.script_reader.proofs.Prelude.{◌≡◌, ◌≢◌, inl, inr, ℕ, suc, ◌+◌, ◌-◌, ◌<◌, ◌≤◌, true, List, [], ◌∷◌, ◌++◌, length, refl, sym, ap, subst, ◌∙◌, arith, append_assoc, length-append, length-take, Option, append-nil, append_cancel_right, nil_from_length, Consumes-nil, Consumes-trans, Consumes, IsAtEnd, lines_of, with_newlines, within_limit, FirstLine, Lacks, reader_of, taken_of, unread_of, line_of, has_line, IsFresh, IsStill, Went, Ending, Open, Ended, Over, Found, Lines}
 use Rattle.script_reader.specs.Script.{Reading, HasRead, IsReadOut, BreaksOff, to_come}
-use Rattle.script_reader.specs.declared.lines.Ending.{Ending}
-use Rattle.script_reader.specs.declared.lines.Ending.TheVariants.{Open, Ended, Over}
-use Rattle.script_reader.specs.declared.lines.Found.{Found}
 use Rattle.script_reader.specs.declared.lines.Found.TheVariants as found
-use Rattle.script_reader.specs.declared.lines.Lines.{Lines}
 use Rattle.script_reader.proofs.LinesLaws.{limit_append, limit_none}
 use Rattle.script_reader.proofs.LinesOf.{first_line, last_line, ended_text, with_newlines-append}
 use Rattle.script_reader.proofs.EndLaws.{ready}

@@ -1,8 +1,5 @@
 -- The first word of a line.
-use Rattle.std.proofs.Common.{◌≡◌, inl, inr, ℕ, ◌+◌, ◌<◌, false, List, [], ◌∷◌, length, take, drop, refl, arith, one-add}
-use Rattle.std.proofs.lemmas.Bool.{cases_Bool}
-use Rattle.std.specs.List.{onto_first}
-use Rattle.script_reader.specs.Words.{is_space, joined, words, word_len, IsAtWord}
+use Rattle.script_reader.proofs.Prelude.{◌≡◌, inl, inr, ℕ, ◌+◌, ◌<◌, false, List, [], ◌∷◌, length, take, drop, refl, arith, one-add, cases_Bool, onto_first, is_space, joined, words, word_len, IsAtWord}
 
 longer : (b c : ℕ) (line : List ℕ) (ws : List (List ℕ)) (n : ℕ) → ws ≡ take n (c ∷ line) ∷ words (drop n (c ∷ line)) → onto_first b ws ≡ take (1 + n) (b ∷ c ∷ line) ∷ words (drop (1 + n) (b ∷ c ∷ line))
 longer b c line ws n e = rw (e, one-add) refl

@@ -1,15 +1,10 @@
 -- The one session or draft of a console, and what a call does to it.
-use Rattle.std.proofs.Common.{◌≡◌, ◌∙◌, Bool, true, false, Option, Some, refl, sym, ap, subst}
-use Rattle.std.proofs.lemmas.Bool.{false≢true}
-use Rattle.commands.specs.Telling.{Tells, asked, shown}
-use Rattle.commands.specs.declared.command.{Call.Call, Command.Command, Question.Question, Told.Told}
+use Rattle.script_running.proofs.Prelude.{◌≡◌, ◌∙◌, Bool, true, false, Option, Some, refl, sym, ap, subst, false≢true, Tells, asked, shown, Command, Question, Told, Stage, Console, Makes, UnlessLacking, answer_after, is_draft}
+use Rattle.commands.specs.declared.command.Call.{Call}
 use Rattle.commands.specs.declared.stage.OpenDraft.{OpenDraft}
-use Rattle.commands.specs.declared.stage.Stage.{Stage}
 use Rattle.euler_operators.specs.Common.{Model}
 use Rattle.undo_journal.specs.Journal.{Journal}
-use Rattle.script_running.specs.declared.script_judging.calls.Console.{Console}
 use Rattle.script_running.specs.declared.script_judging.judging.Answer.{Answer}
-use Rattle.script_running.specs.script_judging.Consoles.{Makes, UnlessLacking, answer_after, is_draft}
 
 pub the_same : {X : Type 0} (x y : X) (o : Option X) → o ≡ Some x → o ≡ Some y → x ≡ y
 the_same x y o e f = cc

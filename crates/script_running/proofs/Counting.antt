@@ -1,11 +1,7 @@
 -- The counts of a run.
-use Rattle.std.proofs.Common.{◌≡◌, ◌+◌, ◌≤◌, ℕ, Bool, true, false, refl, ap, arith, ◌==◌, ◌&&◌}
-use Rattle.std.proofs.lemmas.Bool.{and_from, and_parts, both_ways, false_from_ne_true, false≢true, not-false, not-true, not_from_false, not_from_true}
-use Rattle.std.proofs.lemmas.Bool.Decides.{nat_tests}
+use Rattle.script_running.proofs.Prelude.{◌≡◌, ◌+◌, ◌≤◌, ℕ, Bool, true, false, refl, ap, arith, ◌==◌, ◌&&◌, and_from, and_parts, both_ways, false_from_ne_true, false≢true, not-false, not-true, not_from_false, not_from_true, nat_tests, no_lines, one_line, counted, is_clean, stops, was_stopped, Answer, Summary}
 use Rattle.solid_listing.specs.declared.reply.Reply.TheVariants as reply
-use Rattle.script_running.specs.script_judging.Judging.{no_lines, one_line, counted}
-use Rattle.script_running.specs.Outs.{is_clean, stops, was_stopped}
-use Rattle.script_running.specs.Common.{Answer, Says, Summary}
+use Rattle.script_running.specs.Common.{Says}
 
 -- no reply is counted twice, nor without its line
 pub record IsWithin (n : Summary) : Type 0 where

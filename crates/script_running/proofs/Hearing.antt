@@ -1,15 +1,8 @@
 -- What a line that was heard comes to.
-use Rattle.std.proofs.Common.{◌≡◌, inl, inr, ℕ, Bool, false, List, codes, length, Result, Ok, Err, refl, sym, ap, subst, nat_lt}
-use Rattle.std.proofs.lemmas.Bool.{cases_Bool}
-use Rattle.commands.specs.declared.command.{Call.Call, Command.Command}
+use Rattle.script_running.proofs.Prelude.{◌≡◌, inl, inr, ℕ, Bool, false, List, codes, length, Result, Ok, Err, refl, sym, ap, subst, nat_lt, cases_Bool, Command, words, Fault, Request, arguments, Console, Makes, UnlessLacking, is_draft, Spoken, gives, tells, read, spoken, said_of, lacks_said, Says, Hears}
+use Rattle.commands.specs.declared.command.Call.{Call}
 use Rattle.script_reader.specs.Grammar.{is_ascii, request_of_words}
-use Rattle.script_reader.specs.Words.{words}
-use Rattle.script_reader.specs.declared.command.{Fault.Fault, Request.Request}
 use Rattle.script_reader.proofs.AsciiWords.{words_tell}
-use Rattle.script_running.specs.Common.{arguments}
-use Rattle.script_running.specs.declared.script_judging.calls.Console.{Console}
-use Rattle.script_running.specs.script_judging.Consoles.{Makes, UnlessLacking, is_draft}
-use Rattle.script_running.specs.script_judging.Hearing.{Spoken, gives, tells, read, spoken, said_of, lacks_said, Says, Hears}
 
 -- a line that is read once, and looked at again only where its words ask for nothing, or are wrong
 spoken_is : (line : List ℕ) (r : Result Request Fault) → nat_lt 65536 (length line) ≡ false → request_of_words (words line) ≡ r → spoken line ≡ said_of line r

@@ -1,14 +1,9 @@
 -- A line is a call of a history, and a run tells one.
-use Rattle.std.proofs.Common.{◌≡◌, inl, inr, ℕ, suc, Bool, List, [], ◌∷◌, ◌++◌, length, Option, Ok, Err, refl, sym, ap, subst, ◌∙◌, arith, Result, IfOk, append-nil}
-use Rattle.script_running.specs.Common.{Answer, Call, Change, Fault, IsCall, IsConsistent, Journal, Machine, Request, RunFault, Sound, Summary, after_call, after_calls, held, lines_of, new_journal, over, request_of, start, within_limit}
+use Rattle.script_running.proofs.Prelude.{◌≡◌, inl, inr, ℕ, suc, Bool, List, [], ◌∷◌, ◌++◌, length, Option, Ok, Err, refl, sym, ap, subst, ◌∙◌, arith, Result, IfOk, append-nil, Answer, Call, Change, Fault, IsCall, IsConsistent, Journal, Machine, Request, RunFault, Sound, Summary, after_call, after_calls, held, lines_of, new_journal, over, request_of, start, within_limit, same_machine, Obeys, Answers, Judges, answer_text, Outs, BreaksOff, Served, WriteFails}
 use Rattle.undo_journal.specs.Laws.{HistoriesAreConsistent}
-use Rattle.undo_journal.proofs.Journals.{same_machine}
 use Rattle.commands.specs.Calls.{CommandsAreCalls}
 use Rattle.commands.proofs.Calls.{stopped}
 use Rattle.script_reader.specs.declared.command.Request.TheVariants as request
-use Rattle.script_running.specs.script_judging.Judging.{Obeys, Answers, Judges, answer_text}
-use Rattle.script_running.specs.Outs.{Outs}
-use Rattle.script_running.specs.Runs.{BreaksOff, Served, WriteFails}
 use Rattle.script_running.specs.Runs as runs
 use Rattle.script_running.specs.Histories.{HasHistory, LinesAreCalls, LinesLeadOn, HistoriesMakeConsistent, Turn, IsTurn, TakeTurns, texts, TellsHistory, RunsTellHistories}
 use Rattle.script_running.specs.declared.running.RunFault.TheVariants as fault

@@ -1,20 +1,12 @@
 -- What a session is told of a call is what a script's line is answered that asks for it.
-use Rattle.std.proofs.Common.{◌≡◌, ◌∙◌, Bool, true, false, ℕ, List, Option, Some, None, Ok, Err, refl, sym, ap, subst, Result}
+use Rattle.script_running.proofs.Prelude.{◌≡◌, ◌∙◌, Bool, true, false, ℕ, List, Option, Some, None, Ok, Err, refl, sym, ap, subst, Result, Command, Question, Told, Stage, Fault, Request, answer, counts, face_refusal, is_flat, plane_of, six_volume, solid_refusal, request_of, Console, Answers, Gives, Judges, answer_when, Makes, UnlessLacking, answer_after, Hears, LinesAreJudged, Says, Spoken, gives, lacks_said, read, spoken, tells}
+use Rattle.commands.specs.declared.command.Call.{Call}
 use Rattle.commands.specs.Telling.{Settled, TellsSession, value_or_refusal}
-use Rattle.commands.specs.declared.command.{Call.Call, Command.Command, Question.Question, Told.Told}
-use Rattle.commands.specs.declared.stage.Stage.{Stage}
 use Rattle.euler_operators.specs.declared.Refusal.{Refusal}
-use Rattle.script_reader.specs.declared.command.{Fault.Fault, Request.Request}
-use Rattle.solid_measure.specs.Measure.{answer, counts, face_refusal, is_flat, plane_of, six_volume, solid_refusal}
 use Rattle.undo_journal.specs.Journal.{Journal}
 use Rattle.undo_journal.specs.Machine.{held}
 use Rattle.script_reader.specs.Polygon.{over}
-use Rattle.script_running.specs.Common.{request_of}
-use Rattle.script_running.specs.declared.script_judging.calls.Console.{Console}
 use Rattle.script_running.specs.declared.script_judging.judging.Answer.{Answer}
-use Rattle.script_running.specs.script_judging.Judging.{Answers, Gives, Judges, answer_when}
-use Rattle.script_running.specs.script_judging.Consoles.{Makes, UnlessLacking, answer_after}
-use Rattle.script_running.specs.script_judging.Hearing.{Hears, LinesAreJudged, Says, Spoken, gives, lacks_said, read, spoken, tells}
 
 -- a session is told of no mark, and of no draft that it lacks: so its answer is kept
 settled : (o : Option Refusal) (Lacks Stays Goes : Type 0) (b : Answer) (a : Told) → Settled o Lacks Stays Goes a → answer_after b a ≡ answer_when a

@@ -1,3 +1,4 @@
+mod Prelude
 pub mod Acting
 pub mod Hearing
 pub mod Judged

@@ -1,7 +1,6 @@
 -- What was handed on when a run ends.
-use Rattle.std.proofs.Common.{◌≡◌, ℕ, List, Option, Result, Ok, Err, IfErr, OnOk, subst, sym}
+use Rattle.script_running.proofs.Prelude.{◌≡◌, ℕ, List, Option, Result, Ok, Err, IfErr, OnOk, subst, sym, RunFault, Summary}
 use Rattle.script_reader.specs.Reaching.{Reaches}
-use Rattle.script_running.specs.Common.{RunFault, Summary}
 use Rattle.script_running.specs.Reaching.{HandsOn}
 use Rattle.script_running.specs.declared.running.RunFault.TheVariants as faults
 

@@ -1,26 +1,14 @@
 -- One line after another.
-use Rattle.std.proofs.Common.{◌≡◌, inl, inr, ℕ, ◌<◌, Bool, true, false, List, [], ◌∷◌, ◌++◌, length, refl, sym, ap, subst, ◌∙◌, arith, append_assoc, Option, Some, Ok, Err, append-nil, ◌⊎◌, nat_lt, IfOk, IfErr, Result, if◌then◌else◌}
-use Rattle.std.proofs.lemmas.Bool.{false≢true}
-use Rattle.std.proofs.lemmas.Bool.Decides.{nat_tests}
-use Rattle.std.proofs.KnownBytes.{Appends-nil, Appends-kept}
+use Rattle.script_running.proofs.Prelude.{◌≡◌, inl, inr, ℕ, ◌<◌, Bool, true, false, List, [], ◌∷◌, ◌++◌, length, refl, sym, ap, subst, ◌∙◌, arith, append_assoc, Option, Some, Ok, Err, append-nil, ◌⊎◌, nat_lt, IfOk, IfErr, Result, if◌then◌else◌, false≢true, nat_tests, Appends-nil, Appends-kept, Answer, EndsEarly, Fault, Found, Gathers, HasRead, IsFresh, Journal, Lines, LongLine, NotAscii, Outgoing, Puts, Session, Request, RunFault, Stops, Summary, request_of, request_of_words, is_ascii, line_of, lines_of, new_journal, outgoing, reader_of, taken_of, to_come, unread_of, within_limit, words, Breaks, Gathers-nil, Gathers-trans, Breaks-after, all_out, went_out, UnlessLacking, Hears as ConsoleHears, lacks_said, spoken, Judges, Answers, answer_text, no_lines, one_line, counted, stops, was_stopped, Outs, output_of, output_from, summary_of, summary_from, Moves, Served, BreaksOff, WriteFails, IsTooLong, Runs, Console}
 use Rattle.std.specs.Io.KnownBytes.{Appends, Keeps, Consumes, IsAtEnd}
-use Rattle.script_running.specs.Common.{Answer, EndsEarly, Fault, Found, Gathers, HasRead, IsFresh, Journal, Lines, LongLine, NotAscii, Outgoing, Puts, Says, Session, Request, RunFault, Stops, Summary, request_of, request_of_words, is_ascii, line_of, lines_of, new_journal, outgoing, reader_of, taken_of, to_come, unread_of, within_limit}
+use Rattle.script_running.specs.Common.{Says}
 use Rattle.script_reader.specs.Next.{Went}
-use Rattle.script_reader.specs.Words.{words}
 use Rattle.script_reader.specs.declared.lines.Found.TheVariants as found
 use Rattle.script_reader.proofs.ScriptLaws.{has_begun, has_line_more, has_long_more, is_read_out, breaks_at_fault, breaks_at_limit, falls_by_line, falls_by_long}
-use Rattle.solid_listing.proofs.TellingLaws.{Breaks, Gathers-nil, Gathers-trans, Breaks-after, all_out, went_out}
 use Rattle.solid_listing.specs.declared.reply.Reply.TheVariants as reply
-use Rattle.script_running.specs.script_judging.Consoles.{UnlessLacking}
-use Rattle.script_running.specs.script_judging.Hearing.{Hears as ConsoleHears, lacks_said, spoken}
-use Rattle.script_running.specs.script_judging.Judging.{Judges, Answers, answer_text, no_lines, one_line, counted}
-use Rattle.script_running.specs.Outs.{stops, was_stopped, Outs}
-use Rattle.script_running.specs.Output.{output_of, output_from, summary_of, summary_from}
-use Rattle.script_running.specs.Runs.{Moves, Served, BreaksOff, WriteFails, IsTooLong, Runs}
 use Rattle.script_running.specs.declared.running.RunFault.TheVariants as faults
 use Rattle.script_running.proofs.Counting.{counted_assoc, counted_none, none_counted, stop_counted, calm_counted, none_calm}
 use Rattle.script_running.proofs.Judged.{session_hears}
-use Rattle.script_running.specs.declared.script_judging.calls.Console.{Console}
 use Rattle.script_running.proofs.Outputs.{text_at, counts_at, after_to, outs_so, outs_to}
 
 -- what some lines are answered goes before what the lines after them are answered

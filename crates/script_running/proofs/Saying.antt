@@ -1,8 +1,7 @@
 -- A line that spells a command is answered what the call to give it is told.
-use Rattle.std.proofs.Common.{◌≡◌, Some, refl, sym, ap, subst, ◌∙◌, Result}
-use Rattle.script_running.specs.Common.{Answer, Change, Command, Drafting, Fault, Journal, Request, Session, Stage, TellsSession, over}
+use Rattle.script_running.proofs.Prelude.{◌≡◌, Some, refl, sym, ap, subst, ◌∙◌, Result, Answer, Change, Command, Drafting, Fault, Journal, Request, Session, TellsSession, over, Gives, Obeys, Answers, Judges}
+use Rattle.script_running.specs.Common.{Stage}
 use Rattle.script_reader.specs.declared.command.Request.TheVariants as request
-use Rattle.script_running.specs.script_judging.Judging.{Gives, Obeys, Answers, Judges}
 use Rattle.script_running.specs.Laws.{asked_for, LinesAreTold}
 
 -- what asks for a command is obeyed as that command

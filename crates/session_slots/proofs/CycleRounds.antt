@@ -1,11 +1,6 @@
 -- What there is of the half-edges of a loop laid over a list, one after the other.
-use Rattle.std.proofs.Common.{◌≡◌, ◌≢◌, ℕ, ◌+◌, ◌≤◌, List, [], ◌∷◌, ◌++◌, length, map, slice_set, sym, ap, ◌∙◌, arith, append_assoc, length-append}
-use Rattle.std.proofs.lemmas.List.{length-map, map-append}
-use Rattle.euler_operators.specs.Common.{IsIn, rotate_to, Model, loop_of, after, cycle_of, Sound, HasHalf}
-use Rattle.euler_operators.proofs.Common.{length-rotate_to}
-use Rattle.shapes.proofs.Common.{halves_short}
-use Rattle.solid_walks.proofs.face_walks_laws.CycleWalks.{to_come, start_is, item_there, item_in, same_loop, cycle_apart, goes_on, comes_back}
-use Rattle.session_slots.specs.Written.{laid_at}
+use Rattle.session_slots.proofs.Prelude.{◌≡◌, ◌≢◌, ℕ, ◌+◌, ◌≤◌, List, [], ◌∷◌, ◌++◌, length, map, slice_set, sym, ap, ◌∙◌, arith, append_assoc, length-append, length-map, map-append, IsIn, rotate_to, loop_of, after, cycle_of, HasHalf, length-rotate_to, halves_short, to_come, start_is, item_there, item_in, same_loop, cycle_apart, goes_on, comes_back, laid_at}
+use Rattle.euler_operators.specs.Common.{Model, Sound}
 use Rattle.session_slots.proofs.Overlaid.{none_at, more_at}
 
 -- those before the one at hand are laid over the old list as f tells them, and counted

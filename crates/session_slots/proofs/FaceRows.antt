@@ -1,14 +1,9 @@
 -- The half-edges of the loops of a face, one loop after another.
-use Rattle.std.proofs.Common.{◌≡◌, ◌∙◌, ℕ, ◌+◌, ◌≤◌, true, false, List, [], ◌∷◌, ◌++◌, length, map, refl, sym, ap, subst, arith, append_assoc, cond, length-append, append-nil}
-use Rattle.std.proofs.lemmas.List.{length-map, map-append}
-use Rattle.euler_operators.proofs.Common.{IsRotation-length}
+use Rattle.session_slots.proofs.Prelude.{◌≡◌, ◌∙◌, ℕ, ◌+◌, ◌≤◌, true, false, List, [], ◌∷◌, ◌++◌, length, map, refl, sym, ap, subst, arith, append_assoc, cond, length-append, append-nil, length-map, map-append, IsRotation-length, items_of, content, rings_of, outer, halves_short, different_items, loops_of_apart, laid_over, laid_at, WritesOne, WritesFrom, AreRound, AreTold, AreRows, row_of}
 use Rattle.euler_operators.specs.Table as table
-use Rattle.euler_operators.specs.Common.{Model, items_of, content, rings_of, outer, Sound}
+use Rattle.euler_operators.specs.Common.{Model, Sound}
 use Rattle.shapes.specs.Common.{items_in, loops_of}
-use Rattle.shapes.proofs.Common.{halves_short, different_items, loops_of_apart}
 use Rattle.session_slots.specs.declared.cycles.HalfEdgeRow.{HalfEdgeRow}
-use Rattle.session_slots.specs.Written.{laid_over, laid_at, WritesOne, WritesFrom}
-use Rattle.session_slots.specs.Reading.{AreRound, AreTold, AreRows, row_of}
 use Rattle.session_slots.proofs.Overlaid.{laid_none, laid_behind}
 
 -- those of all loops but the ones given are written

@@ -1,6 +1,5 @@
 -- What a line that was heard does to a slot.
-use Rattle.std.proofs.Common.{◌≡◌, ◌∙◌, ℕ, Bool, true, false, true≢false, List, refl, sym, ap}
-use Rattle.session_slots.specs.Common.{Console, Counters, Counts_in, Hears, Slot, Slot_notes, UnlessLacking}
+use Rattle.session_slots.proofs.Prelude.{◌≡◌, ◌∙◌, ℕ, Bool, true, false, true≢false, List, refl, sym, ap, Console, Counters, Counts_in, Hears, Slot, Slot_notes, UnlessLacking}
 
 module _ (line : List ℕ) (x : Slot) (c : Console) (heard : Bool) where
   pub noted : (b : Bool) (n : Counters) → UnlessLacking b (λ u v. Hears u line v) x.console c heard → heard ≡ true → Counts_in x n

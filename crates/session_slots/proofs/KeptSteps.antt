@@ -1,8 +1,7 @@
 -- What lies with C, in a handle's words. Assumes `Logic`.
-use Rattle.std.proofs.Common.{◌≡◌, [], ◌∷◌, refl, IsSome, Option, Some, None}
+use Rattle.session_slots.proofs.Prelude.{◌≡◌, [], ◌∷◌, refl, IsSome, Option, Some, None, token}
 use Rattle.session_slots.proofs.Walking.{Logic, sem, ‵, ◌$◌, ◌∵◌, !, qed, move, fsplit, fjoin, fpick, fpack, done}
 use Rattle.session_slots.proofs.Pointers.{Ura, ent, Fml, bare, impl, tnil, dnil, RattleType, lone, Ptr, Al, Global, Z, LZ, ghosts, dict, box_owns}
-use Rattle.session_slots.specs.Common.{token}
 use Rattle.session_slots.proofs.Values as values
 
 abbrev pub heap : Al

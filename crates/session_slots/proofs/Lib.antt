@@ -1,3 +1,4 @@
+mod Prelude
 pub mod Overlaid
 pub mod CycleRounds
 mod FaceRows

@@ -1,7 +1,6 @@
 -- What an arena tells of the model that it holds.
-use Rattle.std.proofs.Common.{◌≡◌, ℕ, false, [], Option, Some, None, is_some, unwrap_or, true≢false, refl, ap, subst}
-use Rattle.session_slots.specs.Common.{IsIn, code, has, Model, LoopContent, LoopRow, no_loop, lone, cycle, items_of, content, loop_of, cycle_of, HalfEdge, Kind, Solid, Sound, Content, Store, IsNextNumber, store_of, IsItemOf}
-use Rattle.euler_operators.proofs.Common.{in-holds}
+use Rattle.session_slots.proofs.Prelude.{◌≡◌, ℕ, false, [], Option, Some, None, is_some, unwrap_or, true≢false, refl, ap, subst, code, has, Model, LoopContent, LoopRow, no_loop, lone, cycle, HalfEdge, Kind, Solid, Sound, Content, Store, IsNextNumber, store_of, IsItemOf, in-holds}
+use Rattle.session_slots.specs.Common.{IsIn, items_of, content, loop_of, cycle_of}
 use Rattle.euler_conditions.specs.Store.{Tells}
 
 here : (s : Store) (k : Kind) (n : ℕ) (o : Option ℕ) → IsNextNumber s k n o → IsNextNumber (store_of s.model) k n o

@@ -1,10 +1,6 @@
 -- A list laid over another, item by item.
-use Rattle.std.proofs.Common.{◌≡◌, ◌∙◌, ℕ, zero, suc, ◌+◌, List, [], ◌∷◌, ◌++◌, length, map, slice_set, refl, sym, ap, subst, arith, map-id}
-use Rattle.std.proofs.lemmas.List.{length-map}
-use Rattle.euler_operators.specs.Common.{IsRotation, rotate_to, Model, items_of, content}
-use Rattle.euler_operators.proofs.Common.{rotate_to-rotates, length-rotate_to, IsRotation-refl}
-use Rattle.session_slots.specs.Written.{laid_over, laid_at, WritesOne, WritesFrom}
-use Rattle.session_slots.specs.Reading.{AreHalfEdges, AreTold}
+use Rattle.session_slots.proofs.Prelude.{◌≡◌, ◌∙◌, ℕ, zero, suc, ◌+◌, List, [], ◌∷◌, ◌++◌, length, map, slice_set, refl, sym, ap, subst, arith, map-id, length-map, IsRotation, rotate_to, items_of, content, rotate_to-rotates, length-rotate_to, IsRotation-refl, laid_over, laid_at, WritesOne, WritesFrom, AreHalfEdges, AreTold}
+use Rattle.euler_operators.specs.Common.{Model}
 
 pub laid_none : {X : Type 0} (old : List X) → laid_over [] old ≡ old
 laid_none [] = refl

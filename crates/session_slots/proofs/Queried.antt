@@ -1,6 +1,5 @@
 -- What an answer tells of the refusal behind it.
-use Rattle.std.proofs.Common.{◌≡◌, Option, Some, None, Ok, Err, refl}
-use Rattle.session_slots.specs.Common.{Refusal, answer}
+use Rattle.session_slots.proofs.Prelude.{◌≡◌, Option, Some, None, Ok, Err, refl, Refusal, answer}
 
 pub is_refused : {A : Type 0} (o : Option Refusal) (a : A) (r : Refusal) → Err r ≡ answer o a → o ≡ Some r
 is_refused None a r e = cc

@@ -1,8 +1,6 @@
 -- The two half-edges of an edge, and what starts at a vertex.
-use Rattle.std.proofs.Common.{◌≡◌, ◌≢◌, ◌⊎◌, inl, inr, ℕ, ◌+◌, ◌*◌, ◌<◌, ◌≤◌, true, false, ap, sym, ◌∙◌, arith, true≢false, Option, Some, None}
+use Rattle.session_slots.proofs.Prelude.{◌≡◌, ◌≢◌, ◌⊎◌, inl, inr, ℕ, ◌+◌, ◌*◌, ◌<◌, ◌≤◌, true, false, ap, sym, ◌∙◌, arith, true≢false, Option, Some, None, has, edge_of, Model, has_half, tail, Sound, IsStart, IsStartOf, IsStartWithin, number_fits, number_real}
 use Rattle.std.proofs.lemmas.Bool.{cases_eq}
-use Rattle.session_slots.specs.Common.{has, edge_of, Model, has_half, tail, Sound, IsStart, IsStartOf, IsStartWithin}
-use Rattle.euler_operators.proofs.Common.{number_fits, number_real}
 
 pub first : (e : ℕ) → edge_of (2 * e) ≡ e
 unfolding edge_of

@@ -1,9 +1,6 @@
 -- Sums of cross products over half-edges, joined and turned.
-use Rattle.std.proofs.Common.{◌≡◌, ℕ, List, [], ◌∷◌, ◌++◌, sym, ap, ◌∙◌}
+use Rattle.shapes.proofs.Prelude.{◌≡◌, ℕ, List, [], ◌∷◌, ◌++◌, sym, ap, ◌∙◌, Point, moved, cross, IsRotation, Model, moved_none, moved_twice, none_moved, same_vector, start, finish, area}
 use Rattle.std.proofs.Math.IntN.{+ℤ_comm}
-use Rattle.euler_operators.specs.Common.{Point, moved, cross, IsRotation, Model}
-use Rattle.euler_operators.proofs.Common.{moved_none, moved_twice, none_moved, same_vector}
-use Rattle.shapes.specs.Common.{start, finish, area}
 
 pub moved_turned : (p q : Point) → moved p q ≡ moved q p
 moved_turned p q = same_vector _ _ (+ℤ_comm p.x q.x) (+ℤ_comm p.y q.y) (+ℤ_comm p.z q.z)

@@ -1,3 +1,4 @@
+mod Prelude
 pub mod Areas
 pub mod fresh
 pub mod walks

@@ -1,8 +1,6 @@
 -- What an arena tells of a loop.
-use Rattle.std.proofs.Common.{◌≡◌, ◌≢◌, ℕ, [], map, refl, sym, ap, ◌∙◌}
-use Rattle.euler_operators.specs.Common.{IsIn, HalfEdge, code, Model, LoopContent, lone, cycle, items_of, content, cycle_of, Sound, Has, HasHalf}
+use Rattle.solid_listing.proofs.Prelude.{◌≡◌, ◌≢◌, ℕ, [], map, refl, sym, ap, ◌∙◌, IsIn, HalfEdge, code, Model, LoopContent, lone, cycle, items_of, content, cycle_of, Sound, Has, HasHalf, in-holds}
 use Rattle.euler_operators.specs.declared.Content.TheVariants as Content
-use Rattle.euler_operators.proofs.Common.{in-holds}
 use Rattle.euler_conditions.specs.Store.{Tells}
 use Rattle.solid_listing.specs.Listing.{content_words, half_word}
 

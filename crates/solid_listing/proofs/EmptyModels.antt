@@ -1,13 +1,8 @@
 -- A sound model without solids has nothing.
-use Rattle.std.proofs.Common.{◌≡◌, ◌≢◌, ℕ, true, List, [], ◌∷◌, ◌++◌, map, codes, is_some, refl, sym, ap, ◌∙◌, true≢false, inl, inr}
-use Rattle.euler_operators.specs.Common.{Kind, Solid, Face, Loop, Edge, Vertex, plus, Table, has, numbers, Model, empty_model, solid_of, face_of, loop_of, Sound, Has, HasHalf}
+use Rattle.solid_listing.proofs.Prelude.{◌≡◌, ◌≢◌, ℕ, true, List, [], ◌∷◌, ◌++◌, map, codes, is_some, refl, sym, ap, ◌∙◌, true≢false, inl, inr, Kind, Solid, Face, Loop, Edge, Vertex, plus, Table, has, numbers, Model, empty_model, solid_of, face_of, loop_of, Sound, Has, HasHalf, plus_row, held_row, lone_there, one_or_more, Store, IsGreatest, text_of, line, lines, or_empty, listing, member_numbers, member}
 use Rattle.euler_operators.specs.Table as table
-use Rattle.euler_operators.proofs.Common.{plus_row, held_row, lone_there, one_or_more}
-use Rattle.euler_conditions.specs.Store.{Store, IsGreatest}
-use Rattle.solid_listing.specs.Common.{text_of, line, numbers_of, lines, or_empty, listing}
+use Rattle.solid_listing.specs.Common.{numbers_of}
 use Rattle.solid_listing.proofs.Lines.{here}
-use Rattle.solid_walks.proofs.face_walks_laws.TableWalks.{member_numbers}
-use Rattle.solid_walks.proofs.face_walks_laws.Above.{member}
 
 no_members : (ks : List ℕ) → ((k : ℕ) → member k ks ≡ true → ⊥) → ks ≡ []
 no_members [] h = refl

@@ -1,10 +1,6 @@
 -- The lines of a model tell the numbers of each kind and the line of each number.
-use Rattle.std.proofs.Common.{◌≡◌, ℕ, Bool, true, false, cond, ◌||◌, nat_eq, List, [], ◌∷◌, ◌++◌, map, refl, sym, ap, ◌∙◌, true≢false, inl, inr, append-nil, decimal}
-use Rattle.std.proofs.lemmas.Bool.Decides.{eqb_tells}
-use Rattle.std.proofs.lemmas.Fmt.{decimal_injective}
-use Rattle.euler_operators.specs.Common.{Kind, Solid, Face, Loop, Edge, Vertex, Model, Sound}
-use Rattle.solid_listing.specs.Listing.{line, numbers_of, kind_lines, lines}
-use Rattle.solid_walks.proofs.face_walks_laws.Above.{member}
+use Rattle.solid_listing.proofs.Prelude.{◌≡◌, ℕ, Bool, true, false, cond, ◌||◌, nat_eq, List, [], ◌∷◌, ◌++◌, map, refl, sym, ap, ◌∙◌, true≢false, inl, inr, append-nil, decimal, eqb_tells, decimal_injective, Kind, Solid, Face, Loop, Edge, Vertex, Model, Sound, numbers_of, member}
+use Rattle.solid_listing.specs.Listing.{line, kind_lines, lines}
 use Rattle.solid_listing.proofs.Parsing.{Line}
 use Rattle.solid_listing.proofs.Lines.{here, is_used, later, member_used, small}
 

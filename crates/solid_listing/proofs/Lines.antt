@@ -1,13 +1,6 @@
 -- The lines of a sound model can be read back.
-use Rattle.std.proofs.Common.{◌≡◌, ℕ, ◌+◌, ◌^◌, ◌<◌, ◌≤◌, Bool, true, false, cond, ◌&&◌, ◌||◌, not, nat_eq, List, [], ◌∷◌, ◌++◌, map, Option, Some, None, is_some, unwrap_or, refl, sym, ap, ◌∙◌, arith, true≢false, decimal}
-use Rattle.std.proofs.lemmas.Bool.Decides.{nat_tests}
-use Rattle.std.proofs.lemmas.Bool.{and_from}
-use Rattle.euler_operators.specs.Common.{Point, is_coordinate, is_in_range, count, IsIn, Kind, Solid, Face, Loop, Edge, Vertex, plus, minus, edge_of, get, has, Model, LoopContent, lone, cycle, no_point, items_of, solid_of, outer, face_of, content, tail, point_of, rings_of, Sound, Has, HasHalf}
-use Rattle.euler_operators.proofs.Common.{plus_row, minus_row, in-holds, and_first, and_second}
-use Rattle.solid_listing.specs.Listing.{line, content_words, half_word, point_words, numbers_of, kind_lines, lines}
-use Rattle.solid_walks.proofs.face_walks_laws.Above.{member}
-use Rattle.solid_walks.proofs.face_walks_laws.TableWalks.{member_numbers}
-use Rattle.solid_walks.proofs.face_walks_laws.RingWalks.{member_rings}
+use Rattle.solid_listing.proofs.Prelude.{◌≡◌, ℕ, ◌+◌, ◌^◌, ◌<◌, ◌≤◌, Bool, true, false, cond, ◌&&◌, ◌||◌, not, nat_eq, List, [], ◌∷◌, ◌++◌, map, Option, Some, None, is_some, unwrap_or, refl, sym, ap, ◌∙◌, arith, true≢false, decimal, nat_tests, and_from, Point, is_coordinate, is_in_range, count, IsIn, Kind, Solid, Face, Loop, Edge, Vertex, plus, minus, edge_of, get, has, Model, LoopContent, lone, cycle, no_point, items_of, solid_of, outer, face_of, content, tail, point_of, rings_of, Sound, Has, HasHalf, plus_row, minus_row, in-holds, and_first, and_second, point_words, numbers_of, member, member_numbers, member_rings}
+use Rattle.solid_listing.specs.Listing.{line, content_words, half_word, kind_lines, lines}
 use Rattle.solid_listing.proofs.Parsing.{Word, Line, is_clean, are_clean, is_good, are_good}
 use Rattle.solid_listing.proofs.Words.{number_small, coordinate_small, clean_decimal, clean_signed, clean_half}
 

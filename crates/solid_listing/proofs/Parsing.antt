@@ -1,9 +1,6 @@
 -- A text is read back: the lines of the words that were written.
-use Rattle.std.proofs.Common.{◌≡◌, ℕ, Bool, true, false, cond, ◌&&◌, nat_eq, nat_lt, List, [], ◌∷◌, ◌++◌, refl, sym, ap, ◌∙◌, arith, append_assoc, true≢false, append-nil}
-use Rattle.std.proofs.lemmas.Bool.Decides.{nat_tests}
-use Rattle.std.proofs.lemmas.Bool.{and_from}
+use Rattle.solid_listing.proofs.Prelude.{◌≡◌, ℕ, Bool, true, false, cond, ◌&&◌, nat_eq, nat_lt, List, [], ◌∷◌, ◌++◌, refl, sym, ap, ◌∙◌, arith, append_assoc, true≢false, append-nil, nat_tests, and_from, and_first, and_second}
 use Rattle.solid_listing.specs.Lines.{spaced, line_text, text_of}
-use Rattle.euler_operators.proofs.Common.{and_first, and_second}
 
 abbrev pub Word : Type 0
 Word = List ℕ

@@ -1,9 +1,7 @@
 -- Telling one text after another.
-use Rattle.std.proofs.Common.{◌≡◌, ℕ, List, [], ◌++◌, Option, Result, Ok, Err, sym, ap, subst, ◌∙◌, append_assoc, append-nil}
-use Rattle.std.proofs.KnownBytes.{Appends-nil, Appends-trans}
-use Rattle.std.specs.Io.KnownBytes.{Appends}
+use Rattle.solid_listing.proofs.Prelude.{◌≡◌, ℕ, List, [], ◌++◌, Option, Result, Ok, Err, sym, ap, subst, ◌∙◌, append_assoc, append-nil, Appends-nil, Appends-trans, Appends, Stops, Puts, Outgoing}
 use Rattle.std.specs.Result.{IsErrAnd}
-use Rattle.solid_listing.specs.Writing.{Stops, Puts, Outgoing, outgoing, Gathers, Tells}
+use Rattle.solid_listing.specs.Writing.{outgoing, Gathers, Tells}
 use Rattle.solid_listing.proofs.WritingLaws.{Stops-longer, Stops-after as stops_after}
 
 -- a prefix of what was pending and the text went out

@@ -1,13 +1,5 @@
 -- A listing tells all of a sound model.
-use Rattle.std.proofs.Common.{◌≡◌, ℕ, Bool, true, false, cond, ◌&&◌, not, nat_eq, List, [], ◌∷◌, map, codes, Option, Some, None, is_some, refl, sym, ap, ◌∙◌, arith, true≢false, inl, inr, decimal}
-use Rattle.std.proofs.lemmas.Bool.Decides.{nat_tests, eqb_tells}
-use Rattle.std.proofs.lemmas.Fmt.{decimal_injective, signed_decimal_injective}
-use Rattle.std.specs.Fmt.{signed_decimal}
-use Rattle.euler_operators.specs.Common.{Point, is_coordinate, is_in_range, Kind, Solid, Face, Loop, Edge, Vertex, plus, minus, edge_of, is_first, Table, get, has, numbers, same_table, Model, LoopContent, lone, cycle, solid_of, outer, face_of, content, tail, point_of, rings_of, Sound, Has}
-use Rattle.euler_operators.proofs.Common.{content_row, face_row, solid_row, outer_row, point_row, plus_tail_row, minus_tail_row, and_first, and_second}
-use Rattle.solid_listing.specs.Common.{text_of, line, content_words, half_word, lines, or_empty, listing}
-use Rattle.solid_walks.proofs.face_walks_laws.Above.{member}
-use Rattle.solid_walks.proofs.face_walks_laws.RingWalks.{member_rings}
+use Rattle.solid_listing.proofs.Prelude.{◌≡◌, ℕ, Bool, true, false, cond, ◌&&◌, not, nat_eq, List, [], ◌∷◌, map, codes, Option, Some, None, is_some, refl, sym, ap, ◌∙◌, arith, true≢false, inl, inr, decimal, nat_tests, eqb_tells, decimal_injective, signed_decimal_injective, signed_decimal, Point, is_coordinate, is_in_range, Kind, Solid, Face, Loop, Edge, Vertex, plus, minus, edge_of, is_first, Table, get, has, numbers, same_table, Model, LoopContent, lone, cycle, solid_of, outer, face_of, content, tail, point_of, rings_of, Sound, Has, content_row, face_row, solid_row, outer_row, point_row, plus_tail_row, minus_tail_row, and_first, and_second, text_of, line, content_words, half_word, lines, or_empty, listing, member, member_rings}
 use Rattle.solid_listing.proofs.Parsing.{Word, Line, is_good, are_good, parsed, parsed_text, parsed_one}
 use Rattle.solid_listing.proofs.Words.{coordinate_small, half_told}
 use Rattle.solid_listing.proofs.Lines.{is_used, lines_good, small, ring_there, item_there, plus_tail_small, minus_tail_small, point_in_range}

@@ -1,11 +1,5 @@
 -- What an arena answers as a walk goes from a number to the next.
-use Rattle.std.proofs.Common.{◌≡◌, ℕ, ◌<◌, true, false, [], ◌∷◌, Some, None, sym, ◌∙◌, arith}
-use Rattle.std.proofs.lemmas.Bool.Decides.{nat_tests}
-use Rattle.euler_operators.specs.Common.{Kind, Solid, Face, Loop, Edge, Vertex, Table, has, numbers, Model, is_number, Sound, NumbersFit}
-use Rattle.euler_conditions.specs.Store.{Store, IsNextNumber}
-use Rattle.solid_listing.specs.Listing.{numbers_of}
-use Rattle.solid_walks.proofs.face_walks_laws.Above.{above, all_above, next_above, none_above, all_above_members}
-use Rattle.solid_walks.proofs.face_walks_laws.TableWalks.{rising_numbers, member_numbers}
+use Rattle.solid_listing.proofs.Prelude.{◌≡◌, ℕ, ◌<◌, true, false, [], ◌∷◌, Some, None, sym, ◌∙◌, arith, nat_tests, Kind, Solid, Face, Loop, Edge, Vertex, Table, has, numbers, Model, is_number, Sound, NumbersFit, Store, IsNextNumber, numbers_of, above, all_above, next_above, none_above, all_above_members, rising_numbers, member_numbers}
 
 -- the numbers of a table
 module _ {X : Type 0} (t : Table X) where

@@ -1,12 +1,6 @@
 -- Numbers and half-edges are read back from their words.
-use Rattle.std.proofs.Common.{◌≡◌, ℕ, suc, ◌+◌, ◌/◌, ◌%◌, ◌^◌, ◌<◌, ◌≤◌, Bool, true, false, cond, nat_eq, nat_lt, [], ◌∷◌, ◌++◌, ℤ, pos, negsuc, refl, sym, ◌∙◌, arith, decimal}
-use Rattle.std.proofs.lemmas.Bool.Decides.{nat_tests}
-use Rattle.std.proofs.lemmas.Bool.{and_from}
-use Rattle.std.proofs.lemmas.Fmt.{decimal_by_steps, decimal_injective}
-use Rattle.std.specs.Fmt.{signed_decimal}
+use Rattle.solid_listing.proofs.Prelude.{◌≡◌, ℕ, suc, ◌+◌, ◌/◌, ◌%◌, ◌^◌, ◌<◌, ◌≤◌, Bool, true, false, cond, nat_eq, nat_lt, [], ◌∷◌, ◌++◌, ℤ, pos, negsuc, refl, sym, ◌∙◌, arith, decimal, nat_tests, and_from, decimal_by_steps, decimal_injective, signed_decimal, is_coordinate, code, half, edge_of, is_first, is_number, code-half, and_first, and_second}
 use Rattle.std.specs.Int.Signed.{mag}
-use Rattle.euler_operators.specs.Common.{is_coordinate, code, half, edge_of, is_first, is_number}
-use Rattle.euler_operators.proofs.Common.{code-half, and_first, and_second}
 use Rattle.solid_listing.specs.Listing.{half_word}
 use Rattle.solid_listing.proofs.Parsing.{Word, is_clean}
 

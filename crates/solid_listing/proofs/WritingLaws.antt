@@ -1,8 +1,5 @@
 -- Writing one text after another.
-use Rattle.std.proofs.Common.{◌≡◌, ℕ, List, ◌++◌, Option, sym, ap, ◌∙◌, append_assoc}
-use Rattle.std.proofs.KnownBytes.{Appends-trans}
-use Rattle.std.specs.Io.KnownBytes.{Appends}
-use Rattle.solid_listing.specs.Writing.{Stops}
+use Rattle.solid_listing.proofs.Prelude.{◌≡◌, ℕ, List, ◌++◌, Option, sym, ap, ◌∙◌, append_assoc, Appends-trans, Appends, Stops}
 
 -- the front of the text went out, and the rest is to come
 pub record Writes (old new : Option (List ℕ)) (text rest : List ℕ) : Type 0 where

@@ -1,12 +1,5 @@
 -- The sum of cross products that a walk round a loop makes.
-use Rattle.std.proofs.Common.{◌≡◌, ◌≢◌, ℕ, ◌+◌, [], ◌∷◌, ◌++◌, sym, ap, subst, ◌∙◌, arith}
-use Rattle.euler_operators.specs.Common.{Point, IsVectorWithin, normal_limit, moved, cross, IsIn, Content, Model, LoopContent, lone, cycle, items_of, content, point_of, after, Sound, HasHalf}
-use Rattle.solid_walks.specs.Store.{Tells}
-use Rattle.euler_laws.proofs.Common.{steps, Round, round_start, round_more, round_closed, round_ended, half_in, met_once, items_apart}
-use Rattle.shapes.specs.Common.{start, finish}
-use Rattle.solid_measure.specs.Measure.{area, area_limit}
-use Rattle.shapes.proofs.Common.{AreHalves}
-use Rattle.euler_operators.proofs.Common.{moved_none, moved_twice}
+use Rattle.solid_measure.proofs.Prelude.{◌≡◌, ◌≢◌, ℕ, ◌+◌, [], ◌∷◌, ◌++◌, sym, ap, subst, ◌∙◌, arith, Point, IsVectorWithin, normal_limit, moved, cross, IsIn, Content, Model, LoopContent, lone, cycle, items_of, content, point_of, after, Sound, HasHalf, Tells, steps, Round, round_start, round_more, round_closed, round_ended, half_in, met_once, items_apart, start, finish, area, area_limit, AreHalves, moved_none, moved_twice}
 use Rattle.solid_measure.proofs.Areas.{area_turned, area_push, area_limited, moved_within}
 
 -- a lone loop adds nothing

@@ -1,12 +1,7 @@
 -- How great sums of cross products over half-edges are.
-use Rattle.std.proofs.Common.{◌≡◌, ℕ, ◌+◌, ◌*◌, ◌≤◌, List, [], ◌∷◌, length, Some, None, Option, refl, arith, ◌*ℤ◌, unwrap_or}
-use Rattle.euler_operators.specs.Common.{Point, IsInRange, IsVectorWithin, moved, cross, mate, Model, tail, point_of, no_point, Sound}
-use Rattle.euler_operators.proofs.Common.{coordinates, coordinate_within, product_within, sum_within, difference_within, vector_within}
+use Rattle.solid_measure.proofs.Prelude.{◌≡◌, ℕ, ◌+◌, ◌*◌, ◌≤◌, List, [], ◌∷◌, length, Some, None, Option, refl, arith, ◌*ℤ◌, unwrap_or, Point, IsInRange, IsVectorWithin, moved, cross, mate, Model, tail, point_of, no_point, Sound, coordinates, coordinate_within, product_within, sum_within, difference_within, vector_within, start, finish, area, area_limit, AreHalves, halves_short}
 use Rattle.euler_operators.specs.Table as table
-use Rattle.shapes.specs.Common.{start, finish}
 pub use Rattle.shapes.proofs.Areas.{area-append, area_turned, area_push}
-use Rattle.solid_measure.specs.Measure.{area, area_limit}
-use Rattle.shapes.proofs.Common.{AreHalves, halves_short}
 
 pub point_fits : (M : Model) → Sound M → (v : ℕ) → IsInRange (point_of M v)
 unfolding point_of

@@ -1,12 +1,6 @@
 -- The sum of cross products over the loops of a face.
-use Rattle.std.proofs.Common.{◌≡◌, ℕ, [], ◌∷◌, ◌++◌, Some, None, sym, ap, ◌∙◌, append-nil}
-use Rattle.euler_operators.specs.Common.{Model, items_of, content, outer, Sound, Point, IsVectorWithin, origin, moved}
-use Rattle.solid_walks.specs.Store.{IsNextRing}
-use Rattle.shapes.specs.Common.{items_in, boundary}
-use Rattle.shapes.proofs.Common.{loops_to, items_joined, different_items, loops_apart, loops_none}
+use Rattle.solid_measure.proofs.Prelude.{◌≡◌, ℕ, [], ◌∷◌, ◌++◌, Some, None, sym, ap, ◌∙◌, append-nil, Model, items_of, content, outer, Sound, Point, IsVectorWithin, origin, moved, IsNextRing, items_in, boundary, loops_to, items_joined, different_items, loops_apart, loops_none, area, area_limit, normal, none_moved}
 use Rattle.solid_walks.proofs.NextRing.{loops_more, loops_all}
-use Rattle.solid_measure.specs.Measure.{area, area_limit, normal}
-use Rattle.euler_operators.proofs.Common.{none_moved}
 use Rattle.solid_measure.proofs.Areas.{area-append, area_limited}
 
 -- the sum over the loops of a face that don't pass n

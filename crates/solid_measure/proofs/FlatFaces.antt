@@ -1,10 +1,5 @@
 -- Whether all corners of a face lie on a plane: loop by loop, half-edge by half-edge.
-use Rattle.std.proofs.Common.{◌≡◌, ℕ, Bool, true, false, ◌&&◌, List, [], ◌∷◌, ◌++◌, map, not, length, arith, refl, sym, ap, ◌∙◌, true≢false}
-use Rattle.std.specs.List.{list_all}
-use Rattle.euler_operators.specs.Common.{Plane, is_on, same_point, direction, origin, IsRotation, Content, HalfEdge, Model, LoopContent, lone, cycle, items_of, content, tail, point_of, outer, rings_of, IsIn}
-use Rattle.solid_walks.specs.Store.{Tells}
-use Rattle.shapes.specs.Common.{vertices_on, vertices_in, loops_of, corners}
-use Rattle.solid_measure.specs.Measure.{plane_of, is_flat}
+use Rattle.solid_measure.proofs.Prelude.{◌≡◌, ℕ, Bool, true, false, ◌&&◌, List, [], ◌∷◌, ◌++◌, map, not, length, arith, refl, sym, ap, ◌∙◌, true≢false, list_all, Plane, is_on, same_point, direction, origin, IsRotation, Content, HalfEdge, Model, LoopContent, lone, cycle, items_of, content, tail, point_of, outer, rings_of, IsIn, Tells, vertices_on, vertices_in, loops_of, corners, plane_of, is_flat}
 
 module _ (P : ℕ → Bool) where
   all_joined : (xs ys : List ℕ) → list_all P (xs ++ ys) ≡ (list_all P xs && list_all P ys)

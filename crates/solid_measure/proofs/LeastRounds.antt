@@ -1,9 +1,5 @@
 -- The least half-edge that a walk round a loop has met.
-use Rattle.std.proofs.Common.{◌≡◌, ◌≢◌, ℕ, ◌+◌, ◌≤◌, min, List, [], ◌∷◌, ◌++◌, sym, ap, subst, ◌∙◌, arith, ◌⊎◌, inl, inr}
-use Rattle.std.proofs.lemmas.Bool.Decides.{eqb_tells}
-use Rattle.euler_operators.specs.Common.{least, head_or, IsIn, IsRotation, Model, items_of, content, after, Sound}
-use Rattle.euler_operators.proofs.Common.{count-append, tick_other, least_le, least_in, IsRotation-same, head_canonical}
-use Rattle.euler_laws.proofs.Common.{steps, Round, round_start, round_more, round_closed, round_ended, items_from_least}
+use Rattle.solid_measure.proofs.Prelude.{◌≡◌, ◌≢◌, ℕ, ◌+◌, ◌≤◌, min, List, [], ◌∷◌, ◌++◌, sym, ap, subst, ◌∙◌, arith, ◌⊎◌, inl, inr, eqb_tells, least, head_or, IsIn, IsRotation, Model, items_of, content, after, Sound, count-append, tick_other, least_le, least_in, IsRotation-same, head_canonical, steps, Round, round_start, round_more, round_closed, round_ended, items_from_least}
 
 -- the walk has come to h; k is an item, and nothing that was met is less
 pub record LeastRound (M : Model) (l first h n k : ℕ) : Type 0 where

@@ -1,3 +1,4 @@
+mod Prelude
 pub mod solid_checks_laws
 pub mod solid_counts_laws
 pub mod ShortNumbers

@@ -1,12 +1,6 @@
 -- The plane through a point across a normal, as the code makes it.
-use Rattle.std.proofs.Common.{◌≡◌, ℕ, ◌≤◌, ℤ, pos, sym, ap, subst, ◌∙◌, arith, ◌-ℤ◌, neg_ℤ, FitsSigned}
-use Rattle.std.proofs.lemmas.Int.{ints}
+use Rattle.solid_measure.proofs.Prelude.{◌≡◌, ℕ, ◌≤◌, ℤ, pos, sym, ap, subst, ◌∙◌, arith, ◌-ℤ◌, neg_ℤ, FitsSigned, ints, Point, Plane, IsWithin, IsVectorWithin, IsPlane, normal_limit, offset_limit, dot, Model, fits, fits_as, held, held_is, held_as, Frame, area_limit, plane_of, plane_through, read, IsFrame}
 use mir.Syntax.{w128}
-use Rattle.euler_operators.specs.Common.{Point, Plane, IsWithin, IsVectorWithin, IsPlane, normal_limit, offset_limit, dot, Model}
-use Rattle.euler_operators.proofs.Common.{fits, fits_as, held, held_is, held_as}
-use Rattle.solid_measure.specs.declared.faces.Frame.{Frame}
-use Rattle.solid_measure.specs.Measure.{area_limit, plane_of, plane_through, read}
-use Rattle.solid_measure.specs.Frames.{IsFrame}
 
 pub plane_told : (M : Model) (f : ℕ) (found : Frame) → IsFrame M f found → plane_through (read found.normal) found.anchor ≡ plane_of M f
 unfolding plane_of

@@ -1,9 +1,6 @@
 -- Sums and products in 64 bits are exact where they fit.
-use Rattle.std.proofs.Common.{◌≡◌, ℕ, ◌+◌, ◌≤◌, true, ℤ, refl, sym, ap, subst, ◌∙◌, arith, ◌+ℤ◌, ◌-ℤ◌, ◌*ℤ◌, FitsSigned}
-use Rattle.std.proofs.lemmas.Int.{to_z-of_z, fits_signed_from_abs}
+use Rattle.solid_measure.proofs.Prelude.{◌≡◌, ℕ, ◌+◌, ◌≤◌, true, ℤ, refl, sym, ap, subst, ◌∙◌, arith, ◌+ℤ◌, ◌-ℤ◌, ◌*ℤ◌, FitsSigned, to_z-of_z, fits_signed_from_abs, is_coordinate, IsWithin, coordinate_is, coordinate_within, difference_within, held, held_short, minor_fits, minor_of, product_within, short_product_fits, sum_told, sum_within}
 use mir.Syntax.{w64}
-use Rattle.euler_operators.specs.Common.{is_coordinate, IsWithin}
-use Rattle.euler_operators.proofs.Common.{coordinate_is, coordinate_within, difference_within, held, held_short, minor_fits, minor_of, product_within, short_product_fits, sum_told, sum_within}
 
 -- what is at most 9 * 10^18 in magnitude fits
 pub short_fits : (m : ℕ) (z : ℤ) → IsWithin m z → m ≤ 9000000000000000000 → FitsSigned w64 z

@@ -1,12 +1,7 @@
 -- A walk round a loop whose last items are summed in 64 bits.
-use Rattle.std.proofs.Common.{◌≡◌, ◌≢◌, ℕ, ◌+◌, ◌%◌, sym, ap, subst, ◌∙◌, arith}
-use Rattle.euler_operators.specs.Common.{Point, IsInRange, IsVectorWithin, normal_limit, moved, cross, origin, IsIn, Model, items_of, content, after, Sound}
-use Rattle.euler_operators.proofs.Common.{vector_within, moved_none, moved_twice}
-use Rattle.euler_laws.proofs.Common.{steps}
-use Rattle.shapes.specs.Common.{start, finish}
+use Rattle.solid_measure.proofs.Prelude.{◌≡◌, ◌≢◌, ℕ, ◌+◌, ◌%◌, sym, ap, subst, ◌∙◌, arith, Point, IsInRange, IsVectorWithin, normal_limit, moved, cross, origin, IsIn, Model, items_of, content, after, Sound, vector_within, moved_none, moved_twice, steps, start, finish, area, area_limit, read}
 use Rattle.solid_measure.specs.declared.Vector.{Vector}
 use Rattle.solid_measure.specs.declared.short.Swept.{Swept}
-use Rattle.solid_measure.specs.Measure.{area, area_limit, read}
 use Rattle.solid_measure.specs.Short.{IsOfItems, all_of}
 use Rattle.solid_measure.proofs.Areas.{cross_within, moved_within}
 use Rattle.solid_measure.proofs.AreaRounds.{AreaRound, crossed_is, area_start, area_room, area_closed, area_more}

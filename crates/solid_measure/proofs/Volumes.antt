@@ -1,17 +1,7 @@
 -- Sums over the faces of a solid, and how great they are.
-use Rattle.std.proofs.Common.{◌≡◌, ℕ, ◌*◌, ℤ, pos, List, [], ◌∷◌, ◌++◌, length, Some, None, refl, sym, ap, ◌∙◌, arith, ◌+ℤ◌, ◌*ℤ◌, FitsSigned, length-append}
+use Rattle.solid_measure.proofs.Prelude.{◌≡◌, ℕ, ◌*◌, ℤ, pos, List, [], ◌∷◌, ◌++◌, length, Some, None, refl, sym, ap, ◌∙◌, arith, ◌+ℤ◌, ◌*ℤ◌, FitsSigned, length-append, Point, IsInRange, IsWithin, IsVectorWithin, dot, Model, faces_of, Sound, coordinates, coordinate_within, product_within, sum_within, fits, fits_as, held, held_is, held_as, IsNextFace, items_in, loops_of, boundary, loops_in, up_to, halves_short, items_joined, different_items, faces_none, solid_loops_apart, faces_more, faces_all, Frame, anchor, normal, read, six_volume, volume_in, IsFrame}
 use mir.Syntax.{w128}
 use Rattle.std.proofs.Math.IntN.{+ℤ_assoc, +ℤ_idl, +ℤ_idr}
-use Rattle.euler_operators.specs.Common.{Point, IsInRange, IsWithin, IsVectorWithin, dot, Model, faces_of, Sound}
-use Rattle.euler_operators.proofs.Common.{coordinates, coordinate_within, product_within, sum_within, fits, fits_as, held, held_is, held_as}
-use Rattle.solid_walks.specs.Store.{IsNextFace}
-use Rattle.shapes.specs.Common.{items_in, loops_of, boundary, loops_in}
-use Rattle.euler_laws.proofs.Common.{up_to}
-use Rattle.shapes.proofs.Common.{halves_short, items_joined, different_items, faces_none, solid_loops_apart}
-use Rattle.solid_walks.proofs.NextFace.{faces_more, faces_all}
-use Rattle.solid_measure.specs.declared.faces.Frame.{Frame}
-use Rattle.solid_measure.specs.Measure.{anchor, normal, read, six_volume, volume_in}
-use Rattle.solid_measure.specs.Frames.{IsFrame}
 use Rattle.solid_measure.proofs.Areas.{point_fits, area_within}
 
 -- the half-edges of some faces

@@ -1,3 +1,4 @@
+mod Prelude
 pub mod face_walks_laws
 pub mod lone_laws
 pub mod NextRing

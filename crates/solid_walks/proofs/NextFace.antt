@@ -1,12 +1,7 @@
 -- The walk over the faces of a solid, from each to the next.
-use Rattle.std.proofs.Common.{◌≡◌, ℕ, ◌≤◌, true, nat_eq, ◌&&◌, [], ◌∷◌, ◌++◌, Some, None, ap, ◌∙◌, eq-eqb, eqb-true}
-use Rattle.std.proofs.lemmas.Bool.{and_parts}
+use Rattle.solid_walks.proofs.Prelude.{◌≡◌, ℕ, ◌≤◌, true, nat_eq, ◌&&◌, [], ◌∷◌, ◌++◌, Some, None, ap, ◌∙◌, eq-eqb, eqb-true, and_parts, Model, faces_of, solid_of, Sound, Has, lists, up_to_all, up_to_next, IsNextFace, is_face_of, listed_face, face_listed, faces_rise, face_number, faces_to}
 use Rattle.euler_operators.specs.Table as table
-use Rattle.euler_operators.specs.Common.{Model, faces_of, solid_of, Sound, Has, lists}
-use Rattle.euler_laws.proofs.Common.{up_to_all, up_to_next}
-use Rattle.euler_conditions.specs.Store.{IsNextFace, is_face_of}
 use Rattle.solid_walks.proofs.NextRing.{not_less}
-use Rattle.shapes.proofs.Common.{listed_face, face_listed, faces_rise, face_number, faces_to}
 
 module _ (M : Model) (sound : Sound M) (s : ℕ) where
   face_is : (f : ℕ) → is_face_of M s f ≡ true → Has M.faces f × (solid_of M f ≡ s)

@@ -1,11 +1,5 @@
 -- The walk over the rings of a face, from each to the next.
-use Rattle.std.proofs.Common.{◌≡◌, ℕ, ◌≤◌, ◌<◌, Bool, true, false, [], ◌∷◌, ◌++◌, Some, None, sym, ap, ◌∙◌, true≢false, inl, inr}
-use Rattle.euler_operators.specs.Common.{Model, outer, rings_of, Sound}
-use Rattle.euler_operators.proofs.Common.{at_most_or_above}
-use Rattle.euler_laws.proofs.Common.{up_to_all, up_to_next}
-use Rattle.euler_conditions.specs.Store.{IsNextRing}
-use Rattle.shapes.specs.Common.{loops_of}
-use Rattle.shapes.proofs.Common.{loops_to, listed_ring, ring_listed, rings_rise}
+use Rattle.solid_walks.proofs.Prelude.{◌≡◌, ℕ, ◌≤◌, ◌<◌, Bool, true, false, [], ◌∷◌, ◌++◌, Some, None, sym, ap, ◌∙◌, true≢false, inl, inr, Model, outer, rings_of, Sound, at_most_or_above, up_to_all, up_to_next, IsNextRing, loops_of, loops_to, listed_ring, ring_listed, rings_rise}
 
 -- what passes a test that no less number passes is not less
 pub not_less : {b : Bool} (m n : ℕ) → b ≡ true → (n < m → b ≡ false) → m ≤ n

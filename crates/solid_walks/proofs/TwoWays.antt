@@ -1,11 +1,6 @@
 -- The walk round a vertex from h both ways, which leaves a stretch between its two ends unseen.
-use Rattle.std.proofs.Common.{◌≡◌, ◌≢◌, ℕ, ◌+◌, ◌/◌, ◌≤◌, ◌<◌, true, false, List, [], ◌∷◌, ◌++◌, length, refl, sym, ap, subst, ◌∙◌, arith, ◌⊎◌, inl, inr, length-append}
-use Rattle.std.proofs.lemmas.Bool.Decides.{eqb_tells}
-use Rattle.euler_operators.specs.Common.{count, tick, IsIn, IsApart, last_or, rest, successor, predecessor, IsPath, mate, edge_of, Model, items_of, content, cycle_of, loop_of, tail, after, before, round, Sound, HasHalf}
-use Rattle.euler_operators.proofs.Common.{count-append, tick_same, tick_other, rotation_at, count_at, IsRing-same, front_of, IsPath-left, IsPath_at, IsIn_predecessor, predecessor-successor, mate-mate, in-holds, cycle_there, cycle_sound, mate_there, length_below}
-use Rattle.euler_laws.proofs.Common.{Fan, fan_of, loop_after, steps, half_below}
-use Rattle.shapes.specs.Common.{leads}
-use Rattle.shapes.proofs.Common.{leads_true, leads_false}
+use Rattle.solid_walks.proofs.Prelude.{◌≡◌, ◌≢◌, ℕ, ◌+◌, ◌/◌, ◌≤◌, ◌<◌, true, false, List, [], ◌∷◌, ◌++◌, length, refl, sym, ap, subst, ◌∙◌, arith, ◌⊎◌, inl, inr, length-append, eqb_tells, count, tick, IsIn, IsApart, last_or, rest, successor, predecessor, IsPath, mate, edge_of, Model, items_of, content, cycle_of, loop_of, tail, before, round, Sound, HasHalf, count-append, tick_same, tick_other, rotation_at, count_at, IsRing-same, front_of, IsPath-left, IsPath_at, IsIn_predecessor, predecessor-successor, mate-mate, in-holds, cycle_there, cycle_sound, mate_there, length_below, Fan, fan_of, loop_after, steps, half_below, leads, leads_true, leads_false}
+use Rattle.euler_operators.specs.Common.{after}
 
 pub before_there : (M : Model) → Sound M → (x : ℕ) → HasHalf M x → HasHalf M (before M x)
 unfolding before

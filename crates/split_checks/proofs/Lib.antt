@@ -1,3 +1,4 @@
+mod Prelude
 pub mod cut_places_laws
 pub mod place_order_laws
 pub mod face_pairs_laws

@@ -1,3 +1,4 @@
+mod Prelude
 pub mod StepsLeft
 pub mod edge_cutting_laws
 pub mod face_drawing_laws

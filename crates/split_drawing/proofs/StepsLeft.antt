@@ -1,8 +1,5 @@
 -- Steps that a draft has still to take.
-use Rattle.std.proofs.Common.{◌≡◌, ◌<◌, List, [], ◌∷◌, ◌++◌, length, sym, ap, ◌∙◌, arith}
-use Rattle.euler_operators.specs.declared.Op.{Op}
-use Rattle.undo_journal.specs.Journal.{DraftJournal, after_steps}
-use Rattle.undo_journal.proofs.Marks.{after_both, no_steps}
+use Rattle.split_drawing.proofs.Prelude.{◌≡◌, ◌<◌, List, [], ◌∷◌, ◌++◌, length, sym, ap, ◌∙◌, arith, Op, DraftJournal, after_steps, after_both, no_steps}
 
 -- once some are taken, the others lead where all of them do
 pub others_lead : (d e : DraftJournal) (ops more : List Op) → e ≡ after_steps d ops → after_steps e more ≡ after_steps d (ops ++ more)

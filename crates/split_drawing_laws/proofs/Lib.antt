@@ -1,3 +1,4 @@
+mod Prelude
 pub mod crossings
 pub mod drawings
 pub mod pairs

@@ -1,21 +1,8 @@
 -- Whether a cycle is a hole is told by the model before the openings.
-use Rattle.std.proofs.Common.{◌≡◌, ◌<◌, ◌≤◌, ℕ, suc, ◌+◌, Bool, false, cond, pos, List, [], ◌∷◌, ◌++◌, length, map, unwrap_or, refl, sym, ap, ◌∙◌, arith, filter, flat_map, int_lt, append_assoc, append-nil}
-use Rattle.std.proofs.lemmas.List.{length-map, map-append}
+use Rattle.split_laws.proofs.Prelude.{◌≡◌, ◌<◌, ◌≤◌, ℕ, suc, ◌+◌, Bool, false, cond, pos, List, [], ◌∷◌, ◌++◌, length, map, unwrap_or, refl, sym, ap, ◌∙◌, arith, filter, flat_map, int_lt, append_assoc, append-nil, length-map, map-append, Plane, dot, direction, count, IsIn, mate, Model, tail, point_of, no_point, Sound, Has, HasHalf, count-append, tick_other, in_use_within, mate_there, AreFree, start, Taken, negated, is_hole, has_stray_hole, Caps, Opening, opened_along, next_opened, all_opened, area_kept, area_mates, IsSectionCycle, AreSectionCycles, CanBeOpenedInTurn, cap_faces, in_numbers, other_number, vertices_are, face_still, start_same, end_same, starts_elsewhere, openings_carry, opened_next, new_caps, nat_tests}
 use Rattle.std.proofs.lemmas.Grind.{flat_map-append}
-use Rattle.euler_operators.specs.Common.{Plane, dot, direction, count, IsIn, mate, Model, tail, point_of, no_point, Sound, Has, HasHalf}
 use Rattle.euler_operators.specs.Table as table
-use Rattle.euler_operators.proofs.Common.{count-append, tick_other, in_use_within, mate_there}
-use Rattle.shapes.specs.Common.{AreFree, start, Taken, negated, is_hole, has_stray_hole, Caps, Opening, opened_along, next_opened, all_opened}
-use Rattle.shapes.proofs.Common.{area_kept, area_mates}
-use Rattle.split_opening_laws.specs.cycles.SectionCycles.{IsSectionCycle, AreSectionCycles}
-use Rattle.split_opening_laws.specs.sections.InTurn.{CanBeOpenedInTurn}
-use Rattle.split_opening_laws.specs.sections.Capped.{cap_faces}
-use Rattle.split_opening_laws.proofs.sections.Numbered.{in_numbers, other_number}
-use Rattle.split_opening_laws.proofs.sections.OpenedRows.{vertices_are, face_still}
 use Rattle.split_opening_laws.proofs.sections.StillFree.{copied_other}
-use Rattle.split_opening_laws.proofs.sections.StillBetween.{start_same, end_same, starts_elsewhere}
-use Rattle.split_opening_laws.proofs.sections.InTurn.{openings_carry, opened_next, new_caps}
-use Rattle.std.proofs.lemmas.Bool.Decides.{nat_tests}
 
 -- ---- one opening
 

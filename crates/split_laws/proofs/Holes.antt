@@ -1,17 +1,7 @@
 -- A cap that becomes a ring of another: the operator is accepted, and what stays.
-use Rattle.std.specs.List.{list_any}
-use Rattle.std.proofs.Common.{◌≡◌, ◌≢◌, ℕ, true, List, [], ◌∷◌, is_some, refl, sym, ap, ◌∙◌, arith, ◌⊎◌, inl, inr, true≢false, ◌≤◌, ◌<◌, suc, false, length, None, not, get_or, zero, ◌++◌, fold, filter}
-use Rattle.std.proofs.lemmas.Bool.Decides.{nat_tests, eqb_tells}
-use Rattle.euler_operators.specs.Common.{tick, count, IsIn, IsApart, mate, tables, Model, loop_of, face_of, solid_of, outer, Sound, Has, HasHalf, face_at, lists, effect, kfmrh}
+use Rattle.split_laws.proofs.Prelude.{list_any, ◌≡◌, ◌≢◌, ℕ, true, List, [], ◌∷◌, is_some, refl, sym, ap, ◌∙◌, arith, ◌⊎◌, inl, inr, true≢false, ◌≤◌, ◌<◌, suc, false, length, None, not, get_or, zero, ◌++◌, fold, filter, nat_tests, eqb_tells, tick, count, IsIn, IsApart, mate, tables, Model, loop_of, face_of, solid_of, outer, Sound, Has, HasHalf, face_at, lists, effect, kfmrh, Kfmrh, Op, tick_same, tick_other, IsIn_or_not, mate_there, loop_sound, KillGoes, sound-kfmrh, kill_same, kill_face_l, kill_face_else, l_face, g_gone, kill_solid, kill_outer, kfmrh_accepted, Leads, leads_one, leads_none, leads_on, Caps, outer_caps, hole_closed, no_caps, IsPlain, ArePlain, cap_faces, closing_ops}
 use Rattle.euler_operators.specs.Table as table
-use Rattle.euler_operators.specs.declared.Op.TheVariants.{Kfmrh}
-use Rattle.euler_operators.specs.declared.Op.{Op}
-use Rattle.euler_operators.proofs.Common.{tick_same, tick_other, IsIn_or_not, mate_there}
-use Rattle.euler_laws.proofs.Common.{loop_sound, KillGoes, sound-kfmrh, kill_same, kill_face_l, kill_face_else, l_face, g_gone, kill_solid, kill_outer, kfmrh_accepted, Leads, leads_one, leads_none, leads_on}
 use Rattle.euler_laws.proofs.shared.Rings.{SameRings, half_back, loop-rings}
-use Rattle.shapes.specs.Common.{Caps, outer_caps, hole_closed, no_caps}
-use Rattle.split_opening_laws.specs.sections.Capped.{IsPlain, ArePlain, cap_faces}
-use Rattle.split_laws.specs.SplitOps.{closing_ops}
 
 -- what parting those of the faces us that are there asks for, but for a face on either side
 pub record CanPart (N : Model) (s : ℕ) (us : List ℕ) : Type 0 where

@@ -1,3 +1,4 @@
+mod Prelude
 pub mod drawn
 pub mod Openings
 pub mod Holes

@@ -1,13 +1,7 @@
 -- The operators that open a solid along all cycles of its section, in turn.
-use Rattle.std.proofs.Common.{ℕ, List, [], ◌∷◌}
-use Rattle.euler_operators.specs.Common.{Plane}
-use Rattle.shapes.specs.Common.{Opening, next_opened, all_opened}
-use Rattle.split_opening_laws.specs.sections.InTurn.{CanBeOpenedInTurn}
-use Rattle.split_opening_laws.proofs.sections.InTurn.{can_open, others_on}
+use Rattle.split_laws.proofs.Prelude.{ℕ, List, [], ◌∷◌, Plane, Opening, next_opened, all_opened, CanBeOpenedInTurn, can_open, others_on, openings_ops, Leads, leads_none, leads_on}
 use Rattle.split_opening_laws.specs.opening.OpeningOps.{opening_ops}
 use Rattle.split_opening_laws.proofs.opening.Whole.{opening_leads}
-use Rattle.split_laws.specs.SplitOps.{openings_ops}
-use Rattle.euler_laws.proofs.Common.{Leads, leads_none, leads_on}
 
 -- none of the operators is refused, and they open the solid along all cycles
 pub openings_go : (above : List ℕ) (s : ℕ) (p : Plane) (o : Opening) (cs : List (List ℕ)) → CanBeOpenedInTurn above s o cs → Leads o.model (all_opened p above s o cs).model (openings_ops above s p o cs)

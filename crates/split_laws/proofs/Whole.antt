@@ -1,23 +1,9 @@
 -- The upper faces that are left parted from the solid: a split from its first operator to its two solids.
-use Rattle.std.proofs.Common.{◌≡◌, ℕ, Bool, true, false, cond, List, [], ◌∷◌, None, is_some, IsTrue, refl, sym, ap, ◌∙◌, subst, ◌+◌, ◌≤◌, not, ◌++◌, arith, ◌<◌, length, unwrap_or, filter, map, fold}
-use Rattle.euler_operators.specs.Common.{mate, Model, solid_of, is_number, no_face, Has, HasHalf, Sound, face_at, lists, strictly_rises, effect, part, faces_to_solid, count, IsIn, IsApart, Plane}
+use Rattle.split_laws.proofs.Prelude.{◌≡◌, ℕ, Bool, true, false, cond, List, [], ◌∷◌, None, is_some, IsTrue, refl, sym, ap, ◌∙◌, subst, ◌+◌, ◌≤◌, not, ◌++◌, arith, ◌<◌, length, unwrap_or, filter, map, fold, mate, Model, solid_of, is_number, no_face, Has, HasHalf, Sound, face_at, lists, strictly_rises, effect, part, faces_to_solid, count, IsIn, IsApart, Plane, Part, Op, mate_there, same_truth, map_alike, tick_same, count-append, IsIn-filter, count-filter, filter_passes, mate-mate, IsIn-from_listed, listed-from_in, PartGoes, part_accepted, counted_once, none_counted, effects_keep_sound, half_face, Leads, leads_one, leads_on, Caps, Opening, outer_caps, hole_closed, holes_closed, upper_left, opened_at, split_refusal, split_model, split_drawn, Drawing, with_drawings, below_halves, section_cycles, has_stray_hole, faces_above, ArePlain, cap_faces, HasCaps, upper_faces, CanBeOpenedInTurn, filter_rises, false_from_ne_true, above_there, all_on, caps_rise, rewritings_accepted, rewritings_made, closing_ops, hole_ops, openings_ops, upper_ops, ops_above, split_above, split_ops, later_ops, HasFace}
 use Rattle.euler_operators.specs.Table as table
-use Rattle.euler_operators.specs.declared.Op.TheVariants.{Part}
-use Rattle.euler_operators.specs.declared.Op.{Op}
-use Rattle.euler_operators.proofs.Common.{mate_there, same_truth, map_alike, tick_same, count-append, IsIn-filter, count-filter, filter_passes, mate-mate}
-use Rattle.euler_laws.proofs.Common.{IsIn-from_listed, listed-from_in, PartGoes, part_accepted, counted_once, none_counted, effects_keep_sound, half_face, Leads, leads_one, leads_on}
-use Rattle.shapes.specs.Common.{Caps, Opening, outer_caps, hole_closed, holes_closed, upper_left, opened_at, split_refusal, split_model, split_drawn, Drawing, with_drawings, below_halves, section_cycles, has_stray_hole, faces_above}
-use Rattle.split_opening_laws.specs.sections.Capped.{ArePlain, cap_faces, HasCaps}
-use Rattle.split_opening_laws.specs.sections.InTurn.{upper_faces, CanBeOpenedInTurn}
-use Rattle.split_opening_laws.proofs.cycles.RisingLists.{filter_rises}
 use Rattle.split_laws.proofs.Holes.{CanPart, AreClosed, AreLevel, CanClose, none_closed, all_close, can_close, holes_counted}
-use Rattle.std.proofs.lemmas.Bool.{false_from_ne_true}
 use Rattle.euler_laws.specs.Laws.{AreAccepted, effects}
-use Rattle.split_opening_laws.proofs.sections.InTurn.{above_there, all_on, caps_rise}
 use Rattle.split_drawing_laws.specs.pairs.Laws.{rewriting_ops}
-use Rattle.split_drawing_laws.proofs.pairs.Whole.{rewritings_accepted, rewritings_made}
-use Rattle.split_laws.specs.SplitOps.{closing_ops, hole_ops, openings_ops, upper_ops, ops_above, split_above, split_ops, later_ops}
-use Rattle.split_laws.specs.drawn.Kept.{HasFace}
 use Rattle.split_laws.proofs.Flags.{flags_are, one_outer, IsOld, all_old, solids_still}
 use Rattle.split_laws.proofs.Openings.{openings_go}
 use Rattle.split_laws.proofs.drawn.Drawn.{begins, t_fits, no_stray, t_free, can_open_all, no_caps, some_above, some_below}

@@ -1,3 +1,4 @@
+mod Prelude
 pub mod cycles
 pub mod sections
 pub mod strips

@@ -1,16 +1,8 @@
 -- The lamina of a block's base: its first face has one loop, of four half-edges, and these are ready to be swept.
-use Rattle.std.proofs.Common.{◌≡◌, ℕ, ◌+◌, List, [], ◌∷◌, None, refl, sym, ap, subst, ◌∙◌, arith, map, append-nil}
-use Rattle.euler_operators.specs.Common.{Point, plus, Model, FaceRow, LoopRow, content, items_of, outer, rings_of, Sound}
-use Rattle.euler_operators.proofs.Common.{content_row, outer_row}
+use Rattle.sweeps.proofs.Prelude.{◌≡◌, ℕ, ◌+◌, List, [], ◌∷◌, None, refl, sym, ap, subst, ◌∙◌, arith, map, append-nil, Point, plus, Model, FaceRow, LoopRow, content, items_of, outer, rings_of, Sound, content_row, outer_row, Taken, taken_in, numbers_after, lamina_at, prism_refusal, loop_ops, sweep_ops, Ready, turn_ready, greatest-with_path, greatest-with_points, CanRise, with_lamina}
 use Rattle.shapes.proofs.Common.{greatest-put_last}
-use Rattle.shapes.specs.Common.{Taken, taken_in, numbers_after, lamina_at, prism_refusal}
-use Rattle.sweeps_laws.specs.prism.SweepOps.{loop_ops, sweep_ops}
-use Rattle.sweeps_laws.specs.prism.Ready.{Ready}
-use Rattle.sweeps_laws.proofs.prism.Whole.{turn_ready}
 use Rattle.sweeps_laws.proofs.swept.Bounds.{taken_free}
 use Rattle.sweeps_laws.proofs.LaminaRows as rows
-use Rattle.sweeps_laws.proofs.lamina.Steps.{greatest-with_path, greatest-with_points}
-use Rattle.sweeps.specs.Raising.{CanRise, with_lamina}
 use Rattle.sweeps.proofs.RaisedLoops as raised
 
 module _ (M : Model) (sound : Sound M) (s : ℕ) (a b g h : Point) where

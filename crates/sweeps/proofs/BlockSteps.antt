@@ -1,13 +1,6 @@
 -- What the steps of a block say, put together.
-use Rattle.std.proofs.Common.{◌≡◌, ℕ, ◌<◌, ℤ, pos, List, ◌++◌, None, sym, ap, ◌∙◌, subst, get_or, map}
-use Rattle.euler_operators.specs.Common.{Point, IsInRange, moved, plus, Model, no_point, Sound}
-use Rattle.shapes.specs.Common.{AreLeft, Taken, taken_in, numbers_after, lamina_refusal, lamina_model, lamina_face, prism_refusal, vector, base_of, block_refusal}
-use Rattle.sweeps_laws.proofs.lamina.Walk.{lamina_goes, lamina_is_sound}
+use Rattle.sweeps.proofs.Prelude.{◌≡◌, ℕ, ◌<◌, ℤ, pos, List, ◌++◌, None, sym, ap, ◌∙◌, subst, get_or, map, Point, IsInRange, moved, plus, Model, no_point, Sound, AreLeft, Taken, taken_in, numbers_after, lamina_refusal, lamina_model, lamina_face, prism_refusal, vector, base_of, block_refusal, lamina_goes, lamina_is_sound, lamina_operators, loop_ops, sweep_ops, block_operators, CanRise, with_lamina}
 use Rattle.sweeps_laws.proofs.lamina.Blocks.{blocks_have_bases, bases_rise}
-use Rattle.sweeps_laws.specs.lamina.Path.{lamina_operators}
-use Rattle.sweeps_laws.specs.prism.SweepOps.{loop_ops, sweep_ops}
-use Rattle.sweeps_laws.specs.block.BlockOps.{block_operators}
-use Rattle.sweeps.specs.Raising.{CanRise, with_lamina}
 use Rattle.sweeps.proofs.Base.{base, base_rises, base_ops}
 
 module _ (M : Model) (sound : Sound M) (s : ℕ) (p : Point) (dx dy dz : ℤ) (e : block_refusal M s p dx dy dz ≡ None) where

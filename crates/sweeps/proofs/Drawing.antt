@@ -1,16 +1,7 @@
 -- A draft in which a lamina is being drawn.
-use Rattle.std.proofs.Common.{◌≡◌, ℕ, suc, ◌+◌, ◌≤◌, ◌<◌, List, [], ◌∷◌, ◌++◌, None, refl, sym, ap, subst, ◌∙◌, arith, length, get_or, ◌-◌}
-use Rattle.euler_operators.specs.Common.{Point, HalfEdge, Corner, At, Lone, Model, no_point, Sound, first_false, effect}
-use Rattle.euler_operators.specs.declared.Op.{Op}
-use Rattle.euler_operators.specs.declared.Op.TheVariants.{Mvfs, Mev, Mef}
-use Rattle.shapes.specs.Common.{Taken, taken_in, lamina_refusal}
-use Rattle.sweeps_laws.specs.lamina.Path.{path_at, first_half, second_half, first_point, end_corner, next_point, further_points, last_edge, lamina_operators}
-use Rattle.sweeps_laws.proofs.lamina.Steps.{Goes, first_accepted, first_made}
-use Rattle.sweeps_laws.proofs.lamina.Walk.{lamina_goes, next_accepted, next_made, path_sound, close_accepted}
-use Rattle.undo_journal.specs.Journal.{DraftJournal, after_step, after_steps}
-use Rattle.undo_journal.proofs.Marks.{step_after}
-use Rattle.solid_walks.specs.Counters.{taken_of}
-use Rattle.solid_walks.specs.declared.numbers.Counters.{Counters}
+use Rattle.sweeps.proofs.Prelude.{◌≡◌, ℕ, suc, ◌+◌, ◌≤◌, ◌<◌, List, [], ◌∷◌, ◌++◌, None, refl, sym, ap, subst, ◌∙◌, arith, length, get_or, ◌-◌, Point, HalfEdge, Corner, At, Lone, Model, no_point, Sound, first_false, effect, Op, Mvfs, Mev, Mef, Taken, taken_in, lamina_refusal, path_at, first_half, second_half, first_point, end_corner, next_point, further_points, last_edge, lamina_operators, Goes, first_made, lamina_goes, next_accepted, next_made, path_sound, DraftJournal, after_step, after_steps, step_after, taken_of, Counters}
+use Rattle.sweeps_laws.proofs.lamina.Steps.{first_accepted}
+use Rattle.sweeps_laws.proofs.lamina.Walk.{close_accepted}
 
 -- the premises, from what the steps are told
 pub begun : (M : Model) (k : Counters) (s : ℕ) (ps : List Point) → Sound M → taken_of k ≡ taken_in M → lamina_refusal M s ps ≡ None → Goes M (taken_of k) s ps (length ps)

@@ -1,3 +1,4 @@
+mod Prelude
 mod Drawing
 pub mod RaisedItems
 mod RaisedLoops

@@ -1,16 +1,8 @@
 -- The items of a loop that is swept, as the code holds them, and the steps that it takes with them.
-use Rattle.std.proofs.Common.{◌≡◌, ℕ, suc, ◌+◌, ◌-◌, ◌<◌, ◌≤◌, List, [], ◌∷◌, ◌++◌, map, length, None, sym, append_assoc, ap, ◌∙◌, subst, arith, add-one, get_or}
-use Rattle.std.proofs.lemmas.List.{get_or-map, length-map}
-use Rattle.euler_operators.specs.Common.{Point, IsInRange, moved, IsIn, HalfEdge, At, code, half, plus, Model, HasHalf, first_false, effect}
-use Rattle.euler_operators.proofs.Common.{IsIn-get_or, half-code}
-use Rattle.euler_operators.specs.declared.Op.TheVariants.{Mev}
+use Rattle.sweeps.proofs.Prelude.{◌≡◌, ℕ, suc, ◌+◌, ◌-◌, ◌<◌, ◌≤◌, List, [], ◌∷◌, ◌++◌, map, length, None, sym, append_assoc, ap, ◌∙◌, subst, arith, add-one, get_or, get_or-map, length-map, Point, IsInRange, moved, IsIn, HalfEdge, At, code, half, plus, Model, HasHalf, first_false, effect, IsIn-get_or, half-code, Mev, AreLeft, start, Taken, riser, raise_item, raise, close, close_last, rounds, loop_ops, half_there, two_items, Ready, needed_for_sides}
 use Rattle.euler_laws.specs.Laws.{effects}
-use Rattle.shapes.specs.Common.{AreLeft, start, Taken, riser}
-use Rattle.sweeps_laws.specs.prism.SweepOps.{raise_item, raise, close, close_last, rounds, loop_ops}
-use Rattle.sweeps_laws.proofs.prism.Sides.{half_there, two_items}
 use Rattle.sweeps_laws.proofs.prism.Turns.{turn_half, turn_range, raises, raise_accepted, close_accepted, last_accepted}
 use Rattle.sweeps_laws.proofs.prism.Loops.{first_accepted}
-use Rattle.sweeps_laws.specs.prism.Ready.{Ready, needed_for_sides}
 
 -- the operator that raises an item
 pub same_raise : (M : Model) (c : Taken) (d : Point) (item : HalfEdge) (i : ℕ) (edge : HalfEdge) (p : Point) → edge ≡ half (plus (riser c.edge i)) → p ≡ moved (start M (code item)) d

@@ -1,15 +1,5 @@
 -- The loops of a face that is swept, as the code takes them one after the other.
-use Rattle.std.proofs.Common.{◌≡◌, ℕ, ◌-◌, ◌≤◌, ◌<◌, None, List, [], ◌∷◌, ◌++◌, length, append-nil, append_assoc, sym, ap, ◌∙◌, subst, arith, take, drop, slice_index_or}
-use Rattle.std.proofs.lemmas.List.{take_rest}
-use Rattle.euler_operators.specs.Common.{Point, Model, face_of, items_of, content, outer, rings_of, Sound}
-use Rattle.euler_operators.specs.declared.Op.{Op}
-use Rattle.undo_journal.specs.Journal.{DraftJournal, after_steps}
-use Rattle.undo_journal.proofs.Marks.{no_steps, steps_after, steps_make}
-use Rattle.shapes.specs.Common.{loops_of, Taken, taken_in, prism_refusal}
-use Rattle.sweeps_laws.specs.prism.SweepOps.{loop_ops, ops_from, sweep_ops, taken_after}
-use Rattle.sweeps_laws.specs.prism.Ready.{Ready}
-use Rattle.sweeps_laws.proofs.prism.Whole.{Going, same_items, turn_ready, turn_ops, turn_next}
-use Rattle.sweeps_laws.proofs.prism.Accepted.{begins}
+use Rattle.sweeps.proofs.Prelude.{◌≡◌, ℕ, ◌-◌, ◌≤◌, ◌<◌, None, List, [], ◌∷◌, ◌++◌, length, append-nil, append_assoc, sym, ap, ◌∙◌, subst, arith, take, drop, slice_index_or, take_rest, Point, Model, face_of, items_of, content, outer, rings_of, Sound, Op, DraftJournal, after_steps, no_steps, steps_after, steps_make, loops_of, Taken, taken_in, prism_refusal, loop_ops, ops_from, sweep_ops, taken_after, Ready, Going, same_items, turn_ready, turn_ops, turn_next, begins}
 
 -- the first of a list, and the rest
 abbrev pub first : List ℕ → ℕ

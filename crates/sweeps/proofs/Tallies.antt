@@ -1,12 +1,8 @@
 -- Tallies of corners, one after the other.
 use Rattle.std.specs.Option.{option_or}
-use Rattle.std.proofs.Common.{◌≡◌, ℕ, Bool, List, [], ◌∷◌, ◌++◌, append_assoc, None, refl, sym, ap, subst, ◌∙◌, arith, ◌+◌, length, min, map, fold, append-nil, length-append}
-use Rattle.euler_operators.specs.Common.{Point, IsIn, HalfEdge, Content, code, Model, LoopContent, lone, cycle, items_of, content, tail, cycle_of, Sound, HasHalf, StandsIn}
-use Rattle.euler_operators.proofs.Common.{in-holds}
+use Rattle.sweeps.proofs.Prelude.{◌≡◌, ℕ, Bool, List, [], ◌∷◌, ◌++◌, append_assoc, None, refl, sym, ap, subst, ◌∙◌, arith, ◌+◌, length, min, map, fold, append-nil, length-append, Point, IsIn, HalfEdge, Content, code, Model, LoopContent, lone, cycle, items_of, content, tail, cycle_of, Sound, HasHalf, StandsIn, in-holds, vertices_on, first_such, is_far, joined, tally}
 use Rattle.euler_conditions.specs.Store.{Tells}
 use Rattle.euler_conditions.proofs.Borders.{ring_has}
-use Rattle.shapes.specs.Common.{vertices_on, first_such}
-use Rattle.sweeps.specs.Corners.{is_far, joined, tally}
 
 -- ---- a search over two lists
 

@@ -1,16 +1,12 @@
 -- The six volumes of a block and of a lamina, and of the other solids.
-use Rattle.std.proofs.Common.{◌≡◌, ℕ, suc, ℤ, pos, ◌-ℤ◌, true, false, nat_eq, List, [], None, is_some, refl, sym, ap, subst, ◌∙◌, arith, true≢false, length, get_or, ◌-◌, ne_eqb}
-use Rattle.euler_operators.specs.Common.{Point, dot, Model, no_point, solid_of, faces_of, Sound}
+use Rattle.sweeps_laws.proofs.Prelude.{◌≡◌, ℕ, suc, ℤ, pos, ◌-ℤ◌, true, false, nat_eq, List, [], None, is_some, refl, sym, ap, subst, ◌∙◌, arith, true≢false, length, get_or, ◌-◌, ne_eqb, Point, dot, Model, no_point, solid_of, faces_of, Sound, all_where_none, none_add, second_corner, third_corner, fourth_corner, rectangle_flat, rectangle_raised, solid_row, taken_in, lamina_refusal, lamina_at, lamina_model, lamina_face, prism_model, vector, base_of, block_model, normal, is_flat, six_volume, BlockMeasures, BlockKeepsOthers, LaminaMeasures, FlatLaminasMeasureNothing, LaminaKeepsOthers}
 use Rattle.euler_operators.specs.Table as table
-use Rattle.euler_operators.proofs.Common.{all_where_none, none_add, second_corner, third_corner, fourth_corner, rectangle_flat, rectangle_raised, solid_row}
-use Rattle.shapes.specs.Common.{taken_in, lamina_refusal, lamina_at, lamina_model, lamina_face, prism_model, vector, base_of, block_model, normal, is_flat, six_volume}
 use Rattle.sweeps_laws.proofs.lamina.Walk.{lamina_goes}
 use Rattle.sweeps_laws.proofs.lamina.Blocks.{block_goes}
 use Rattle.sweeps_laws.proofs.BlockOps.{goes, base_sound, rise}
 use Rattle.sweeps_laws.proofs.Whole.{sweep_adds, sweep_keeps_others}
 use Rattle.sweeps_laws.proofs.swept.Bounds.{taken_free}
 use Rattle.sweeps_laws.proofs.LaminaVolumes.{lamina_volume, flat_volume, base, base_normal, base_volume}
-use Rattle.sweeps_laws.specs.Laws.{BlockMeasures, BlockKeepsOthers, LaminaMeasures, FlatLaminasMeasureNothing, LaminaKeepsOthers}
 use Rattle.sweeps_laws.proofs.LaminaRows.{solid_one, lamina_keeps}
 
 -- a solid that isn't there has no face

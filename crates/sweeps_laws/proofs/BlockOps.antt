@@ -1,10 +1,5 @@
 -- The operators of a block: those of its base, and then those of the sweep.
-use Rattle.std.proofs.Common.{◌≡◌, ℕ, ℤ, pos, None}
-use Rattle.euler_operators.specs.Common.{Point, Model, Sound}
-use Rattle.euler_laws.proofs.Common.{Leads, leads_on}
-use Rattle.shapes.specs.Common.{lamina_refusal, lamina_model, lamina_face, prism_refusal, prism_model, vector, base_of, block_refusal, block_model}
-use Rattle.sweeps_laws.specs.lamina.Path.{lamina_operators}
-use Rattle.sweeps_laws.specs.prism.SweepOps.{sweep_ops}
+use Rattle.sweeps_laws.proofs.Prelude.{◌≡◌, ℕ, ℤ, pos, None, Point, Model, Sound, Leads, leads_on, lamina_refusal, lamina_model, lamina_face, prism_refusal, prism_model, vector, base_of, block_refusal, block_model, lamina_operators, sweep_ops}
 use Rattle.sweeps_laws.specs.block.BlockOps.{block_operators}
 use Rattle.sweeps_laws.specs.block.Laws.{BlocksAreAccepted, OperatorsMakeBlocks, BlocksAreSound}
 use Rattle.sweeps_laws.proofs.lamina.Walk.{operators_are_accepted, operators_make_lamina, lamina_is_sound}

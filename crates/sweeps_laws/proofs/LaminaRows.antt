@@ -1,14 +1,6 @@
 -- One loop of a face swept: what the six volumes grow by; and the rows of a lamina, beside which other solids keep theirs.
-use Rattle.std.proofs.Common.{◌≡◌, ◌≢◌, ℕ, zero, suc, ◌+◌, ◌≤◌, pos, ◌+ℤ◌, ◌*ℤ◌, Bool, true, cond, nat_eq, List, [], ◌∷◌, ◌++◌, length, is_some, refl, sym, ap, ◌∙◌, arith, inl, inr, false, ◌||◌, ◌<◌, not, ◌&&◌, Some, subst, ◌⊎◌, None, append-nil, eqb-true, eq-eqb, ne_eqb, get_or, map, reverse, ◌-◌}
-use Rattle.std.proofs.lemmas.Bool.Decides.{eqb_tells, nat_tests}
-use Rattle.std.proofs.lemmas.List.{map-append}
-use Rattle.euler_operators.specs.Common.{Point, dot, Model, FaceRow, face_of, outer, solid_of, faces_of, cycle, LoopRow, EdgeRow, no_point, point_of, rings_of, items_of, tail, content, Has, lists, canonical, plus, minus, Table}
+use Rattle.sweeps_laws.proofs.Prelude.{◌≡◌, ◌≢◌, ℕ, zero, suc, ◌+◌, ◌≤◌, pos, ◌+ℤ◌, ◌*ℤ◌, Bool, true, cond, nat_eq, List, [], ◌∷◌, ◌++◌, length, is_some, refl, sym, ap, ◌∙◌, arith, inl, inr, false, ◌||◌, ◌<◌, not, ◌&&◌, Some, subst, ◌⊎◌, None, append-nil, eqb-true, eq-eqb, ne_eqb, get_or, map, reverse, ◌-◌, eqb_tells, nat_tests, map-append, Point, dot, Model, FaceRow, face_of, outer, solid_of, faces_of, cycle, LoopRow, EdgeRow, no_point, point_of, rings_of, items_of, tail, content, Has, lists, canonical, plus, minus, Table, content_row, solid_row, face_row, outer_row, plus_tail_row, point_row, same_content, same_outer, add_none, add_assoc, total_to, same_total, area_at, sides_volume, nat_eq_itself, less_still, first_where_zero, get-put_here, get-put_other, listed_passes, all_where-rises, passes_listed, face_there, same_tail, same_point, Taken, numbers_after, area, normal, volume_in, six_volume, anchor, first_vertex, least_lone, items_in, vertices_in, vertices_on, corners, loops_of, lamina_at, with_path, with_points, with_ring, at_most_greatest, get-put_cases, all_where-put_last, area_kept, areas_kept, greatest-put_last, volume_of, same_volumes, out}
 use Rattle.euler_operators.specs.Table as table
-use Rattle.euler_operators.proofs.Common.{content_row, solid_row, face_row, outer_row, plus_tail_row, point_row, same_content, same_outer, add_none, add_assoc, total_to, same_total, area_at, sides_volume, nat_eq_itself, less_still, first_where_zero, get-put_here, get-put_other}
-use Rattle.euler_laws.proofs.Common.{listed_passes, all_where-rises, passes_listed, face_there, same_tail, same_point}
-use Rattle.shapes.specs.Common.{Taken, numbers_after, area, normal, volume_in, six_volume, anchor, first_vertex, least_lone, items_in, vertices_in, vertices_on, corners, loops_of, lamina_at, with_path, with_points, with_ring}
-use Rattle.shapes.proofs.Common.{at_most_greatest, get-put_cases, all_where-put_last, area_kept, areas_kept, greatest-put_last, volume_of, same_volumes}
-use Rattle.sweeps_laws.specs.lamina.Path.{out}
 use Rattle.sweeps_laws.proofs.lamina.Lists.{numbers_last, plus_halves}
 use Rattle.sweeps_laws.proofs.swept.Filled.{filled, filled_search, filled_none}
 use Rattle.sweeps_laws.proofs.Loops.{area_sum, volume_last, side_is, faces_kept, faces_moved, from_at, to_at, normal_is, first_kept, face_loop_within}

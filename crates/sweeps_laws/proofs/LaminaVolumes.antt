@@ -1,12 +1,5 @@
 -- The six volumes of a lamina: its two faces have opposite normals, and one is told from the first point, the other from the second.
-use Rattle.std.proofs.Common.{◌≡◌, ℕ, zero, suc, ◌+◌, ◌≤◌, ◌<◌, ℤ, pos, ◌+ℤ◌, ◌-ℤ◌, true, List, [], ◌∷◌, ◌++◌, refl, sym, ap, ◌∙◌, arith, append-nil, length, get_or, map, reverse}
-use Rattle.std.proofs.lemmas.Int.{ints}
-use Rattle.euler_operators.specs.Common.{Point, dot, origin, moved, cross, count, IsIn, IsApart, head_or, canonical, mate, plus, minus, Model, cycle, no_point, items_of, tail, content, outer, point_of, faces_of, lists}
-use Rattle.euler_operators.proofs.Common.{content_row, outer_row, minus_tail_row, mate_plus, mate_minus, count-append, tick_same, count-canonical, ring_area}
-use Rattle.euler_laws.proofs.Common.{listed-from_in}
-use Rattle.shapes.specs.Common.{items_in, corners, start, finish, Taken, numbers_after, area, normal, anchor, first_vertex, is_flat, volume_in, six_volume, negated, lamina_at}
-use Rattle.shapes.proofs.Common.{dot_back, area_same, area_back, corner_told}
-use Rattle.sweeps_laws.specs.lamina.Path.{out, back}
+use Rattle.sweeps_laws.proofs.Prelude.{◌≡◌, ℕ, zero, suc, ◌+◌, ◌≤◌, ◌<◌, ℤ, pos, ◌+ℤ◌, ◌-ℤ◌, true, List, [], ◌∷◌, ◌++◌, refl, sym, ap, ◌∙◌, arith, append-nil, length, get_or, map, reverse, ints, Point, dot, origin, moved, cross, count, IsIn, IsApart, head_or, canonical, mate, plus, minus, Model, cycle, no_point, items_of, tail, content, outer, point_of, faces_of, lists, content_row, outer_row, minus_tail_row, mate_plus, mate_minus, count-append, tick_same, count-canonical, ring_area, listed-from_in, items_in, corners, start, finish, Taken, numbers_after, area, normal, anchor, first_vertex, is_flat, volume_in, six_volume, negated, lamina_at, dot_back, area_same, area_back, corner_told, out, back}
 use Rattle.sweeps_laws.proofs.lamina.Lists.{out_first, plus_halves, minus_halves, back_within, back_apart, first_moved, canonical_first}
 use Rattle.sweeps_laws.proofs.LaminaRows as rows
 use Rattle.sweeps_laws.proofs.swept.Bounds.{HasFree}

@@ -1,3 +1,4 @@
+mod Prelude
 pub mod lamina
 pub mod prism
 pub mod swept

@@ -1,12 +1,5 @@
 -- Areas of lists of half-edges and of loops, as sums along the places and where each stays; the volume of one face more.
-use Rattle.std.proofs.Common.{◌≡◌, ℕ, ◌+ℤ◌, true, List, [], ◌∷◌, ◌++◌, length, get_or, refl, sym, ap, ◌∙◌, ◌≢◌, zero, suc, ◌+◌, ◌≤◌, ◌<◌, ℤ, pos, ◌*ℤ◌, not, nat_eq, ◌&&◌, is_some, subst, arith, inl, inr, true≢false}
-use Rattle.euler_operators.specs.Common.{moved, cross, dot, IsIn, head_or, Model, items_of, content, LoopContent, lone, cycle, tail, outer, point_of, rings_of, lists, strictly_rises, Point, edge_of, plus}
-use Rattle.euler_laws.proofs.Common.{first_listed, rest_listed, listed_cases, listed_passes, rises_on, rises_apart}
-use Rattle.shapes.specs.Common.{start, finish, items_in, loops_of, boundary, area, volume_in, normal, anchor, first_vertex, Taken, top_edge, top_items}
-use Rattle.shapes.proofs.Common.{area_kept, area_push, areas_kept, volume_of, volume_append, same_volumes, at_most_greatest}
-use Rattle.euler_operators.proofs.Common.{add_none, dot_moved, add_assoc, sum_to, sum_first, moved_at, area_at, moved_ring, side_area, side_volume, Linked, IsIn_head, mate_plus, mate_minus}
-use Rattle.std.proofs.lemmas.Bool.Decides.{eqb_tells}
-use Rattle.std.proofs.lemmas.Int.{ints}
+use Rattle.sweeps_laws.proofs.Prelude.{◌≡◌, ℕ, ◌+ℤ◌, true, List, [], ◌∷◌, ◌++◌, length, get_or, refl, sym, ap, ◌∙◌, ◌≢◌, zero, suc, ◌+◌, ◌≤◌, ◌<◌, ℤ, pos, ◌*ℤ◌, not, nat_eq, ◌&&◌, is_some, subst, arith, inl, inr, true≢false, moved, cross, dot, IsIn, head_or, Model, items_of, content, LoopContent, lone, cycle, tail, outer, point_of, rings_of, lists, strictly_rises, Point, edge_of, plus, first_listed, rest_listed, listed_cases, listed_passes, rises_on, rises_apart, start, finish, items_in, loops_of, boundary, area, volume_in, normal, anchor, first_vertex, Taken, top_edge, top_items, area_kept, area_push, areas_kept, volume_of, volume_append, same_volumes, at_most_greatest, add_none, dot_moved, add_assoc, sum_to, sum_first, moved_at, area_at, moved_ring, side_area, side_volume, Linked, IsIn_head, mate_plus, mate_minus, eqb_tells, ints}
 use Rattle.sweeps_laws.proofs.swept.Numbers.{next_cases}
 use Rattle.sweeps_laws.proofs.swept.Bounds.{HasFree, item_within, lone_within, loops_within, outer_within, tail_within}
 use Rattle.sweeps_laws.proofs.swept.Sides.{Keeps, start_kept, finish_kept}

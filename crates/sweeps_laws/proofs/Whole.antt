@@ -1,14 +1,5 @@
 -- A whole face swept: its loops one after the other, each a closed path.
-use Rattle.std.proofs.Common.{◌≡◌, ◌≢◌, ℕ, zero, suc, ◌≤◌, ◌<◌, ℤ, pos, ◌+ℤ◌, ◌*ℤ◌, List, [], ◌∷◌, ◌++◌, length, get_or, None, is_some, refl, sym, ap, subst, ◌∙◌, arith}
-use Rattle.std.proofs.lemmas.Int.{ints}
-use Rattle.std.proofs.lemmas.List.{get_or_append_left, get_or_at}
-use Rattle.euler_operators.specs.Common.{Point, dot, head_or, tick, count, IsIn, IsPath, IsRing, mate, Model, LoopContent, cycle, items_of, tail, content, face_of, outer, solid_of, point_of, rings_of, after, Sound, Has, HasHalf}
-use Rattle.euler_operators.proofs.Common.{tick_same, IsIn-get_or, IsIn_head, IsIn_rest, in-holds, content_row, face_row, mate_there, dot_moved, dot_origin, dot_turned, twice_sum, three_times, add_none, add_assoc}
-use Rattle.euler_laws.proofs.Common.{loop_sound, IsLoop}
-use Rattle.shapes.specs.Common.{items_in, loops_of, Taken, growing, taken_in, next_place, prism_from, prism_model, prism_refusal, area, normal, six_volume}
-use Rattle.shapes.proofs.Common.{area-append, area_kept, loops_of_apart}
-use Rattle.sweeps_laws.specs.Laws.{SweepAdds, SweepKeepsOthers}
-use Rattle.sweeps_laws.specs.prism.SweepOps.{taken_after}
+use Rattle.sweeps_laws.proofs.Prelude.{◌≡◌, ◌≢◌, ℕ, zero, suc, ◌≤◌, ◌<◌, ℤ, pos, ◌+ℤ◌, ◌*ℤ◌, List, [], ◌∷◌, ◌++◌, length, get_or, None, is_some, refl, sym, ap, subst, ◌∙◌, arith, ints, get_or_append_left, get_or_at, Point, dot, head_or, tick, count, IsIn, IsPath, IsRing, mate, Model, LoopContent, cycle, items_of, tail, content, face_of, outer, solid_of, point_of, rings_of, after, Sound, Has, HasHalf, tick_same, IsIn-get_or, IsIn_head, IsIn_rest, in-holds, content_row, face_row, mate_there, dot_moved, dot_origin, dot_turned, twice_sum, three_times, add_none, add_assoc, loop_sound, IsLoop, items_in, loops_of, Taken, growing, taken_in, next_place, prism_from, prism_model, prism_refusal, area, normal, six_volume, area-append, area_kept, loops_of_apart, SweepAdds, SweepKeepsOthers, taken_after}
 use Rattle.sweeps_laws.proofs.swept.Bounds.{HasFree}
 use Rattle.sweeps_laws.proofs.swept.Lifted.{IsPathOf, swept, solid_after, outer_after}
 use Rattle.sweeps_laws.proofs.swept.Numbers.{next_cases}

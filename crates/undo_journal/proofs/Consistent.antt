@@ -1,17 +1,6 @@
 -- Every machine to which a history leads is consistent.
-use Rattle.std.proofs.Common.{sym, subst, ap, ◌∙◌, arith, true≢false, ◌≡◌, ℕ, zero, suc, ◌+◌, ◌<◌, ◌≤◌, List, [], ◌∷◌, ◌++◌, length, reverse, drop, get_or, Option, Some, None, is_some, refl}
-use Rattle.euler_operators.specs.Common.{Model, empty_model, Sound, first_false, effect}
-use Rattle.euler_operators.specs.declared.Op.{Op}
+use Rattle.undo_journal.proofs.Prelude.{sym, subst, ap, ◌∙◌, arith, true≢false, ◌≡◌, ℕ, zero, suc, ◌+◌, ◌<◌, ◌≤◌, List, [], ◌∷◌, ◌++◌, length, reverse, drop, get_or, Option, Some, None, is_some, refl, Model, empty_model, Sound, first_false, effect, Op, effects, AreAccepted, empty_sound, effects-append, AreAccepted-append, effects_keep_sound, Record, Machine, DraftState, start, held, depth, ahead, accepted, act, undo, redo, open_draft, draft_step, models, model_at, Call, acted, made, committed, abandoned, undone, redone, stopped, unless, first_of, run_refusal, tried, after_call, after_calls, Follows, IsConsistent, LargerCommandsAreCalls, HistoriesAreConsistent, models_ahead, machine_of, AllLead, IsJournal}
 use Rattle.euler_operators.specs.declared.Refusal.{Refusal}
-use Rattle.euler_laws.specs.Laws.{effects, AreAccepted}
-use Rattle.euler_laws.proofs.shared.Empty.{empty_sound}
-use Rattle.euler_laws.proofs.Common.{effects-append, AreAccepted-append, effects_keep_sound}
-use Rattle.undo_journal.specs.declared.record.Record.{Record}
-use Rattle.undo_journal.specs.Machine.{Machine, DraftState, start, held, depth, ahead, accepted, act, undo, redo, open_draft, draft_step}
-use Rattle.undo_journal.specs.Recorded.{models, model_at}
-use Rattle.undo_journal.specs.Histories.{Call, acted, made, committed, abandoned, undone, redone, stopped, unless, first_of, run_refusal, tried, after_call, after_calls, Follows, IsConsistent}
-use Rattle.undo_journal.specs.Laws.{LargerCommandsAreCalls, HistoriesAreConsistent}
-use Rattle.undo_journal.specs.Sessions.{models_ahead, machine_of, AllLead, IsJournal}
 use Rattle.undo_journal.proofs.Copies.{one_more, at_place, how_many, undone_to_first, redone_to_last}
 use Rattle.undo_journal.proofs.Journals.{models_are}
 

@@ -1,14 +1,6 @@
 -- A machine is a list of copies and a place.
-use Rattle.std.proofs.Common.{sym, ap, ◌∙◌, arith, ◌≡◌, ℕ, zero, suc, ◌+◌, ◌-◌, ◌<◌, List, [], ◌∷◌, ◌++◌, length, reverse, take, get_or, nat_eq, Bool, false, None, refl, length-append, append_assoc}
-use Rattle.std.proofs.lemmas.List.{length-reverse, reverse-append}
-use Rattle.std.proofs.lemmas.Bool.Decides.{nat_tests}
-use Rattle.euler_operators.specs.Common.{Model, empty_model, first_refusal, never}
+use Rattle.undo_journal.proofs.Prelude.{sym, ap, ◌∙◌, arith, ◌≡◌, ℕ, zero, suc, ◌+◌, ◌-◌, ◌<◌, List, [], ◌∷◌, ◌++◌, length, reverse, take, get_or, nat_eq, Bool, false, None, refl, length-append, append_assoc, length-reverse, reverse-append, nat_tests, Model, empty_model, first_refusal, never, NothingToUndo, NothingToRedo, Machine, held, depth, ahead, undo, redo, models, model_at, undos, redos, HeldIsAtThePlace, AcceptedIsAppended, UndoMovesThePlace, RedoMovesThePlace, UndoGivesTheModelBefore}
 use Rattle.euler_operators.specs.declared.Why.{Why}
-use Rattle.euler_operators.specs.declared.Why.TheVariants.{NothingToUndo, NothingToRedo}
-use Rattle.undo_journal.specs.Machine.{Machine, held, depth, ahead, undo, redo}
-use Rattle.undo_journal.specs.Recorded.{models, model_at}
-use Rattle.undo_journal.specs.Histories.{undos, redos}
-use Rattle.undo_journal.specs.Laws.{HeldIsAtThePlace, AcceptedIsAppended, UndoMovesThePlace, RedoMovesThePlace, UndoGivesTheModelBefore}
 
 -- one model more is behind
 pub one_more : (Ps : List Model) (P : Model) (Ms : List Model) → reverse (P ∷ Ps) ++ Ms ≡ reverse Ps ++ P ∷ Ms

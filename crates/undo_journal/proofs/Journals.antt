@@ -1,13 +1,5 @@
 -- The records of a session lead on from the empty model, and the models that they stand for are those after it.
-use Rattle.std.proofs.Common.{sym, subst, ap, ◌∙◌, arith, ◌≡◌, ℕ, zero, suc, ◌+◌, ◌-◌, ◌<◌, ◌≤◌, List, [], ◌∷◌, ◌++◌, length, take, drop, reverse, get_or, refl, take-append-drop, length-take-le, length-drop, take_all}
-use Rattle.std.proofs.lemmas.List.{length-reverse, drop_all, take_more, drop_more, length_push, reverse-append}
-use Rattle.euler_operators.specs.Common.{Model, empty_model}
-use Rattle.euler_laws.specs.Laws.{effects, AreAccepted}
-use Rattle.undo_journal.specs.declared.record.Record.{Record}
-use Rattle.undo_journal.specs.Machine.{depth, ahead, accepted, back_to, forth_to, undo, redo}
-use Rattle.undo_journal.specs.Journal.{Journal}
-use Rattle.undo_journal.specs.Recorded.{models, model_at}
-use Rattle.undo_journal.specs.Sessions.{models_back, models_ahead, past_of, future_of, machine_of, LeadsBothWays, AllLead, gone_forth, IsJournal}
+use Rattle.undo_journal.proofs.Prelude.{sym, subst, ap, ◌∙◌, arith, ◌≡◌, ℕ, zero, suc, ◌+◌, ◌-◌, ◌<◌, ◌≤◌, List, [], ◌∷◌, ◌++◌, length, take, drop, reverse, get_or, refl, take-append-drop, length-take-le, length-drop, take_all, length-reverse, drop_all, take_more, drop_more, length_push, reverse-append, Model, empty_model, effects, AreAccepted, Record, depth, ahead, accepted, back_to, forth_to, undo, redo, Journal, models, model_at, models_back, models_ahead, past_of, future_of, machine_of, LeadsBothWays, AllLead, gone_forth, IsJournal}
 
 -- the same session holds the same machine
 pub same_machine : {t s : Journal} → t ≡ s → t.machine ≡ s.machine

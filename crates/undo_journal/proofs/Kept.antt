@@ -1,17 +1,5 @@
 -- What a session and a draft keep, from call to call.
-use Rattle.std.proofs.Common.{sym, ap, subst, ◌∙◌, ◌≡◌, ℕ, ◌+◌, ◌-◌, ◌<◌, List, [], ◌∷◌, ◌++◌, take, drop, get_or, length, reverse, None, refl}
-use Rattle.std.proofs.lemmas.List.{reverse-append}
-use Rattle.euler_operators.specs.Common.{Model, empty_model, Sound, first_false, effect, inverse}
-use Rattle.low_euler.specs.Store.{Store, empty_store, HasGrown}
-use Rattle.euler_operators.specs.declared.Op.{Op}
-use Rattle.euler_laws.proofs.shared.Empty.{empty_sound}
-use Rattle.euler_laws.specs.Laws.{effects, AreAccepted}
-use Rattle.euler_laws.proofs.Common.{inverse_goes, inverse_undoes, effects-append, AreAccepted-append}
-use Rattle.low_euler.specs.Ready.{IsReady}
-use Rattle.undo_journal.specs.declared.record.Record.{Record}
-use Rattle.undo_journal.specs.Journal.{new_journal, each_inverse}
-use Rattle.low_euler.specs.Room.{IsStepped, KeepsRoom}
-use Rattle.undo_journal.specs.Sessions.{past_of, future_of, journal_of, LeadsBothWays, IsJournal, AllHaveRoom, RecordsHaveRoom, IsKept, opened, command_of, IsDrafted, all_after}
+use Rattle.undo_journal.proofs.Prelude.{sym, ap, subst, ◌∙◌, ◌≡◌, ℕ, ◌+◌, ◌-◌, ◌<◌, List, [], ◌∷◌, ◌++◌, take, drop, get_or, length, reverse, None, refl, reverse-append, Model, empty_model, Sound, first_false, effect, inverse, Store, empty_store, HasGrown, Op, empty_sound, effects, AreAccepted, inverse_goes, inverse_undoes, effects-append, AreAccepted-append, IsReady, Record, new_journal, each_inverse, IsStepped, KeepsRoom, past_of, future_of, journal_of, LeadsBothWays, IsJournal, AllHaveRoom, RecordsHaveRoom, IsKept, opened, command_of, IsDrafted, all_after}
 use Rattle.undo_journal.proofs.Consistent.{journal_consistent}
 use Rattle.undo_journal.proofs.Marks.{each-append, rest_goes_back, rest_undone, front_opened, front_leads, front_paired}
 use Rattle.undo_journal.proofs.Journals.{journal_start, journal_more, journal_on, journal_back}

@@ -1,3 +1,4 @@
+mod Prelude
 pub mod Lasts
 pub mod Copies
 pub mod Journals

@@ -1,14 +1,5 @@
 -- Steps since a mark, taken back.
-use Rattle.std.proofs.Common.{sym, subst, ap, ◌∙◌, ◌≡◌, ℕ, suc, List, [], ◌∷◌, ◌++◌, length, take, drop, reverse, refl, Result, Ok, Err, OnOk, OnErr, None, take-append-drop, take_at, append-nil, append_assoc}
-use Rattle.std.proofs.lemmas.List.{reverse-append}
-use Rattle.euler_operators.specs.Common.{Model, Sound, effect, first_false, inverse}
-use Rattle.euler_operators.specs.declared.Op.{Op}
-use Rattle.euler_laws.specs.Laws.{effects, AreAccepted, inverses}
-use Rattle.euler_laws.proofs.Common.{effects-append, AreAccepted-append, AreAccepted-front, AreAccepted-back, effects_keep_sound, inverses_undo, inverses_go}
-use Rattle.undo_journal.specs.Sessions.{LeadsBothWays, opened, command_of}
-use Rattle.undo_journal.specs.Machine.{held}
-use Rattle.undo_journal.specs.declared.record.Record.{Record}
-use Rattle.undo_journal.specs.Journal.{Journal, DraftJournal, new_draft, after_step, after_steps, after_commit, record_of, recorded, each_inverse, IsMark, IsFurther, IsRecorded, back_at}
+use Rattle.undo_journal.proofs.Prelude.{sym, subst, ap, ◌∙◌, ◌≡◌, ℕ, suc, List, [], ◌∷◌, ◌++◌, length, take, drop, reverse, refl, Result, Ok, Err, OnOk, OnErr, None, take-append-drop, take_at, append-nil, append_assoc, reverse-append, Model, Sound, effect, first_false, inverse, Op, effects, AreAccepted, inverses, effects-append, AreAccepted-append, AreAccepted-front, AreAccepted-back, effects_keep_sound, inverses_undo, inverses_go, LeadsBothWays, opened, command_of, held, Record, Journal, DraftJournal, new_draft, after_step, after_steps, after_commit, record_of, recorded, each_inverse, IsMark, IsFurther, IsRecorded, back_at}
 
 -- ---- inverses in their order
 

@@ -1,15 +1,8 @@
 -- Room that is there stays.
-use Rattle.std.proofs.Common.{sym, subst, arith, ◌≡◌, ℕ, zero, suc, ◌<◌, List, [], ◌∷◌, ◌++◌, take, drop, get_or, length, reverse}
-use Rattle.std.proofs.lemmas.List.{reverse-append}
-use Rattle.euler_laws.specs.Laws.{effects}
-use Rattle.low_euler.specs.Store.{Store}
-use Rattle.euler_operators.specs.declared.Op.{Op}
-use Rattle.low_euler.specs.Ready.{HasRoomFor, made}
-use Rattle.undo_journal.specs.declared.record.Record.{Record}
-use Rattle.low_euler.specs.Room.{KeepsRoom}
+use Rattle.undo_journal.proofs.Prelude.{sym, subst, arith, ◌≡◌, ℕ, zero, suc, ◌<◌, List, [], ◌∷◌, ◌++◌, take, drop, get_or, length, reverse, reverse-append, effects, Store, Op, HasRoomFor, Record, KeepsRoom, AllHaveRoom, RecordsHaveRoom, all_after}
+use Rattle.low_euler.specs.Ready.{made}
 use Rattle.low_euler.proofs.Made.{room_kept}
 use Rattle.low_euler.proofs.Undone.{keeps_room}
-use Rattle.undo_journal.specs.Sessions.{AllHaveRoom, RecordsHaveRoom, all_after}
 
 pub op_kept : (s t : Store) (o : Op) → KeepsRoom s t → HasRoomFor s o → HasRoomFor t o
 op_kept s t o k room = room_kept s t (made o) k room

@@ -1,16 +1,5 @@
 -- What callers see of a session and of a draft: the plain machine, and the records.
-use Rattle.std.proofs.Common.{sym, ap, subst, ◌∙◌, arith, ◌≡◌, ℕ, ◌+◌, ◌-◌, ◌<◌, ◌≤◌, List, [], ◌∷◌, ◌++◌, take, drop, reverse, get_or, length, None, refl}
-use Rattle.euler_operators.specs.Common.{Model, first_false, effect, inverse}
-use Rattle.low_euler.specs.Store.{Store}
-use Rattle.euler_operators.specs.declared.Op.{Op}
-use Rattle.euler_laws.specs.Laws.{effects}
-use Rattle.undo_journal.specs.declared.record.Record.{Record}
-use Rattle.undo_journal.specs.Machine.{Machine, held, depth, ahead, accepted, undo, redo}
-use Rattle.undo_journal.specs.Journal.{Journal, DraftJournal, recorded, after_act, after_undo, after_redo, new_draft, after_step, after_commit, IsFurther, IsMark, back_at}
-use Rattle.undo_journal.specs.Recorded.{model_at}
-use Rattle.low_euler.specs.Ready.{IsReady}
-use Rattle.low_euler.specs.Room.{IsStepped}
-use Rattle.undo_journal.specs.Sessions.{machine_of, journal_of, LeadsBothWays, IsKept, opened, draft_of, command_of, IsDrafted, all_after}
+use Rattle.undo_journal.proofs.Prelude.{sym, ap, subst, ◌∙◌, arith, ◌≡◌, ℕ, ◌+◌, ◌-◌, ◌<◌, ◌≤◌, List, [], ◌∷◌, ◌++◌, take, drop, reverse, get_or, length, None, refl, Model, first_false, effect, inverse, Store, Op, effects, Record, Machine, held, depth, ahead, accepted, undo, redo, Journal, DraftJournal, recorded, after_act, after_undo, after_redo, new_draft, after_step, after_commit, IsFurther, IsMark, back_at, model_at, IsReady, IsStepped, machine_of, journal_of, LeadsBothWays, IsKept, opened, draft_of, command_of, IsDrafted, all_after}
 use Rattle.undo_journal.proofs.Journals.{depth_is, ahead_is, leads_at, machine_more, place_undone, place_redone}
 use Rattle.undo_journal.proofs.Kept.{one_leads, opened_same, same_start, made}
 use Rattle.undo_journal.proofs.Marks.{each-length}

@@ -1,13 +1,5 @@
 -- Operators replayed in turn.
-use Rattle.std.proofs.Common.{sym, ap, subst, ◌∙◌, arith, ◌≡◌, ℕ, zero, suc, ◌+◌, ◌-◌, ◌<◌, ◌≤◌, List, [], ◌∷◌, ◌++◌, take, get_or, length, reverse, None, take_all}
-use Rattle.std.proofs.lemmas.List.{take_more, reverse-append}
-use Rattle.euler_operators.specs.Common.{Model, first_false, effect}
-use Rattle.low_euler.specs.Store.{Store}
-use Rattle.euler_operators.specs.declared.Op.{Op}
-use Rattle.euler_laws.specs.Laws.{effects, AreAccepted}
-use Rattle.euler_laws.proofs.Common.{effects-append}
-use Rattle.low_euler.specs.Ready.{IsReady, HasRoomFor, Accepts, after}
-use Rattle.undo_journal.specs.Sessions.{AllHaveRoom, all_after}
+use Rattle.undo_journal.proofs.Prelude.{sym, ap, subst, ◌∙◌, arith, ◌≡◌, ℕ, zero, suc, ◌+◌, ◌-◌, ◌<◌, ◌≤◌, List, [], ◌∷◌, ◌++◌, take, get_or, length, reverse, None, take_all, take_more, reverse-append, Model, first_false, effect, Store, Op, effects, AreAccepted, effects-append, IsReady, HasRoomFor, Accepts, after, AllHaveRoom, all_after}
 use Rattle.undo_journal.proofs.Rooms.{op_kept, ops_kept, keeps_all_after}
 
 goes_at : (M : Model) (ops : List Op) (i : ℕ) (o : Op) → i < length ops → o ≡ get_or ops i o → AreAccepted M ops → first_false (effects M (take i ops)) o ≡ None

@@ -1,10 +1,6 @@
 -- The chains where one more item comes.
-use Rattle.std.proofs.Common.{◌≡◌, ◌≢◌, ℕ, ◌+◌, ◌<◌, true, cond, nat_eq, List, length, Option, Some, None, refl, sym, ap, ◌∙◌, eq-eqb, ne_eqb}
-use Rattle.boundary_model.specs.Table.{get, put}
-use Rattle.arena_rows.specs.declared.owner_chains.rows.Head.{Head}
-use Rattle.arena_rows.specs.declared.owner_chains.rows.Link.{Link}
+use Rattle.arena_rows.proofs.Prelude.{◌≡◌, ◌≢◌, ℕ, ◌+◌, ◌<◌, true, cond, nat_eq, List, length, Option, Some, None, refl, sym, ap, ◌∙◌, eq-eqb, ne_eqb, get, put, Head, Link, owned, AreChained, IsAbove, IsBelow, items, is_of, link_at, owner_in, head_at, linked_in, gained, owners_of, view_of}
 use Rattle.arena_rows.specs.owner_chains.Owners as owners
-use Rattle.arena_rows.specs.Common.{owned, AreChained, IsAbove, IsBelow, items, is_of, link_at, owner_in, head_at, linked_in, gained, owners_of, view_of}
 use Rattle.arena_rows.proofs.owner_chains_laws.Order.{IsPlace, between, above_new, above_previous, above_other, below_new, below_next, below_other}
 use Rattle.arena_rows.proofs.owner_chains_laws.Leading.{Lead, IsLed, row_now, owners_now, same, still_chained}
 use Rattle.arena_rows.proofs.owner_chains_laws.Tables.{owner_at, owners_of-put}

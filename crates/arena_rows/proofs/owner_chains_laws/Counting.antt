@@ -1,15 +1,8 @@
 -- How many items an owner has, where an item comes or goes.
 --     few      numbers below a bound are no more than the bound
 --     owned-put, owned-remove      how many items an owner has, where one more item has an owner, or one less
-use Rattle.std.proofs.Common.{◌≡◌, ◌≢◌, ℕ, suc, ◌+◌, ◌-◌, ◌≤◌, ◌<◌, Bool, true, false, cond, nat_eq, T, List, [], ◌∷◌, length, Some, None, is_some, refl, sym, ap, ◌∙◌, arith, eq-eqb, ne_eqb, inl, inr, nat_cmp}
-use Rattle.std.proofs.lemmas.Bool.Decides.{eqb_tells}
+use Rattle.arena_rows.proofs.Prelude.{◌≡◌, ◌≢◌, ℕ, suc, ◌+◌, ◌-◌, ◌≤◌, ◌<◌, Bool, true, false, cond, nat_eq, T, List, [], ◌∷◌, length, Some, None, is_some, refl, sym, ap, ◌∙◌, arith, eq-eqb, ne_eqb, inl, inr, nat_cmp, eqb_tells, count, tick, same_length, tick_same, tick_other, Table, get, put, remove, all_where, all_in, get-put, get-remove, passes, count-all_where, and_left, and_right, put-remove, less_means, find_here, find_later, owned}
 use Rattle.std.specs.FinMap.Entries.{find, is_sorted, below_all}
-use Rattle.boundary_model.specs.Items.{count, tick}
-use Rattle.boundary_model.proofs.Members.{same_length}
-use Rattle.boundary_model.proofs.Lists.{tick_same, tick_other}
-use Rattle.boundary_model.specs.Table.{Table, get, put, remove, all_where, all_in, get-put, get-remove}
-use Rattle.boundary_model.proofs.Tables.{passes, count-all_where, and_left, and_right, put-remove, less_means, find_here, find_later}
-use Rattle.arena_rows.specs.Common.{owned}
 
 -- ---- the numbers whose rows pass a test
 

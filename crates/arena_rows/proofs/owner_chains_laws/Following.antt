@@ -1,9 +1,5 @@
 -- What follows an item, and what comes before it.
-use Rattle.std.proofs.Common.{◌≡◌, ◌≢◌, ℕ, ◌≤◌, ◌<◌, Bool, true, cond, List, Option, Some, None, is_some, sym, ap, subst, ◌∙◌, arith, true≢false, ne_eqb, inl, inr}
-use Rattle.std.proofs.lemmas.Bool.Decides.{eqb_tells}
-use Rattle.arena_rows.specs.declared.owner_chains.rows.Head.{Head}
-use Rattle.arena_rows.specs.declared.owner_chains.rows.Link.{Link}
-use Rattle.arena_rows.specs.Common.{AreChained, IsAbove, IsBelow, items, is_of, link_at, next_in, head_at, follower}
+use Rattle.arena_rows.proofs.Prelude.{◌≡◌, ◌≢◌, ℕ, ◌≤◌, ◌<◌, Bool, true, cond, List, Option, Some, None, is_some, sym, ap, subst, ◌∙◌, arith, true≢false, ne_eqb, inl, inr, eqb_tells, Head, Link, AreChained, IsAbove, IsBelow, items, is_of, link_at, next_in, head_at, follower}
 use Rattle.arena_rows.proofs.owner_chains_laws.Order.{at_least}
 
 owner_of_row : (o : ℕ) (link : Link) → is_of o (Some link) ≡ true → link.owner ≡ o

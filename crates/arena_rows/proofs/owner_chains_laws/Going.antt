@@ -1,11 +1,6 @@
 -- The chains where an item goes.
-use Rattle.std.proofs.Common.{◌≡◌, ◌≢◌, ℕ, ◌+◌, ◌-◌, true, false, cond, nat_eq, List, length, Option, Some, None, refl, sym, ap, ◌∙◌, arith, eq-eqb, ne_eqb, inl, inr}
-use Rattle.std.proofs.lemmas.Bool.Decides.{eqb_tells}
-use Rattle.boundary_model.specs.Table.{remove}
-use Rattle.arena_rows.specs.declared.owner_chains.rows.Head.{Head}
-use Rattle.arena_rows.specs.declared.owner_chains.rows.Link.{Link}
+use Rattle.arena_rows.proofs.Prelude.{◌≡◌, ◌≢◌, ℕ, ◌+◌, ◌-◌, true, false, cond, nat_eq, List, length, Option, Some, None, refl, sym, ap, ◌∙◌, arith, eq-eqb, ne_eqb, inl, inr, eqb_tells, remove, Head, Link, owned, AreChained, IsAbove, IsBelow, items, is_of, link_at, owner_in, head_at, linked_out, lost, owners_of, view_of}
 use Rattle.arena_rows.specs.owner_chains.Owners as owners
-use Rattle.arena_rows.specs.Common.{owned, AreChained, IsAbove, IsBelow, items, is_of, link_at, owner_in, head_at, linked_out, lost, owners_of, view_of}
 use Rattle.arena_rows.proofs.owner_chains_laws.Order.{above_joined, above_left, below_joined, below_left}
 use Rattle.arena_rows.proofs.owner_chains_laws.Following.{item_row}
 use Rattle.arena_rows.proofs.owner_chains_laws.Leading.{Lead, IsLed, row_now, owners_now, same, still_chained}

@@ -1,9 +1,5 @@
 -- The chains where one row is written, one item leads on elsewhere and one back.
-use Rattle.std.proofs.Common.{◌≡◌, ◌≢◌, ℕ, ◌<◌, true, cond, nat_eq, List, length, Option, Some, None, sym, ap, subst, ◌∙◌, arith, eq-eqb, ne_eqb, inl, inr}
-use Rattle.std.proofs.lemmas.Bool.Decides.{eqb_tells}
-use Rattle.arena_rows.specs.declared.owner_chains.rows.Head.{Head}
-use Rattle.arena_rows.specs.declared.owner_chains.rows.Link.{Link}
-use Rattle.arena_rows.specs.Common.{owned, is_owner, AreChained, IsAbove, IsBelow, items, is_of, link_at, owner_in, head_at, relinked, owners_of}
+use Rattle.arena_rows.proofs.Prelude.{◌≡◌, ◌≢◌, ℕ, ◌<◌, true, cond, nat_eq, List, length, Option, Some, None, sym, ap, subst, ◌∙◌, arith, eq-eqb, ne_eqb, inl, inr, eqb_tells, Head, Link, owned, is_owner, AreChained, IsAbove, IsBelow, items, is_of, link_at, owner_in, head_at, relinked, owners_of}
 use Rattle.arena_rows.proofs.owner_chains_laws.Order.{above_same, below_same}
 use Rattle.arena_rows.proofs.owner_chains_laws.Following.{owner_is}
 use Rattle.arena_rows.proofs.owner_chains_laws.Linking.{IsRelinked, relinked_row, owner_in-relinked, none_relinked, is_of-owner_in}

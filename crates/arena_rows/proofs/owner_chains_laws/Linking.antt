@@ -1,8 +1,5 @@
 -- What becomes of a row where two items are led elsewhere.
-use Rattle.std.proofs.Common.{◌≡◌, ◌≢◌, ℕ, Bool, true, false, cond, nat_eq, List, Option, Some, None, is_some, refl, sym, ap, ◌∙◌, eq-eqb, ne_eqb, inl, inr}
-use Rattle.std.proofs.lemmas.Bool.Decides.{eqb_tells}
-use Rattle.arena_rows.specs.declared.owner_chains.rows.Link.{Link}
-use Rattle.arena_rows.specs.Common.{is_owner, link_at, owner_in, is_of, leading_on, leading_back, relinked}
+use Rattle.arena_rows.proofs.Prelude.{◌≡◌, ◌≢◌, ℕ, Bool, true, false, cond, nat_eq, List, Option, Some, None, is_some, refl, sym, ap, ◌∙◌, eq-eqb, ne_eqb, inl, inr, eqb_tells, Link, is_owner, link_at, owner_in, is_of, leading_on, leading_back, relinked}
 
 pub same_link : (x y : Link) → Some x ≡ Some y → x ≡ y
 same_link x y e = cc

@@ -1,7 +1,5 @@
 -- The items above and below a number, where one more item comes, or one goes.
-use Rattle.std.proofs.Common.{◌≡◌, ◌≢◌, ℕ, ◌≤◌, ◌<◌, Bool, true, false, sym, ap, ◌∙◌, arith, true≢false, inl, inr}
-use Rattle.std.proofs.lemmas.Bool.Decides.{eqb_tells, leb_tells}
-use Rattle.arena_rows.specs.Common.{IsAbove, IsBelow}
+use Rattle.arena_rows.proofs.Prelude.{◌≡◌, ◌≢◌, ℕ, ◌≤◌, ◌<◌, Bool, true, false, sym, ap, ◌∙◌, arith, true≢false, inl, inr, eqb_tells, leb_tells, IsAbove, IsBelow}
 
 -- the same items
 pub above_same : (item item' : ℕ → Bool) → ((k : ℕ) → item' k ≡ item k) → (n m : ℕ) → IsAbove item n m → IsAbove item' n m

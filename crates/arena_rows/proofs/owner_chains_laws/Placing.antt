@@ -1,7 +1,5 @@
 -- The place of a number, by the numbers near it.
-use Rattle.std.proofs.Common.{◌≡◌, ◌≢◌, ℕ, ◌+◌, ◌≤◌, ◌<◌, Bool, true, false, refl, sym, ap, ◌∙◌, arith, true≢false, inl, inr}
-use Rattle.std.proofs.lemmas.Bool.Decides.{eqb_tells}
-use Rattle.arena_rows.specs.Common.{IsBelow, IsClear}
+use Rattle.arena_rows.proofs.Prelude.{◌≡◌, ◌≢◌, ℕ, ◌+◌, ◌≤◌, ◌<◌, Bool, true, false, refl, sym, ap, ◌∙◌, arith, true≢false, inl, inr, eqb_tells, IsBelow, IsClear}
 use Rattle.arena_rows.proofs.owner_chains_laws.Order.{at_least}
 
 module _ (item : ℕ → Bool) (n : ℕ) where

@@ -1,9 +1,5 @@
 -- The table of owners that the rows stand for.
-use Rattle.std.proofs.Common.{◌≡◌, ℕ, ◌≤◌, true, false, cond, nat_eq, List, length, Option, Some, None, is_some, refl, sym, ap, ◌∙◌, arith, slice_index_or}
-use Rattle.boundary_model.specs.Table.{get, put, remove, get-put, get-remove, tabulate, same_table}
-use Rattle.arena_rows.specs.declared.owner_chains.rows.Head.{Head}
-use Rattle.arena_rows.specs.declared.owner_chains.rows.Link.{Link}
-use Rattle.arena_rows.specs.Common.{owned, is_owner, head_in, head_at, link_at, owner_in, items, owners_of, map_row, table_of}
+use Rattle.arena_rows.proofs.Prelude.{◌≡◌, ℕ, ◌≤◌, true, false, cond, nat_eq, List, length, Option, Some, None, is_some, refl, sym, ap, ◌∙◌, arith, slice_index_or, get, put, remove, get-put, get-remove, tabulate, same_table, Head, Link, owned, is_owner, head_in, head_at, link_at, owner_in, items, owners_of, map_row, table_of}
 use Rattle.arena_rows.proofs.Views.{row_within, get-table_of, has-row}
 use Rattle.arena_rows.proofs.owner_chains_laws.Linking.{is_of-owner_in}
 use Rattle.arena_rows.proofs.owner_chains_laws.Counting.{few}

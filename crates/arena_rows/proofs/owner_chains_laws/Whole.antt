@@ -1,11 +1,5 @@
 -- What the chains say of the owners; chains of nothing, and with more room.
-use Rattle.std.proofs.Common.{◌≡◌, ◌≢◌, ℕ, ◌≤◌, nat_eq, List, [], length, Option, Some, None, refl, sym, ap, subst, ◌∙◌, arith}
-use Rattle.std.proofs.lemmas.Bool.{false_from_ne_true}
-use Rattle.boundary_model.specs.Table.{empty, get-empty, same_table}
-use Rattle.boundary_model.proofs.Tables.{all_where_none}
-use Rattle.arena_rows.specs.declared.owner_chains.rows.Head.{Head}
-use Rattle.arena_rows.specs.declared.owner_chains.rows.Link.{Link}
-use Rattle.arena_rows.specs.Common.{no_owners, owned, IsNextItem, OwnersHaveGrown, AreChained, IsAbove, items, is_of, link_at, head_at, owners_of, view_of}
+use Rattle.arena_rows.proofs.Prelude.{◌≡◌, ◌≢◌, ℕ, ◌≤◌, nat_eq, List, [], length, Option, Some, None, refl, sym, ap, subst, ◌∙◌, arith, false_from_ne_true, empty, get-empty, same_table, all_where_none, Head, Link, no_owners, owned, IsNextItem, OwnersHaveGrown, AreChained, IsAbove, items, is_of, link_at, head_at, owners_of, view_of}
 use Rattle.arena_rows.proofs.owner_chains_laws.Order.{above_same, below_same}
 use Rattle.arena_rows.proofs.owner_chains_laws.Tables.{owner_at, item_at, owners_of-same}
 

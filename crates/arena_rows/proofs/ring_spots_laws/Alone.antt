@@ -1,13 +1,5 @@
 -- A code that is alone in its ring, joined to a ring or cut from one.
-use Rattle.std.proofs.Common.{◌≡◌, ◌≢◌, ℕ, Bool, true, false, cond, nat_eq, List, [], ◌∷◌, Option, Some, None, refl, sym, ap, subst, ◌∙◌, arith, eq-eqb, ne_eqb, inl, inr}
-use Rattle.std.proofs.lemmas.Bool.Decides.{eqb_tells}
-use Rattle.raw_ring.specs.Rings.{RingMap, Spot, spot, set_label}
-use Rattle.boundary_model.specs.Items.{count, IsIn}
-use Rattle.boundary_model.proofs.Lists.{IsIn_or_not, tick_le, tick_other}
-use Rattle.boundary_model.proofs.Rotations.{IsIn_head, canonical_one}
-use Rattle.boundary_model.proofs.Members.{IsIn_one}
-use Rattle.arena_rows.specs.declared.ring_spots.labels.Label.{Label}
-use Rattle.arena_rows.specs.Common.{Spots, live, next, label, ring, is_in, map_spot, labelled, spliced, AreRings, own, holder, loop_at, with_loop, in_loops, map_in_loops, AreLabelled, ShareLabel, has_label}
+use Rattle.arena_rows.proofs.Prelude.{◌≡◌, ◌≢◌, ℕ, Bool, true, false, cond, nat_eq, List, [], ◌∷◌, Option, Some, None, refl, sym, ap, subst, ◌∙◌, arith, eq-eqb, ne_eqb, inl, inr, eqb_tells, RingMap, Spot, spot, set_label, count, IsIn, IsIn_or_not, tick_le, tick_other, IsIn_head, canonical_one, IsIn_one, Label, Spots, live, next, label, ring, is_in, map_spot, labelled, spliced, AreRings, own, holder, loop_at, with_loop, in_loops, map_in_loops, AreLabelled, ShareLabel, has_label}
 use Rattle.arena_rows.proofs.ring_spots_laws.SpotLaws.{ring_is, ring_same, ring_meet, next_in_ring, is_in-yes, is_in-no, label-labelled_in, label-labelled_out, live-labelled, ring-labelled, next-spliced}
 use Rattle.arena_rows.proofs.ring_spots_laws.Relabelling.{known_step}
 use Rattle.arena_rows.proofs.ring_spots_laws.LoopSpots.{blank-labelled, loops-labelled, loops-spliced, ring-loops}

@@ -1,19 +1,5 @@
 -- The nodes where a half-edge starts elsewhere, where an edge wakes and where one goes to sleep.
-use Rattle.std.proofs.Common.{◌≡◌, ◌≢◌, ℕ, ◌≤◌, ◌<◌, Bool, true, false, cond, nat_lt, nat_le, ◌&&◌, List, [], ◌∷◌, Option, Some, None, is_some, unwrap_or, refl, sym, ap, subst, ◌∙◌, arith, true≢false, eq-eqb, ne_eqb, ◌⊎◌, inl, inr}
-use Rattle.std.proofs.lemmas.Bool.Decides.{nat_tests, eqb_tells}
-use Rattle.std.proofs.lemmas.Bool.{false_from_ne_true}
-use Rattle.raw_ring.specs.Rings.{RingMap, Spot, spot, next_of, or_zero, of_spot, ring_of_one}
-use Rattle.boundary_model.specs.Items.{IsIn, head_or}
-use Rattle.boundary_model.proofs.Lists.{tick_le}
-use Rattle.boundary_model.proofs.Rotations.{IsIn_head, canonical_one}
-use Rattle.boundary_model.specs.HalfEdge.{plus, minus, edge_of, is_first, mate}
-use Rattle.boundary_model.specs.Table.{Table, get, put, remove, tabulate, get-put, get-remove, same_table}
-use Rattle.boundary_model.specs.Model.{EdgeRow, no_edge}
-use Rattle.boundary_model.proofs.Halves.{plus_row, minus_row, mate-mate, mate_plus, mate_minus}
-use Rattle.boundary_model.proofs.Tests.{and_first, and_second}
-use Rattle.boundary_model.proofs.Members.{IsIn_one}
-use Rattle.arena_rows.specs.Common.{Spots, codes, edges_end, live, next, label, tail_at, ring, map_spot, woken, asleep, IsRingOf, AreRings, edge_row, both_tails, loose_row, edge_room}
-use Rattle.arena_rows.specs.ring_spots.Spots.{set_tail}
+use Rattle.arena_rows.proofs.Prelude.{◌≡◌, ◌≢◌, ℕ, ◌≤◌, ◌<◌, Bool, true, false, cond, nat_lt, nat_le, ◌&&◌, List, [], ◌∷◌, Option, Some, None, is_some, unwrap_or, refl, sym, ap, subst, ◌∙◌, arith, true≢false, eq-eqb, ne_eqb, ◌⊎◌, inl, inr, nat_tests, eqb_tells, false_from_ne_true, RingMap, Spot, spot, next_of, or_zero, of_spot, ring_of_one, IsIn, head_or, tick_le, IsIn_head, canonical_one, plus, minus, edge_of, is_first, mate, Table, get, put, remove, tabulate, get-put, get-remove, same_table, EdgeRow, no_edge, plus_row, minus_row, mate-mate, mate_plus, mate_minus, and_first, and_second, IsIn_one, Spots, codes, edges_end, live, next, label, tail_at, ring, map_spot, woken, asleep, IsRingOf, AreRings, edge_row, both_tails, loose_row, edge_room, set_tail}
 use Rattle.arena_rows.proofs.ring_spots_laws.RingMaps.{next_some}
 use Rattle.arena_rows.proofs.ring_spots_laws.SpotLaws.{AreRings-set_tail, live-set_tail, ring_kept, ring_of, ring_same, next_in_ring}
 use Rattle.arena_rows.proofs.ring_spots_laws.SpotTables.{half_is, row_live, edges_at, loose_row_is, loose_at, loose_row_means, loose_dead, loose_kept, codes_are, edge_has, edge_has_room}

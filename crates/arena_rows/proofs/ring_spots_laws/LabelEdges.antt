@@ -1,14 +1,5 @@
 -- Labels where edges come and go.
-use Rattle.std.proofs.Common.{◌≡◌, ◌≢◌, ℕ, ◌≤◌, Bool, true, false, cond, nat_eq, List, [], ◌∷◌, Option, Some, None, is_some, refl, sym, ap, subst, ◌∙◌, arith, true≢false, eq-eqb, ne_eqb, ◌⊎◌, inl, inr}
-use Rattle.std.proofs.lemmas.Bool.{cases_eq}
-use Rattle.std.specs.FinMap.{insert, contains_key}
-use Rattle.raw_ring.specs.Rings.{Spot, RingMap, spot, or_zero, of_spot, ring_of_one}
-use Rattle.boundary_model.specs.Items.{IsIn}
-use Rattle.boundary_model.specs.HalfEdge.{plus, minus}
-use Rattle.boundary_model.proofs.Members.{IsIn_one}
-use Rattle.arena_rows.specs.declared.ring_spots.labels.Label.{Label}
-use Rattle.arena_rows.specs.Common.{Spots, live, next, label, ring, map_spot, woken, woken_as, asleep, AreRings, own, holder, loop_at, with_loop, in_loops, but_label, AreLabelled, HaveNewLabels, has_label}
-use Rattle.arena_rows.specs.ring_spots.Spots.{set_tail}
+use Rattle.arena_rows.proofs.Prelude.{◌≡◌, ◌≢◌, ℕ, ◌≤◌, Bool, true, false, cond, nat_eq, List, [], ◌∷◌, Option, Some, None, is_some, refl, sym, ap, subst, ◌∙◌, arith, true≢false, eq-eqb, ne_eqb, ◌⊎◌, inl, inr, cases_eq, insert, contains_key, Spot, RingMap, spot, or_zero, of_spot, ring_of_one, IsIn, plus, minus, IsIn_one, Label, Spots, live, next, label, ring, map_spot, woken, woken_as, asleep, AreRings, own, holder, loop_at, with_loop, in_loops, but_label, AreLabelled, HaveNewLabels, has_label, set_tail}
 use Rattle.arena_rows.proofs.ring_spots_laws.SpotLaws.{live-set_tail, label-set_tail, ring-set_tail, AreRings-set_tail}
 use Rattle.arena_rows.proofs.ring_spots_laws.RingMaps.{spot-insert, known-same}
 use Rattle.arena_rows.proofs.ring_spots_laws.EdgeSpots.{w_rings, w_cases, old_ring, r_plus, r_minus, s_rings, s_ring, s_left, s_other}

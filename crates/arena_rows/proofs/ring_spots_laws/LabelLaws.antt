@@ -1,11 +1,5 @@
 -- Labels where rings are cut, joined and put into loops.
-use Rattle.std.proofs.Common.{◌≡◌, ◌≢◌, ℕ, ◌+◌, Bool, true, List, Option, refl, sym, ap, subst, ◌∙◌, arith, cond, nat_eq, eq-eqb, ne_eqb, ◌⊎◌, inl, inr}
-use Rattle.boundary_model.specs.Items.{count, IsIn}
-use Rattle.boundary_model.specs.Rings.{cut_left, cut_right, joined}
-use Rattle.boundary_model.proofs.Lists.{IsIn_or_not}
-use Rattle.boundary_model.proofs.Cuts.{IsIn-cut}
-use Rattle.arena_rows.specs.declared.ring_spots.labels.Label.{Label}
-use Rattle.arena_rows.specs.Common.{Spots, live, label, ring, labelled, spliced, AreRings, own, holder, loop_at, in_loops, AreOwned, HaveLabels, AreLabelled, ShareLabel, IsRelabelled, HaveOneLabel, has_label}
+use Rattle.arena_rows.proofs.Prelude.{◌≡◌, ◌≢◌, ℕ, ◌+◌, Bool, true, List, Option, refl, sym, ap, subst, ◌∙◌, arith, cond, nat_eq, eq-eqb, ne_eqb, ◌⊎◌, inl, inr, count, IsIn, cut_left, cut_right, joined, IsIn_or_not, IsIn-cut, Label, Spots, live, label, ring, labelled, spliced, AreRings, own, holder, loop_at, in_loops, AreOwned, HaveLabels, AreLabelled, ShareLabel, IsRelabelled, HaveOneLabel, has_label}
 use Rattle.arena_rows.proofs.ring_spots_laws.SpotLaws.{ring_same, ring_meet, live-labelled, ring-labelled, label-labelled_in, label-labelled_out, AreRings-labelled, live-spliced, label-spliced, AreRings-cut, ring_left, ring_right, ring_beside, cut_items, AreRings-join, ring_joint, ring_aside, join_items}
 use Rattle.arena_rows.proofs.ring_spots_laws.LabelTables.{handed_over, holder_x, holder_other}
 use Rattle.arena_rows.proofs.ring_spots_laws.LoopSpots.{blank-labelled, loops-labelled}

@@ -1,10 +1,6 @@
 -- The table of labels, where rows are written, where labels come and where one gets another owner.
-use Rattle.std.proofs.Common.{◌≡◌, ◌≢◌, ℕ, ◌<◌, ◌≤◌, Bool, true, false, cond, nat_eq, nat_lt, List, [], length, Option, Some, unwrap_or, Result, Ok, Err, OnOk, refl, sym, ap, subst, ◌∙◌, arith, eq-eqb, ne_eqb, ◌⊎◌, inl, inr}
-use Rattle.std.proofs.lemmas.Bool.Decides.{eqb_tells, nat_tests}
-use Rattle.raw_cells.specs.Rows.{row_at}
-use Rattle.arena_rows.specs.declared.ring_spots.labels.Label.{Label}
+use Rattle.arena_rows.proofs.Prelude.{◌≡◌, ◌≢◌, ℕ, ◌<◌, ◌≤◌, Bool, true, false, cond, nat_eq, nat_lt, List, [], length, Option, Some, unwrap_or, Result, Ok, Err, OnOk, refl, sym, ap, subst, ◌∙◌, arith, eq-eqb, ne_eqb, ◌⊎◌, inl, inr, eqb_tells, nat_tests, row_at, Label, new_label, row_of, has_label, own, holder, loop_at, AreOwned, HaveNewLabels}
 use Rattle.arena_rows.proofs.Views.{row_past}
-use Rattle.arena_rows.specs.Common.{new_label, row_of, has_label, own, holder, loop_at, AreOwned, HaveNewLabels}
 
 -- a truth value is true or false
 yes_or_no : (b : Bool) → (b ≡ true) ⊎ (b ≡ false)

@@ -1,11 +1,5 @@
 -- How many items a ring has, counted by a walk round it.
-use Rattle.std.proofs.Common.{◌≡◌, ◌≢◌, ℕ, ◌+◌, ◌≤◌, true, cond, List, [], ◌∷◌, length, sym, ap, subst, ◌∙◌, arith, eq-eqb, ne_eqb, eqb}
-use Rattle.boundary_model.specs.Rings.{walk_to, rotate_to}
-use Rattle.boundary_model.proofs.Rotations.{length-rotate_to}
-use Rattle.boundary_model.proofs.Rings.{orbit_from}
-use Rattle.boundary_model.proofs.Places.{walk_to_more}
-use Rattle.arena_rows.specs.Common.{Spots, codes, live, next, ring, AreRings}
-use Rattle.boundary_model.proofs.Members.{length_below}
+use Rattle.arena_rows.proofs.Prelude.{◌≡◌, ◌≢◌, ℕ, ◌+◌, ◌≤◌, true, cond, List, [], ◌∷◌, length, sym, ap, subst, ◌∙◌, arith, eq-eqb, ne_eqb, eqb, walk_to, rotate_to, length-rotate_to, orbit_from, walk_to_more, Spots, codes, live, next, ring, AreRings, length_below}
 
 -- after i items the walk from a stands at p, and has at most n to go
 abbrev pub Counted : Spots → ℕ → ℕ → ℕ → ℕ → Type 0

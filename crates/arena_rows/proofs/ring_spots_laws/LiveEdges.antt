@@ -1,14 +1,5 @@
 -- The numbers of the edges in use, where an edge comes or goes.
-use Rattle.std.proofs.Common.{◌≡◌, ◌≢◌, ℕ, ◌/◌, ◌≤◌, ◌<◌, Bool, true, false, cond, nat_eq, nat_le, ◌&&◌, List, [], length, Some, None, is_some, refl, sym, ap, subst, ◌∙◌, arith, eq-eqb, ne_eqb, true≢false, inl, inr}
-use Rattle.std.proofs.lemmas.Bool.{cases_eq}
-use Rattle.std.proofs.lemmas.Bool.Decides.{nat_tests}
-use Rattle.std.specs.FinMap.{contains_key}
-use Rattle.raw_ring.specs.Rings.{RingMap, spot, ring_of_one}
-use Rattle.boundary_model.specs.HalfEdge.{plus, minus}
-use Rattle.boundary_model.proofs.Tests.{and_false}
-use Rattle.raw_cells.specs.Numbers.{uses}
-use Rattle.arena_rows.specs.Common.{Spots, live, woken, asleep, labelled, spliced, is_edge, AreEdges}
-use Rattle.arena_rows.specs.ring_spots.Spots.{set_tail}
+use Rattle.arena_rows.proofs.Prelude.{◌≡◌, ◌≢◌, ℕ, ◌/◌, ◌≤◌, ◌<◌, Bool, true, false, cond, nat_eq, nat_le, ◌&&◌, List, [], length, Some, None, is_some, refl, sym, ap, subst, ◌∙◌, arith, eq-eqb, ne_eqb, true≢false, inl, inr, cases_eq, nat_tests, contains_key, RingMap, spot, ring_of_one, plus, minus, and_false, uses, Spots, live, woken, asleep, labelled, spliced, is_edge, AreEdges, set_tail}
 use Rattle.raw_cells.proofs.numbers_laws.Words.{uses_past}
 use Rattle.arena_rows.proofs.ring_spots_laws.SpotLaws.{live-labelled, live-spliced, live-set_tail}
 use Rattle.arena_rows.proofs.ring_spots_laws.RingMaps.{no_codes, spot-empty, known-empty}

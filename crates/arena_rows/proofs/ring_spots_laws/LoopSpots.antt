@@ -1,17 +1,7 @@
 -- Spots that differ in labels alone, and the loops for which labels stand.
-use Rattle.std.proofs.Common.{◌≡◌, ℕ, ◌<◌, Bool, true, false, cond, nat_eq, List, Option, Some, None, is_some, option_map, refl, sym, ap, ◌∙◌, true≢false, inl, inr}
-use Rattle.std.specs.FinMap.{get, contains_key, get-entries, get-from_entries}
-use Rattle.std.specs.Cmp.{nat_cmp_total}
-use Rattle.raw_ring.specs.Rings.{Spot, RingMap, spot, awake, or_zero, of_spot}
-use Rattle.boundary_model.specs.Items.{count, IsIn}
-use Rattle.boundary_model.specs.Rings.{splice}
-use Rattle.boundary_model.specs.HalfEdge.{mate}
-use Rattle.boundary_model.specs.Table.{map_rows, get-map_rows}
+use Rattle.arena_rows.proofs.Prelude.{◌≡◌, ℕ, ◌<◌, Bool, true, false, cond, nat_eq, List, Option, Some, None, is_some, option_map, refl, sym, ap, ◌∙◌, true≢false, inl, inr, contains_key, get-entries, get-from_entries, nat_cmp_total, Spot, RingMap, spot, awake, or_zero, of_spot, count, IsIn, splice, mate, map_rows, get-map_rows, IsIn_or_not, Label, Spots, codes, live, next, label, ring, is_in, map_spot, asleep, with_links, spliced, labelled, AreRings, but_label, loop_at, with_loop, in_loops, rows_of, map_in_loops, set_tail}
+use Rattle.std.specs.FinMap.{get}
 use Rattle.boundary_model.specs.Table as table
-use Rattle.boundary_model.proofs.Lists.{IsIn_or_not}
-use Rattle.arena_rows.specs.declared.ring_spots.labels.Label.{Label}
-use Rattle.arena_rows.specs.Common.{Spots, codes, live, next, label, ring, is_in, map_spot, asleep, with_links, spliced, labelled, AreRings, but_label, loop_at, with_loop, in_loops, rows_of, map_in_loops}
-use Rattle.arena_rows.specs.ring_spots.Spots.{set_tail}
 use Rattle.arena_rows.proofs.ring_spots_laws.SpotLaws.{either, live-map, ring_kept, ring_next, label-labelled_in, label-labelled_out}
 
 -- what stands at two codes is equal where it is but for labels, and the labels are

@@ -1,11 +1,5 @@
 -- What is seen of rings that are cut and joined: the loops in which their codes stand.
-use Rattle.std.proofs.Common.{◌≡◌, ◌≢◌, ℕ, ◌+◌, Bool, true, false, cond, List, Option, Some, None, refl, sym, ap, subst, ◌∙◌, arith, inl, inr}
-use Rattle.raw_ring.specs.Rings.{Spot}
-use Rattle.boundary_model.specs.Items.{count, IsIn}
-use Rattle.boundary_model.specs.Rings.{splice, joined}
-use Rattle.boundary_model.proofs.Lists.{IsIn_or_not}
-use Rattle.arena_rows.specs.declared.ring_spots.labels.Label.{Label}
-use Rattle.arena_rows.specs.Common.{Spots, live, next, label, ring, is_in, map_spot, with_links, labelled, spliced, loop_at, in_loops, AreLabelled, ShareLabel, IsRelabelled}
+use Rattle.arena_rows.proofs.Prelude.{◌≡◌, ◌≢◌, ℕ, ◌+◌, Bool, true, false, cond, List, Option, Some, None, refl, sym, ap, subst, ◌∙◌, arith, inl, inr, Spot, count, IsIn, splice, joined, IsIn_or_not, Label, Spots, live, next, label, ring, is_in, map_spot, with_links, labelled, spliced, loop_at, in_loops, AreLabelled, ShareLabel, IsRelabelled}
 use Rattle.arena_rows.proofs.ring_spots_laws.SpotLaws.{next-labelled, live-labelled, label-labelled_in, label-labelled_out, label-spliced, ring_joint, join_items}
 use Rattle.arena_rows.proofs.ring_spots_laws.LoopSpots.{same_spots, blank-labelled, blank-loops, live-alike, ring-alike, live-loops, label-loops, loops-spliced}
 use Rattle.arena_rows.proofs.ring_spots_laws.LabelLaws.{share-cut}

@@ -1,16 +1,6 @@
 -- A walk round a ring that gives each item a label.
-use Rattle.std.proofs.Common.{◌≡◌, ◌≢◌, ℕ, ◌+◌, ◌-◌, ◌<◌, Bool, true, false, ◌||◌, cond, nat_eq, List, [], ◌∷◌, Some, is_some, refl, sym, ap, subst, ◌∙◌, arith, eq-eqb, ne_eqb, eqb, true≢false, inl, inr}
-use Rattle.std.proofs.lemmas.Bool.Decides.{eqb_tells}
-use Rattle.raw_ring.specs.Rings.{RingMap, or_zero, of_spot, spot, next_of, set_label}
+use Rattle.arena_rows.proofs.Prelude.{◌≡◌, ◌≢◌, ℕ, ◌+◌, ◌-◌, ◌<◌, Bool, true, false, ◌||◌, cond, nat_eq, List, [], ◌∷◌, Some, is_some, refl, sym, ap, subst, ◌∙◌, arith, eq-eqb, ne_eqb, eqb, true≢false, inl, inr, eqb_tells, RingMap, or_zero, of_spot, spot, next_of, set_label, count, IsIn, walk_to, rotate_to, IsIn_or_not, tick_same, tick_other, count-rotate_to, IsIn_head, orbit_from, walk_to_more, Spots, codes, live, next, ring, is_in, map_spot, labelled, AreRings, PartlyLabelled, length_below}
 use Rattle.arena_rows.proofs.ring_spots_laws.RingMaps.{spot-with}
-use Rattle.boundary_model.specs.Items.{count, IsIn}
-use Rattle.boundary_model.specs.Rings.{walk_to, rotate_to}
-use Rattle.boundary_model.proofs.Lists.{IsIn_or_not, tick_same, tick_other}
-use Rattle.boundary_model.proofs.Rotations.{count-rotate_to, IsIn_head}
-use Rattle.boundary_model.proofs.Rings.{orbit_from}
-use Rattle.boundary_model.proofs.Places.{walk_to_more}
-use Rattle.arena_rows.specs.Common.{Spots, codes, live, next, ring, is_in, map_spot, labelled, AreRings, PartlyLabelled}
-use Rattle.boundary_model.proofs.Members.{length_below}
 use Rattle.arena_rows.proofs.ring_spots_laws.SpotLaws.{either, next-labelled, live-labelled, next_in_ring, ring_same, is_in-yes, is_in-no, part-kept, live-map}
 
 -- the walk round a ring meets its items

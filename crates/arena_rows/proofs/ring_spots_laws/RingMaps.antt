@@ -1,13 +1,9 @@
 -- What the map of the rings says of each code once it is changed.
-use Rattle.std.proofs.Common.{◌≡◌, ◌≢◌, ℕ, Bool, true, false, cond, nat_eq, Option, Some, None, is_some, Result, Ok, Err, OnOk, OnErr, refl, sym, ap, ◌∙◌, true≢false, eq-eqb, ne_eqb, inl, inr, eqb-true, nat_cmp}
-use Rattle.std.proofs.lemmas.Bool.Decides.{eqb_tells}
-use Rattle.std.specs.FinMap.{get, insert, contains_key}
+use Rattle.arena_rows.proofs.Prelude.{◌≡◌, ◌≢◌, ℕ, Bool, true, false, cond, nat_eq, Option, Some, None, is_some, Result, Ok, Err, OnOk, OnErr, refl, sym, ap, ◌∙◌, true≢false, eq-eqb, ne_eqb, inl, inr, eqb-true, nat_cmp, eqb_tells, insert, contains_key, Spot, RingMap, spot, awake, or_zero, of_spot, next_of, put_spot, with_spot, with_next, with_room, next, asleep, map_spot, spliced, set_tail}
+use Rattle.std.specs.FinMap.{get}
 use Rattle.std.specs.FinMap as map
 use Rattle.raw_ring.specs.Rings as rings
-use Rattle.raw_ring.specs.Rings.{Spot, RingMap, spot, awake, or_zero, of_spot, next_of, put_spot, with_spot, with_next, with_room}
 use Rattle.raw_ring.proofs.Mapping.{get-put}
-use Rattle.arena_rows.specs.Common.{next, asleep, map_spot, spliced}
-use Rattle.arena_rows.specs.ring_spots.Spots.{set_tail}
 
 -- what stands at a code is read through a test of which code it is
 awake-cond : (b : Bool) (v : Option Spot) (o : Option (Option Spot)) → awake (cond b (Some v) o) ≡ cond b v (awake o)

@@ -1,11 +1,6 @@
 -- What a contract sees of rings: the codes that are live and known, and the numbers of the edges.
-use Rattle.std.proofs.Common.{◌≡◌, ℕ, Bool, true, List, [], Option, Some, None, is_some, option_map, Result, Ok, Err, OnOk, refl, sym, ap, subst, ◌∙◌, true≢false, nat_cmp}
-use Rattle.std.specs.Cmp.{nat_cmp_total}
-use Rattle.std.specs.FinMap.{contains_key, same_map, get-empty, nat_cmp-IsAntisymmetric}
-use Rattle.raw_ring.specs.Rings.{RingMap, Spot, spot, or_zero, of_spot, next_of, tail_of, label_of, IsPermutation}
-use Rattle.boundary_model.specs.HalfEdge.{plus, minus}
-use Rattle.arena_rows.specs.declared.ring_spots.labels.Label.{Label}
-use Rattle.arena_rows.specs.Common.{Spots, live, label, ring, labelled, spliced, map_spot, loop_at, with_loop, in_loops, map_in_loops, AreEdgeRings}
+use Rattle.arena_rows.proofs.Prelude.{◌≡◌, ℕ, Bool, true, List, [], Option, Some, None, is_some, option_map, Result, Ok, Err, OnOk, refl, sym, ap, subst, ◌∙◌, true≢false, nat_cmp, nat_cmp_total, contains_key, same_map, nat_cmp-IsAntisymmetric, RingMap, Spot, spot, or_zero, of_spot, next_of, tail_of, label_of, IsPermutation, plus, minus, Label, Spots, live, label, ring, labelled, spliced, map_spot, loop_at, with_loop, in_loops, map_in_loops, AreEdgeRings}
+use Rattle.std.specs.FinMap.{get-empty}
 use Rattle.arena_rows.proofs.ring_spots_laws.RingMaps.{no_codes, spot-empty, known-empty}
 use Rattle.arena_rows.proofs.ring_spots_laws.LabelTables.{no_label}
 use Rattle.arena_rows.proofs.ring_spots_laws.LiveEdges.{no_edges}

@@ -1,19 +1,7 @@
 -- Rings of live codes, and what becomes of them.
 --     ring_is, ring_same      the ring of a code, by any list that `next` leads round;  one for all its items
 --     AreRings-..       the rings stay rings
-use Rattle.std.proofs.Common.{◌≡◌, ◌≢◌, ℕ, ◌+◌, ◌<◌, Bool, true, false, cond, nat_eq, List, ◌∷◌, ◌++◌, Option, Some, None, is_some, refl, sym, ap, subst, ◌∙◌, arith, true≢false, inl, inr}
-use Rattle.std.proofs.lemmas.Bool.Decides.{nat_tests}
-use Rattle.raw_ring.specs.Rings.{Spot, or_zero, of_spot}
-use Rattle.boundary_model.specs.Items.{count, IsIn, IsApart, head_or}
-use Rattle.boundary_model.specs.Rings.{canonical, orbit, IsRing, splice, cut_left, cut_right, joined, rest, between, beyond}
-use Rattle.boundary_model.proofs.Lists.{count-append, IsIn_or_not}
-use Rattle.boundary_model.proofs.Members.{length_below}
-use Rattle.boundary_model.proofs.Rotations.{count-canonical, canonical-canonical}
-use Rattle.boundary_model.proofs.Rings.{IsPath-agree, canonical-orbit, next_is_successor, IsIn_successor}
-use Rattle.boundary_model.proofs.Cuts.{splice_elsewhere, count-cut, IsApart-cut, IsRing-cut, count-joined, IsApart-joined, IsRing-join}
-use Rattle.boundary_model.specs.HalfEdge.{mate}
-use Rattle.arena_rows.specs.Common.{Spots, codes, live, next, label, ring, is_in, map_spot, spliced, labelled, IsRingOf, AreRings}
-use Rattle.arena_rows.specs.ring_spots.Spots.{set_tail}
+use Rattle.arena_rows.proofs.Prelude.{◌≡◌, ◌≢◌, ℕ, ◌+◌, ◌<◌, Bool, true, false, cond, nat_eq, List, ◌∷◌, ◌++◌, Option, Some, None, is_some, refl, sym, ap, subst, ◌∙◌, arith, true≢false, inl, inr, nat_tests, Spot, or_zero, of_spot, count, IsIn, IsApart, head_or, canonical, orbit, IsRing, splice, cut_left, cut_right, joined, rest, between, beyond, count-append, IsIn_or_not, length_below, count-canonical, canonical-canonical, IsPath-agree, canonical-orbit, next_is_successor, IsIn_successor, splice_elsewhere, count-cut, IsApart-cut, IsRing-cut, count-joined, IsApart-joined, IsRing-join, mate, Spots, codes, live, next, label, ring, is_in, map_spot, spliced, labelled, IsRingOf, AreRings, set_tail}
 
 -- a list that is turned to its least item stays where it is turned so again
 pub canonical_fixed : (xs : List ℕ) → IsApart (canonical xs) → canonical (canonical xs) ≡ canonical xs

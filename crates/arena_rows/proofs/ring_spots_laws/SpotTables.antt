@@ -1,20 +1,5 @@
 -- The tables of edges and of loose rings, and what becomes of them where the nodes change.
-use Rattle.std.proofs.Common.{◌≡◌, ◌≢◌, ℕ, ◌+◌, ◌*◌, ◌≤◌, ◌<◌, Bool, true, false, cond, nat_eq, nat_lt, nat_le, ◌&&◌, List, [], Option, Some, None, is_some, unwrap_or, refl, sym, ap, subst, ◌∙◌, arith, true≢false, eq-eqb, ne_eqb, ◌⊎◌, inl, inr, eqb-true}
-use Rattle.std.proofs.lemmas.Bool.Decides.{nat_tests, eqb_tells}
-use Rattle.std.proofs.lemmas.Option.{same_Some}
-use Rattle.raw_ring.specs.Rings.{Spot, or_zero, of_spot}
-use Rattle.boundary_model.specs.Items.{count, IsIn, head_or, least}
-use Rattle.boundary_model.proofs.Lists.{least_in, IsIn_or_not}
-use Rattle.boundary_model.proofs.Rotations.{head_canonical}
-use Rattle.boundary_model.specs.HalfEdge.{plus, minus, edge_of, is_first, mate, code}
-use Rattle.boundary_model.specs.declared.HalfEdge.{HalfEdge}
-use Rattle.boundary_model.specs.Table.{get, put, remove, empty, tabulate, first_where, get-tabulate, get-empty, get-put, get-remove, same_table}
-use Rattle.boundary_model.specs.Model.{cycle, EdgeRow, holds}
-use Rattle.boundary_model.proofs.Halves.{mate_cases, mate_plus}
-use Rattle.boundary_model.proofs.Tables.{first_where_is}
-use Rattle.boundary_model.proofs.Models.{holds_in, in-holds}
-use Rattle.boundary_model.proofs.Tests.{and_first, and_second, and_false}
-use Rattle.arena_rows.specs.Common.{Spots, codes, edges_end, live, label, tail_at, ring, map_spot, is_in, spliced, labelled, AreRings, edge_row, both_tails, loose_row, edge_room}
+use Rattle.arena_rows.proofs.Prelude.{◌≡◌, ◌≢◌, ℕ, ◌+◌, ◌*◌, ◌≤◌, ◌<◌, Bool, true, false, cond, nat_eq, nat_lt, nat_le, ◌&&◌, List, [], Option, Some, None, is_some, unwrap_or, refl, sym, ap, subst, ◌∙◌, arith, true≢false, eq-eqb, ne_eqb, ◌⊎◌, inl, inr, eqb-true, nat_tests, eqb_tells, same_Some, Spot, or_zero, of_spot, count, IsIn, head_or, least, least_in, IsIn_or_not, head_canonical, plus, minus, edge_of, is_first, mate, code, HalfEdge, get, put, remove, empty, tabulate, first_where, get-tabulate, get-empty, get-put, get-remove, same_table, cycle, EdgeRow, holds, mate_cases, mate_plus, first_where_is, holds_in, in-holds, and_first, and_second, and_false, Spots, codes, edges_end, live, label, tail_at, ring, map_spot, is_in, spliced, labelled, AreRings, edge_row, both_tails, loose_row, edge_room}
 use Rattle.arena_rows.proofs.ring_spots_laws.SpotLaws.{either, ring_same, canonical_ring}
 
 -- a half-edge is the first or the second one of its edge, and its mate is the other

@@ -1,8 +1,4 @@
-use Rattle.std.proofs.Common.{pos, refl, ap, ◌∙◌}
-use Rattle.sweeps.specs.Machine.{block, block_refusal}
-use Rattle.sweeps.specs.PlainMachine.{start}
-use Rattle.euler_operators.specs.Common.{Point}
-use Rattle.block_machining.specs.Machines.{alone}
+use Rattle.block_machining.proofs.Prelude.{pos, refl, ap, ◌∙◌, block, block_refusal, start, Point, alone}
 use Rattle.block_machining.proofs.Known.{begins, never_refused}
 use Rattle.block_machining.proofs.Computed.{start_free, start_left}
 use Rattle.block_machining.proofs.alone.Goals as goal

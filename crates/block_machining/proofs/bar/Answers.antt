@@ -1,10 +1,5 @@
-use Rattle.std.proofs.Common.{◌≡◌, ◌≢◌, ℕ, ℤ, pos, ◌+ℤ◌, refl, sym, ap, subst, ◌∙◌, arith}
-use Rattle.sweeps.specs.Measure.{six_volume}
-use Rattle.sweeps.specs.PlainMachine.{held}
-use Rattle.euler_operators.specs.Common.{Has, Model, solid_of}
+use Rattle.block_machining.proofs.Prelude.{◌≡◌, ◌≢◌, ℕ, ℤ, pos, ◌+ℤ◌, refl, sym, ap, subst, ◌∙◌, arith, six_volume, held, Has, Model, solid_of, AreLeft, taken_in, bar, far_side, near_side}
 use Rattle.gluing.specs.Machine.{glue, glue_refusal}
-use Rattle.shapes.specs.Common.{AreLeft, taken_in}
-use Rattle.block_machining.specs.Machines.{bar, far_side, near_side}
 use Rattle.block_machining.proofs.Known.{for_no_reason}
 use Rattle.block_machining.proofs.Computed.{bar_there, three_blocks_left}
 use Rattle.block_machining.proofs.bar.Goals as goal

@@ -1,8 +1,4 @@
-use Rattle.std.proofs.Common.{◌≡◌, ap, sym, subst, ◌∙◌, refl, rules}
-use Rattle.euler_operators.specs.Common.{Has}
-use Rattle.sweeps.specs.Measure.{six_volume}
-use Rattle.sweeps.specs.PlainMachine.{held, undo}
-use Rattle.block_machining.specs.Machines.{bar, joined_again, parted}
+use Rattle.block_machining.proofs.Prelude.{◌≡◌, ap, sym, subst, ◌∙◌, refl, rules, Has, six_volume, held, undo, bar, joined_again, parted}
 use Rattle.block_machining.proofs.Computed.{bar_there, bar_whole, undo_is_open}
 use Rattle.block_machining.proofs.joined_again.Goals as goal
 

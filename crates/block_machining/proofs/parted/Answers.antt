@@ -1,8 +1,4 @@
-use Rattle.std.proofs.Common.{sym, ap, subst, ◌∙◌, arith}
-use Rattle.plane_split.specs.Machine.{split, split_refusal}
-use Rattle.sweeps.specs.Measure.{six_volume}
-use Rattle.sweeps.specs.PlainMachine.{held}
-use Rattle.block_machining.specs.Machines.{HasSolids, cut_plane, parted}
+use Rattle.block_machining.proofs.Prelude.{sym, ap, subst, ◌∙◌, arith, split, split_refusal, six_volume, held, HasSolids, cut_plane, parted}
 use Rattle.block_machining.proofs.Known.{never_refused}
 use Rattle.block_machining.proofs.Computed.{cut_accepted, far_is, near_is, parted_there}
 use Rattle.block_machining.proofs.parted.Goals as goal

@@ -1,9 +1,4 @@
-use Rattle.std.proofs.Common.{◌+◌, pos, refl, ap, subst, ◌∙◌, arith}
-use Rattle.sweeps.specs.Machine.{block, block_refusal}
-use Rattle.sweeps.specs.PlainMachine.{held}
-use Rattle.euler_operators.specs.Common.{origin}
-use Rattle.command_laws.specs.NewFaces.{IsFaceOf, last_face}
-use Rattle.block_machining.specs.Machines.{alone, near_side, standing}
+use Rattle.block_machining.proofs.Prelude.{◌+◌, pos, refl, ap, subst, ◌∙◌, arith, block, block_refusal, held, origin, IsFaceOf, last_face, alone, near_side, standing}
 use Rattle.block_machining.proofs.Known.{never_refused}
 use Rattle.block_machining.proofs.Computed.{alone_free, alone_last, alone_left}
 use Rattle.block_machining.proofs.standing.Goals as goal

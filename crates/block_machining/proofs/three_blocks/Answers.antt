@@ -1,8 +1,4 @@
-use Rattle.std.proofs.Common.{◌+◌, pos, refl, ap, sym, subst, ◌∙◌, arith}
-use Rattle.sweeps.specs.Machine.{block, block_refusal}
-use Rattle.sweeps.specs.PlainMachine.{held}
-use Rattle.command_laws.specs.NewFaces.{IsFaceOf, last_face}
-use Rattle.block_machining.specs.Machines.{HasSolids, at, far_side, near_side, three_blocks, standing}
+use Rattle.block_machining.proofs.Prelude.{◌+◌, pos, refl, ap, sym, subst, ◌∙◌, arith, block, block_refusal, held, IsFaceOf, last_face, HasSolids, at, far_side, near_side, three_blocks, standing}
 use Rattle.block_machining.proofs.Known.{never_refused}
 use Rattle.block_machining.proofs.Computed.{three_blocks_there, standing_free, standing_last, standing_left}
 use Rattle.block_machining.proofs.three_blocks.Goals as goal

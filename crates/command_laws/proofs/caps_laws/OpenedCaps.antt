@@ -1,28 +1,8 @@
 -- The caps once a solid is opened along all cycles of its section: their corners and their normals.
-use Rattle.std.proofs.Common.{◌≡◌, ℕ, zero, suc, ◌+◌, ◌<◌, true, List, [], ◌∷◌, ◌++◌, length, map, get_or, refl, sym, ap, subst, ◌∙◌, arith, ◌≢◌, ◌≤◌, ℤ, ◌+ℤ◌, Bool, false, cond, nat_eq, pos, int_lt, filter, append_assoc, append-nil, eq-eqb, ne_eqb}
-use Rattle.std.proofs.lemmas.Int.{ints}
-use Rattle.std.proofs.lemmas.List.{map-append}
-use Rattle.std.proofs.lemmas.Bool.Decides.{eqb_tells}
-use Rattle.euler_operators.specs.Common.{Plane, Point, IsIn, count, direction, dot, is_on, moved, origin, Model, content, face_of, outer, point_of, Has, edge_of, mate, kfmrh}
-use Rattle.euler_operators.proofs.Common.{from_map, tick_same, mate_there, none_moved}
-use Rattle.shapes.specs.Common.{vertices_on, Taken, normal, negated, is_hole, Caps, Opening, all_opened, no_caps, opened_along, holes_closed, outer_caps}
-use Rattle.shapes.proofs.Common.{area_mates, moved_back}
-use Rattle.split_opening_laws.specs.sections.Capped.{ArePlain, HasCaps, IsPlain, cap_faces}
-use Rattle.split_opening_laws.specs.sections.InTurn.{CanBeOpenedInTurn}
-use Rattle.split_opening_laws.specs.strips.Opened.{CanBeOpened}
-use Rattle.split_opening_laws.specs.cycles.SectionCycles.{AreSectionCycles}
-use Rattle.split_opening_laws.proofs.sections.InTurn.{can_open, capped_carry, new_caps}
-use Rattle.split_laws.specs.opened.Told.{LiesAlong}
+use Rattle.command_laws.proofs.Prelude.{◌≡◌, ℕ, zero, suc, ◌+◌, ◌<◌, true, List, [], ◌∷◌, ◌++◌, length, map, get_or, refl, sym, ap, subst, ◌∙◌, arith, ◌≢◌, ◌≤◌, ℤ, ◌+ℤ◌, Bool, false, cond, nat_eq, pos, int_lt, filter, append_assoc, append-nil, eq-eqb, ne_eqb, ints, map-append, eqb_tells, Plane, Point, IsIn, count, direction, dot, is_on, moved, origin, Model, content, face_of, outer, point_of, Has, edge_of, mate, kfmrh, from_map, tick_same, mate_there, none_moved, vertices_on, Taken, normal, negated, is_hole, Caps, Opening, all_opened, no_caps, opened_along, holes_closed, outer_caps, area_mates, moved_back, ArePlain, HasCaps, IsPlain, cap_faces, CanBeOpenedInTurn, CanBeOpened, AreSectionCycles, can_open, capped_carry, new_caps, LiesAlong, lower_normal, upper_normal, area_kept, is_rewritten, swap, finish_old, start_old, ClearOf, closing, closing_leads, CanTake, IsOfEach, each_last, area_below, sum_of}
 use Rattle.split_laws.specs.volumes.Closing.{CanClose}
-use Rattle.split_laws.proofs.opened.Caps.{lower_normal, upper_normal, area_kept}
 use Rattle.split_laws.proofs.opened.Kept as kept
-use Rattle.split_laws.proofs.opened.InTurn.{is_rewritten}
-use Rattle.split_laws.proofs.opened.Starts.{swap, finish_old, start_old}
-use Rattle.split_laws.proofs.volumes.Closed.{ClearOf, closing, closing_leads}
 use Rattle.split_laws.proofs.volumes.Taken as taken
-use Rattle.split_laws.proofs.volumes.Taken.{CanTake}
-use Rattle.split_laws.proofs.Holes.{IsOfEach, each_last}
-use Rattle.command_laws.specs.Capped.{area_below, sum_of}
 
 -- ---- normals
 

@@ -1,27 +1,9 @@
 -- The caps once the holes are closed and the upper faces parted from the solid.
-use Rattle.std.proofs.Common.{◌≡◌, ◌≢◌, ℕ, zero, suc, ◌+◌, ◌<◌, ◌≤◌, Bool, true, false, cond, List, [], ◌∷◌, length, map, get_or, Some, is_some, refl, sym, ap, subst, ◌∙◌, arith, true≢false, filter, pos, int_lt, option_map}
-use Rattle.std.proofs.lemmas.Bool.Decides.{eqb_tells}
-use Rattle.std.proofs.lemmas.Bool.{false_from_ne_true}
-use Rattle.euler_operators.specs.Common.{Plane, Point, count, tick, cross, direction, dot, is_on, moved, origin, Model, FaceRow, LoopContent, content, cycle, face_of, lone, outer, point_of, solid_of, tail, Sound, Has, lists, kfmrh, part}
+use Rattle.command_laws.proofs.Prelude.{◌≡◌, ◌≢◌, ℕ, zero, suc, ◌+◌, ◌<◌, ◌≤◌, Bool, true, false, cond, List, [], ◌∷◌, length, map, get_or, Some, is_some, refl, sym, ap, subst, ◌∙◌, arith, true≢false, filter, pos, int_lt, option_map, eqb_tells, false_from_ne_true, Plane, Point, count, tick, cross, direction, dot, is_on, moved, origin, Model, FaceRow, LoopContent, content, cycle, face_of, lone, outer, point_of, solid_of, tail, Sound, Has, lists, kfmrh, part, tick_same, none_moved, same_solid, solid_row, IsIn-from_listed, listed-from_in, face_there, solid_either, corners, loops_of, vertices_in, vertices_on, normal, negated, Drawing, below_halves, holes_in, is_hole, section_cycles, Caps, Opening, holes_closed, no_caps, outer_caps, opened_at, cross_moved, face_of_loop, on_one, IsPlain, cap_faces, ArePlain, upper_faces, hole_ops, AllLieAlong, LiesAlong, CanBeSplit, one_outer, AreClosed, AreLevel, holes_counted, each_at, holes_each, level_each, plain_each, closing, closing_carries, CanTake, along_each, IsCapOf, area_below, sum_of}
 use Rattle.euler_operators.specs.Table as table
-use Rattle.euler_operators.proofs.Common.{tick_same, none_moved, same_solid, solid_row}
-use Rattle.euler_laws.proofs.Common.{IsIn-from_listed, listed-from_in, face_there, solid_either}
-use Rattle.shapes.specs.Common.{corners, loops_of, vertices_in, vertices_on, normal, negated, Drawing, below_halves, holes_in, is_hole, section_cycles, Caps, Opening, holes_closed, no_caps, outer_caps, opened_at}
-use Rattle.shapes.proofs.Common.{cross_moved, face_of_loop, on_one}
-use Rattle.split_opening_laws.specs.sections.Capped.{IsPlain, cap_faces, ArePlain}
-use Rattle.split_opening_laws.specs.sections.InTurn.{upper_faces}
-use Rattle.split_laws.specs.SplitOps.{hole_ops}
-use Rattle.split_laws.specs.opened.Told.{AllLieAlong, LiesAlong}
-use Rattle.split_laws.specs.volumes.Laws.{CanBeSplit}
 use Rattle.split_laws.proofs.Whole as after_closing
-use Rattle.split_laws.proofs.Flags.{one_outer}
-use Rattle.split_laws.proofs.Holes.{AreClosed, AreLevel, holes_counted, each_at, holes_each, level_each, plain_each}
-use Rattle.split_laws.proofs.volumes.Closed.{closing, closing_carries}
 use Rattle.split_laws.proofs.volumes.Split as split
 use Rattle.split_laws.proofs.volumes.Taken as taken
-use Rattle.split_laws.proofs.volumes.Taken.{CanTake}
-use Rattle.split_laws.proofs.opened.InTurn.{along_each}
-use Rattle.command_laws.specs.Capped.{IsCapOf, area_below, sum_of}
 use Rattle.command_laws.proofs.caps_laws.OpenedCaps.{both_opposite, both_take, closed_normal, taken_by, lowers, normals_are, outer_is, told_at, told_filtered, uppers, AllFaceApart, LiesOn, caps_apart, outer_on, plain_lies, FacesApart, apart_each}
 
 -- ---- a cap becomes a ring of another

@@ -1,11 +1,7 @@
 -- The caps of a whole split.
-use Rattle.std.proofs.Common.{◌≡◌, [], false, get_or, map, sym, subst, int_lt, pos}
+use Rattle.command_laws.proofs.Prelude.{◌≡◌, [], false, get_or, map, sym, subst, int_lt, pos, direction, dot, moved, normal, negated, holes_in, is_hole, faces_above, with_drawings, held, IsCapOf, area_below, cap, cycles_of, sum_of}
 use Rattle.euler_operators.specs.Table as table
-use Rattle.euler_operators.specs.Common.{direction, dot, moved}
-use Rattle.shapes.specs.Common.{normal, negated, holes_in, is_hole, faces_above, with_drawings}
 use Rattle.command_laws.specs.Caps.{CapsFaceApart, CapsHaveNormals, CapsStand, HolesAreClosed}
-use Rattle.undo_journal.specs.Machine.{held}
-use Rattle.command_laws.specs.Capped.{IsCapOf, area_below, cap, cycles_of, sum_of}
 use Rattle.command_laws.proofs.caps_laws.PartCaps.{both_caps, both_gone, faces_apart, normals_told}
 use Rattle.command_laws.proofs.splits_laws.Whole.{after_is, after_sound, can}
 

@@ -1,21 +1,9 @@
 -- Once the edges that cross a plane are cut, each half-edge leads along one that was there, between pieces of the faces that met there.
-use Rattle.std.proofs.Common.{◌≡◌, ◌≢◌, ◌⊎◌, ℕ, ◌+◌, ℤ, pos, ◌+ℤ◌, ◌-ℤ◌, ◌*ℤ◌, unsigned_abs, true, List, [], ◌∷◌, flat_map, is_some, sym, ap, subst, ◌∙◌, arith, inl, inr}
-use Rattle.std.proofs.lemmas.Bool.Decides.{eqb_tells, nat_tests}
-use Rattle.std.proofs.lemmas.Int.{ints}
-use Rattle.euler_operators.specs.Common.{Plane, Point, edge_of, height, holds, opposite, IsIn, mate, plus, minus, Model, LoopContent, content, items_of, face_at, face_of, loop_of, point_of, tail, Sound, Has, HasHalf}
+use Rattle.command_laws.proofs.Prelude.{◌≡◌, ◌≢◌, ◌⊎◌, ℕ, ◌+◌, ℤ, pos, ◌+ℤ◌, ◌-ℤ◌, ◌*ℤ◌, unsigned_abs, true, List, [], ◌∷◌, flat_map, is_some, sym, ap, subst, ◌∙◌, arith, inl, inr, eqb_tells, nat_tests, ints, Plane, Point, edge_of, height, holds, opposite, IsIn, mate, plus, minus, Model, LoopContent, content, items_of, face_at, face_of, loop_of, point_of, tail, Sound, Has, HasHalf, count-append, count-canonical, cycle_there, dif-parts, difs, edge_of-mate, in-holds, IsIn_head, IsIn_or_not, IsIn_rest, mate-mate, mate_plus, minus_row, minus_there, plus_row, plus_there, same_dif, same_vector, tick_other, tick_same, content-new, halves_of_edge, Growing, growing, all_cut, crossing_edges, finish, next_cut, rewritten, scaled, start, towards, with_crossings, Kept, CanBegin, doubled, edge_cut, edge_facts, AreCut, Going, cut_at, crossing_now, goes_now, going_on, kept_point, kept_start, next_model, same_cut, same_start, uncut_now, LeadsAlong}
 use Rattle.euler_operators.specs.Table as table
-use Rattle.euler_operators.proofs.Common.{count-append, count-canonical, cycle_there, dif-parts, difs, edge_of-mate, in-holds, IsIn_head, IsIn_or_not, IsIn_rest, mate-mate, mate_plus, minus_row, minus_there, plus_row, plus_there, same_dif, same_vector, tick_other, tick_same}
-use Rattle.euler_laws.proofs.Common.{content-new, halves_of_edge}
-use Rattle.shapes.specs.Common.{Growing, growing, all_cut, crossing_edges, finish, next_cut, rewritten, scaled, start, towards, with_crossings}
 use Rattle.solid_measure_laws.proofs.Cuts.{cut_divides}
-use Rattle.split_drawing_laws.specs.crossings.Kept.{Kept}
-use Rattle.split_drawing_laws.specs.crossings.Laws.{CanBegin}
-use Rattle.split_drawing_laws.proofs.crossings.OneCut.{doubled, edge_cut}
-use Rattle.split_drawing_laws.proofs.crossings.Premises.{edge_facts}
-use Rattle.split_drawing_laws.proofs.crossings.Runs.{AreCut, Going, cut_at, crossing_now, goes_now, going_on, kept_point, kept_start, next_model, same_cut, same_start, uncut_now}
 use Rattle.split_drawing_laws.proofs.crossings.Steps.{CutGoes, cut_keeps, cut_sound, edge_other, point_new, rewrites, tail_new, tail_other}
 use Rattle.split_drawing_laws.proofs.crossings.Whole as cuts
-use Rattle.command_laws.specs.SplitEdges.{LeadsAlong}
 
 -- ---- half-edges that lead along others
 

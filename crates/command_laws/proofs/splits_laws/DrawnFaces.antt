@@ -1,26 +1,8 @@
 -- The faces that come while those that straddle the plane are drawn: each lies on the planes of one of these.
-use Rattle.std.proofs.Common.{◌≡◌, ℕ, ◌+◌, Bool, true, false, ◌&&◌, List, [], ◌∷◌, None, fold, map, refl, sym, ap, subst, ◌∙◌, ◌⊎◌, inl, inr, arith}
-use Rattle.std.proofs.lemmas.Bool.Decides.{eqb_tells}
-use Rattle.euler_operators.specs.Common.{IsIn, Plane, Model, Sound, Has, HasHalf, face_at}
+use Rattle.command_laws.proofs.Prelude.{◌≡◌, ℕ, ◌+◌, Bool, true, false, ◌&&◌, List, [], ◌∷◌, None, fold, map, refl, sym, ap, subst, ◌∙◌, ◌⊎◌, inl, inr, arith, eqb_tells, IsIn, Plane, Model, Sound, Has, HasHalf, face_at, no_row, tick_same, half_face, Drawing, FacePairs, corners, faces_drawn, is_plane_of, next_drawn, plane_of, straddling_faces, straddling_pairs, undrawn, with_crossings, with_drawings, DrawnIn, pairs_in, Drawable, CanBegin, face_facts, crossings_measured, solid_stays, faces_are, face_goes, drawable, drawable_on, drawing_sound, next_is, ready, LiesFlat, Within, face_within, lies_flat, never_free, can_be_drawn}
 use Rattle.euler_operators.specs.Table as table
-use Rattle.euler_operators.proofs.Common.{no_row, tick_same}
-use Rattle.euler_laws.proofs.Common.{half_face}
-use Rattle.shapes.specs.Common.{Drawing, FacePairs, corners, faces_drawn, is_plane_of, next_drawn, plane_of, straddling_faces, straddling_pairs, undrawn, with_crossings, with_drawings}
-use Rattle.split_drawing_laws.specs.drawings.DrawnIn.{DrawnIn}
-use Rattle.split_drawing_laws.specs.drawings.Pairs.{pairs_in}
-use Rattle.split_drawing_laws.specs.drawings.Passing.{Drawable}
-use Rattle.split_drawing_laws.specs.crossings.Laws.{CanBegin}
-use Rattle.split_drawing_laws.proofs.crossings.Premises.{face_facts}
-use Rattle.split_drawing_laws.proofs.cut_volumes.CutWhole.{crossings_measured}
-use Rattle.split_drawing_laws.proofs.cut_volumes.Told.{solid_stays}
-use Rattle.split_drawing_laws.proofs.drawings.Counted.{faces_are}
-use Rattle.split_drawing_laws.proofs.drawings.Faces.{face_goes}
-use Rattle.split_drawing_laws.proofs.drawings.Whole.{drawable, drawable_on, drawing_sound, next_is, ready}
 use Rattle.split_drawing_laws.proofs.drawn_volumes.Bounds.{OnFace, face_on}
-use Rattle.split_drawing_laws.proofs.drawn_volumes.DrawWhole.{LiesFlat, Within, face_within, lies_flat}
 use Rattle.split_drawing_laws.proofs.drawn_volumes.Volumes.{IsPlane}
-use Rattle.split_drawing_laws.proofs.face_sides.Beside.{never_free}
-use Rattle.split_drawing_laws.proofs.pairs.Whole.{can_be_drawn}
 
 -- face g of X lies on the planes of one of the faces fs of B
 pub record Comes (B X : Model) (fs : List ℕ) (g : ℕ) : Type 0 where

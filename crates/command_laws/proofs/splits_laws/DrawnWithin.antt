@@ -1,26 +1,7 @@
 -- Edges cut and faces drawn within a solid: other solids stay as they were.
-use Rattle.std.proofs.Common.{◌≡◌, ◌≢◌, ℕ, ◌+◌, false, List, [], ◌∷◌, Some, refl, sym, ap, subst, ◌∙◌, arith, inl, inr, flat_map, fold, option_map, eqb-true}
-use Rattle.std.proofs.lemmas.Bool.{eqb-false, false_from_ne_true}
-use Rattle.euler_operators.specs.Common.{Plane, count, IsIn, canonical, edge_of, minus, plus, get-map_rows, Model, LoopContent, LoopRow, content, cycle, face_of, items_of, lone, solid_of, tail, Sound, Has, HasHalf, face_at, lists, edge_row, ring_in}
+use Rattle.command_laws.proofs.Prelude.{◌≡◌, ◌≢◌, ℕ, ◌+◌, false, List, [], ◌∷◌, Some, refl, sym, ap, subst, ◌∙◌, arith, inl, inr, flat_map, fold, option_map, eqb-true, eqb-false, false_from_ne_true, Plane, count, IsIn, canonical, edge_of, minus, plus, get-map_rows, Model, LoopContent, LoopRow, content, cycle, face_of, items_of, lone, solid_of, tail, Sound, Has, HasHalf, face_at, lists, edge_row, ring_in, mate_plus, plus_row, IsIn_or_not, IsIn_rest, count-filter, in-holds, plus_there, same_solid, IsIn_head, all_where_has, IsIn-from_listed, edge_there, loop_row, half_face, Growing, growing, rewritten, rewritten_row, crossing_edges, straddling_faces, all_cut, next_cut, with_crossings, Drawing, FacePairs, all_pairs, drawn_between, next_drawn, straddling_pairs, undrawn, with_drawings, Kept, CanBegin, Stays, DrawnIn, Fits, pairs_in, Drawable, Ready, doubled_none, doubled, cut_rows, Going, cut_at, goes_now, going_on, next_model, crossings_keep, crossings_sound, tails_stay, face_facts, CanJoin, CanDraw, face_drawn, loops_joined, face_goes, between_keeps, drawable, drawable_on, next_is, ready, RingOf, Newer, moved_drawn, can_be_drawn}
 use Rattle.euler_operators.specs.Table as table
-use Rattle.euler_operators.proofs.Common.{mate_plus, plus_row, IsIn_or_not, IsIn_rest, count-filter, in-holds, plus_there, same_solid, IsIn_head}
-use Rattle.euler_laws.proofs.Common.{all_where_has, IsIn-from_listed, edge_there, loop_row, half_face}
-use Rattle.shapes.specs.Common.{Growing, growing, rewritten, rewritten_row, crossing_edges, straddling_faces, all_cut, next_cut, with_crossings, Drawing, FacePairs, all_pairs, drawn_between, next_drawn, straddling_pairs, undrawn, with_drawings}
-use Rattle.split_drawing_laws.specs.crossings.Kept.{Kept}
-use Rattle.split_drawing_laws.specs.crossings.Laws.{CanBegin}
-use Rattle.split_drawing_laws.specs.drawings.DrawnIn.{Stays, DrawnIn}
-use Rattle.split_drawing_laws.specs.drawings.Pairs.{Fits, pairs_in}
-use Rattle.split_drawing_laws.specs.drawings.Passing.{Drawable, Ready}
-use Rattle.split_drawing_laws.proofs.crossings.OneCut.{doubled_none, doubled, cut_rows}
-use Rattle.split_drawing_laws.proofs.crossings.Runs.{Going, cut_at, goes_now, going_on, next_model}
 use Rattle.split_drawing_laws.proofs.crossings.Whole as cuts
-use Rattle.split_drawing_laws.proofs.crossings.Whole.{crossings_keep, crossings_sound, tails_stay}
-use Rattle.split_drawing_laws.proofs.crossings.Premises.{face_facts}
-use Rattle.split_drawing_laws.proofs.drawings.Drawn.{CanJoin, CanDraw, face_drawn, loops_joined}
-use Rattle.split_drawing_laws.proofs.drawings.Faces.{face_goes, between_keeps}
-use Rattle.split_drawing_laws.proofs.drawings.Whole.{drawable, drawable_on, next_is, ready}
-use Rattle.split_drawing_laws.proofs.drawings.Rings.{RingOf, Newer, moved_drawn}
-use Rattle.split_drawing_laws.proofs.pairs.Whole.{can_be_drawn}
 use Rattle.command_laws.proofs.Owners.{agree_none, agree_on, is_of, solid_of_edge, solid_of_half, solid_of_loop}
 use Rattle.command_laws.proofs.Inner.{AgreeBut}
 use Rattle.command_laws.proofs.splits_laws.Steps.{draw_within, face_in, half_in, join_within, own_edge, ring_within}

@@ -1,29 +1,8 @@
 -- Opening a solid makes no lines: each half-edge starts and ends where one did before. So each half-edge of the parts of a split lies on its plane, or
 -- leads along one of the solid that was split.
-use Rattle.std.proofs.Common.{◌≡◌, ◌⊎◌, ℕ, zero, suc, ◌+◌, ◌<◌, pos, Bool, true, List, [], map, filter, get_or, length, refl, sym, ap, subst, ◌∙◌, arith, inl, inr, true≢false, eq-eqb, eqb-true}
-use Rattle.std.proofs.lemmas.Bool.Decides.{eqb_tells, nat_tests}
-use Rattle.euler_operators.specs.Common.{Plane, IsIn, edge_of, is_on, mate, plus, minus, Model, face_at, point_of, solid_of, tail, Sound, HasHalf, part}
+use Rattle.command_laws.proofs.Prelude.{◌≡◌, ◌⊎◌, ℕ, zero, suc, ◌+◌, ◌<◌, pos, Bool, true, List, [], map, filter, get_or, length, refl, sym, ap, subst, ◌∙◌, arith, inl, inr, true≢false, eq-eqb, eqb-true, eqb_tells, nat_tests, Plane, IsIn, edge_of, is_on, mate, plus, minus, Model, face_at, point_of, solid_of, tail, Sound, HasHalf, part, edge_of-mate, IsIn-get_or, mate-mate, mate_minus, mate_plus, mate_there, tick_other, halves_of_edge, listed_front, Drawing, Opening, Taken, below_halves, faces_above, finish, holes_closed, numbers_after, opened_along, opened_at, outer_caps, scaled, section_cycles, start, towards, with_crossings, with_drawings, CanBegin, crossings_measured, solid_stays, start_stays, upper_faces, CanBeOpened, IsBelowHalf, opened_sound, can_open, openings_carry, half_cases, begins, back_along, finish_old, start_old, Machine, held, IsSplit, EndsOn, LeadsAlong, LeadsAlongSolid, SplitsMakeNoLines, IsOfEither}
 use Rattle.euler_operators.specs.Table as table
-use Rattle.euler_operators.proofs.Common.{edge_of-mate, IsIn-get_or, mate-mate, mate_minus, mate_plus, mate_there, tick_other}
-use Rattle.euler_laws.proofs.Common.{halves_of_edge, listed_front}
-use Rattle.shapes.specs.Common.{Drawing, Opening, Taken, below_halves, faces_above, finish, holes_closed, numbers_after, opened_along, opened_at, outer_caps, scaled, section_cycles, start, towards, with_crossings, with_drawings}
-use Rattle.split_drawing_laws.specs.crossings.Laws.{CanBegin}
-use Rattle.split_drawing_laws.proofs.cut_volumes.CutWhole.{crossings_measured}
-use Rattle.split_drawing_laws.proofs.cut_volumes.Told.{solid_stays}
-use Rattle.split_drawing_laws.proofs.drawings.Stays.{start_stays}
-use Rattle.split_opening_laws.specs.sections.InTurn.{upper_faces}
-use Rattle.split_opening_laws.specs.strips.Opened.{CanBeOpened}
-use Rattle.split_opening_laws.specs.cycles.SectionCycles.{IsBelowHalf}
-use Rattle.split_opening_laws.proofs.opening.Whole.{opened_sound}
-use Rattle.split_opening_laws.proofs.sections.InTurn.{can_open, openings_carry}
-use Rattle.split_opening_laws.proofs.sections.OpenedRows.{half_cases}
-use Rattle.split_laws.proofs.drawn.Drawn.{begins}
 use Rattle.split_laws.proofs.volumes.Split as split
-use Rattle.split_laws.proofs.opened.Starts.{back_along, finish_old, start_old}
-use Rattle.undo_journal.specs.Machine.{Machine, held}
-use Rattle.plane_split.specs.SplitModels.{IsSplit}
-use Rattle.command_laws.specs.SplitEdges.{EndsOn, LeadsAlong, LeadsAlongSolid, SplitsMakeNoLines}
-use Rattle.command_laws.specs.Splits.{IsOfEither}
 use Rattle.command_laws.proofs.splits_laws.Along.{half_comes}
 use Rattle.command_laws.proofs.splits_laws.NewEdges.{IsDrawnOn, drawings_on}
 use Rattle.command_laws.proofs.Inner.{AgreeBut}

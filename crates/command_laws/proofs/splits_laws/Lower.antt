@@ -1,35 +1,11 @@
 -- A face that straddles the plane keeps its number below it: of each pair of places between which it is drawn the second goes down, and the
 -- half-edge that starts there stays in the face.
-use Rattle.std.proofs.Common.{◌≡◌, ◌≢◌, ℕ, ◌+◌, Bool, true, false, ◌&&◌, ◌||◌, nat_eq, nat_lt, None, List, [], ◌∷◌, ◌++◌, length, fold, map, refl, sym, ap, subst, ◌∙◌, true≢false, inl, inr, arith}
-use Rattle.std.proofs.lemmas.Bool.Decides.{eqb_tells, nat_tests}
-use Rattle.euler_operators.specs.Common.{IsIn, Plane, count, are_opposite, is_above, is_below, is_on, mate, Model, after, content, face_of, has_rings, items_of, loop_of, outer, point_of, tail, Sound, Has, HasHalf, face_at}
-use Rattle.euler_operators.proofs.Common.{cycle_there, loop_there, mate_there, same_outer, tick_other, tick_same}
-use Rattle.euler_laws.proofs.Common.{back_of, half_after, loop_after}
+use Rattle.command_laws.proofs.Prelude.{◌≡◌, ◌≢◌, ℕ, ◌+◌, Bool, true, false, ◌&&◌, ◌||◌, nat_eq, nat_lt, None, List, [], ◌∷◌, ◌++◌, length, fold, map, refl, sym, ap, subst, ◌∙◌, true≢false, inl, inr, arith, eqb_tells, nat_tests, IsIn, Plane, count, are_opposite, is_above, is_below, is_on, mate, Model, after, content, face_of, has_rings, items_of, loop_of, outer, point_of, tail, Sound, Has, HasHalf, face_at, cycle_there, loop_there, mate_there, same_outer, tick_other, tick_same, back_of, half_after, loop_after, Drawing, FacePairs, all_drawn, all_joined, all_pairs, corners, drawn_between, drawn_pairs, finish, next_drawn, reaches_above, reaches_below, ring_free, rings_above, some_above, split_refusal, start, straddling_faces, straddling_pairs, undrawn, vertices_on, with_crossings, with_drawings, with_rings, CanBegin, AllFit, FacesFit, Fits, pairs_in, Drawable, Ready, side_of, ends, any_passes, face_facts, faces_not_zero, tail_in_face, crossings_keep, crossings_sound, faces_are, CanDraw, face_drawn, begun_joining, can_alone, drawn_is, fitting_on, going, joins, last, newer_face, can_now, draws_keep, joins_keep, face_else, place_is, ring_goes, ring_stays, rings_apart, rings_are, rings_keep, draw_beside, draw_stays, start_stays, drawable, drawable_on, next_is, ready, pairs_of, sided_first, k_stays, old_loop_face, outer_kept, AllUp, pairs_up, place_of_end, place_on, side_within, on_both, can_be_drawn, begins, drawn_sound, drawn_stays, never_stuck}
 use Rattle.euler_laws.proofs.faces.RingIn as moving
-use Rattle.shapes.specs.Common.{Drawing, FacePairs, all_drawn, all_joined, all_pairs, corners, drawn_between, drawn_pairs, finish, next_drawn, reaches_above, reaches_below, ring_free, rings_above, some_above, split_refusal, start, straddling_faces, straddling_pairs, undrawn, vertices_on, with_crossings, with_drawings, with_rings}
-use Rattle.split_drawing_laws.specs.crossings.Laws.{CanBegin}
-use Rattle.split_drawing_laws.specs.drawings.Pairs.{AllFit, FacesFit, Fits, pairs_in}
-use Rattle.split_drawing_laws.specs.drawings.Passing.{Drawable, Ready}
-use Rattle.split_drawing_laws.specs.half_sides.HalfSides.{side_of}
-use Rattle.split_drawing_laws.specs.loop_sides.Parted.{ends}
-use Rattle.split_drawing_laws.proofs.crossings.Premises.{any_passes, face_facts, faces_not_zero, tail_in_face}
-use Rattle.split_drawing_laws.proofs.crossings.Whole.{crossings_keep, crossings_sound}
-use Rattle.split_drawing_laws.proofs.drawings.Counted.{faces_are}
-use Rattle.split_drawing_laws.proofs.drawings.Drawn.{CanDraw, face_drawn}
-use Rattle.split_drawing_laws.proofs.drawings.Faces.{begun_joining, can_alone, drawn_is, fitting_on, going, going_on, joins, last, newer_face}
-use Rattle.split_drawing_laws.proofs.drawings.Passes.{can_now, draws_keep, joins_keep}
-use Rattle.split_drawing_laws.proofs.drawings.Rings.{face_else, place_is, ring_goes, ring_stays, rings_apart, rings_are, rings_keep}
-use Rattle.split_drawing_laws.proofs.drawings.Stays.{draw_beside, draw_stays, start_stays}
-use Rattle.split_drawing_laws.proofs.drawings.Whole.{drawable, drawable_on, next_is, ready}
-use Rattle.split_drawing_laws.proofs.face_sides.Begun.{pairs_of, sided_first}
-use Rattle.split_drawing_laws.proofs.face_sides.Beside.{k_stays, old_loop_face, outer_kept}
+use Rattle.split_drawing_laws.proofs.drawings.Faces.{going_on}
 use Rattle.split_drawing_laws.proofs.face_sides.OneFace.{AllPairsOf, Stage, Untouched, loop_back, stage_on}
-use Rattle.split_drawing_laws.proofs.half_sides.PlaceEnds.{AllUp, pairs_up, place_of_end, place_on, side_within}
 use Rattle.split_drawing_laws.proofs.half_sides.Starts.{turn_at}
-use Rattle.split_drawing_laws.proofs.loop_sides.Parting.{on_both}
 use Rattle.split_drawing_laws.proofs.loop_sides.SidesWhole.{not_stuck}
-use Rattle.split_drawing_laws.proofs.pairs.Whole.{can_be_drawn}
-use Rattle.split_laws.proofs.drawn.Drawn.{begins, drawn_sound, drawn_stays, never_stuck}
 use Rattle.command_laws.proofs.splits_laws.DrawnFaces.{drawn_one}
 
 -- the second half-edge of each pair is low

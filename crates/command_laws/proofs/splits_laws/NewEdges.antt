@@ -1,24 +1,8 @@
 -- The edges that are drawn in the faces that straddle a plane lie on the plane.
-use Rattle.std.proofs.Common.{◌≡◌, ◌⊎◌, ℕ, ◌+◌, Bool, true, false, cond, nat_eq, nat_lt, ◌&&◌, List, [], ◌∷◌, length, fold, None, IsTrue, refl, sym, ap, subst, ◌∙◌, inl, inr, eqb-true}
-use Rattle.euler_operators.specs.Common.{Plane, is_on, is_number, is_ring_of, plus, minus, Model, face_at, has_rings, loop_of, point_of, tail, effect, ring_in, Sound, HasHalf}
+use Rattle.command_laws.proofs.Prelude.{◌≡◌, ◌⊎◌, ℕ, ◌+◌, Bool, true, false, cond, nat_eq, nat_lt, ◌&&◌, List, [], ◌∷◌, length, fold, None, IsTrue, refl, sym, ap, subst, ◌∙◌, inl, inr, eqb-true, Plane, is_on, is_number, is_ring_of, plus, minus, Model, face_at, has_rings, loop_of, point_of, tail, effect, ring_in, Sound, HasHalf, Drawing, FacePairs, all_drawn, all_joined, draw_next, drawn_between, in_one_loop, join_edge, join_next, join_pair, next_drawn, ring_free, rings_above, start, straddling_pairs, stuck_at, undrawn, with_crossings, with_drawings, with_rings, CanBegin, DrawnIn, JoinedIn, Stays, AllFit, Fits, Drawable, Joining, Ready, side_of, AllCross, Crosses, FacesCross, CanDraw, CanJoin, face_drawn, loops_joined, above_apart, are_rings, begun_joining, fitting, going_free, last, newer_face, all_of_last, can_now, draws_keep, edge_fits_now, edge_free, joins_keep, Newer, RingOf, ring_back, ring_goes, ring_stays, rings_keep, draw_stays, draw_tails, join_stays, join_tails, start_stays, stays_on, drawable, drawable_on, next_is, ready, take_sides, halves_drawn, halves_joined, can_be_drawn}
 use Rattle.euler_operators.specs.Table as table
-use Rattle.shapes.specs.Common.{Drawing, FacePairs, all_drawn, all_joined, draw_next, drawn_between, in_one_loop, join_edge, join_next, join_pair, next_drawn, ring_free, rings_above, start, straddling_pairs, stuck_at, undrawn, with_crossings, with_drawings, with_rings}
-use Rattle.split_drawing_laws.specs.crossings.Laws.{CanBegin}
-use Rattle.split_drawing_laws.specs.drawings.DrawnIn.{DrawnIn, JoinedIn, Stays}
-use Rattle.split_drawing_laws.specs.drawings.Pairs.{AllFit, Fits}
-use Rattle.split_drawing_laws.specs.drawings.Passing.{Drawable, Going, Joining, Ready}
-use Rattle.split_drawing_laws.specs.half_sides.HalfSides.{side_of}
-use Rattle.split_drawing_laws.specs.loop_sides.Parted.{AllCross, Crosses, FacesCross}
-use Rattle.split_drawing_laws.proofs.drawings.Drawn.{CanDraw, CanJoin, face_drawn, loops_joined}
-use Rattle.split_drawing_laws.proofs.drawings.Faces.{above_apart, are_rings, begun_joining, fitting, going_free, last, newer_face}
+use Rattle.split_drawing_laws.specs.drawings.Passing.{Going}
 use Rattle.split_drawing_laws.proofs.drawings.Pairs.{can_back, can_on}
-use Rattle.split_drawing_laws.proofs.drawings.Passes.{all_of_last, can_now, draws_keep, edge_fits_now, edge_free, joins_keep}
-use Rattle.split_drawing_laws.proofs.drawings.Rings.{Newer, RingOf, ring_back, ring_goes, ring_stays, rings_keep}
-use Rattle.split_drawing_laws.proofs.drawings.Stays.{draw_stays, draw_tails, join_stays, join_tails, start_stays, stays_on}
-use Rattle.split_drawing_laws.proofs.drawings.Whole.{drawable, drawable_on, next_is, ready}
-use Rattle.split_drawing_laws.proofs.half_sides.PlaceEnds.{take_sides}
-use Rattle.split_drawing_laws.proofs.loop_sides.Parting.{halves_drawn, halves_joined}
-use Rattle.split_drawing_laws.proofs.pairs.Whole.{can_be_drawn}
 
 -- N is B with edges drawn: each half-edge that is new starts on the plane
 pub record IsDrawnOn (B : Model) (p : Plane) (N : Model) : Type 0 where

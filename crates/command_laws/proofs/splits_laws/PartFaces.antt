@@ -1,40 +1,11 @@
 -- The faces of a solid that was split: those that the plane doesn't straddle are of the part on their side.
-use Rattle.std.specs.List.{list_any}
-use Rattle.std.proofs.Common.{◌≡◌, ◌≢◌, ℕ, ◌+◌, ◌≤◌, Bool, true, false, cond, not, ◌&&◌, ◌||◌, List, [], ◌∷◌, ◌++◌, length, nat_eq, None, Some, is_some, pos, int_lt, refl, sym, ap, subst, ◌∙◌, arith, true≢false, inl, inr, filter, map, option_map}
-use Rattle.std.proofs.lemmas.Bool.{false_from_ne_true}
-use Rattle.std.proofs.lemmas.Grind.{flat_map-append}
-use Rattle.std.proofs.lemmas.List.{map-append}
-use Rattle.euler_operators.specs.Common.{Plane, Point, direction, dot, is_above, is_below, count, IsIn, mate, plus, Model, FaceRow, LoopContent, content, cycle, face_of, faces_of, items_of, lone, outer, point_of, rings_of, solid_of, tail, Sound, Has, face_at, lists, kfmrh, part}
+use Rattle.command_laws.proofs.Prelude.{list_any, ◌≡◌, ◌≢◌, ℕ, ◌+◌, ◌≤◌, Bool, true, false, cond, not, ◌&&◌, ◌||◌, List, [], ◌∷◌, ◌++◌, length, nat_eq, None, Some, is_some, pos, int_lt, refl, sym, ap, subst, ◌∙◌, arith, true≢false, inl, inr, filter, map, option_map, false_from_ne_true, flat_map-append, map-append, Plane, Point, direction, dot, is_above, is_below, count, IsIn, mate, plus, Model, FaceRow, LoopContent, content, cycle, face_of, faces_of, items_of, lone, outer, point_of, rings_of, solid_of, tail, Sound, Has, face_at, lists, kfmrh, part, IsIn_or_not, count-append, tick_other, tick_same, from_map, IsIn-filter, IsIn_rest, filter_passes, IsIn_head, item_loop, number_real, outer_row, solid_row, in_use_within, IsIn-from_listed, listed-from_in, face_there, solid_either, same_tail, corners, loops_of, start, vertices_in, vertices_on, Taken, numbers_after, is_flat, normal, face_is_above, faces_above, straddles, Drawing, with_drawings, below_halves, section_cycles, Caps, Opening, holes_closed, opened_along, outer_caps, opened_at, split_refusal, IsReplaced, content_stays, face_of_loop, loops_agree, in_solid, all_flat, cap_faces, upper_faces, CanBeOpenedInTurn, CanBeOpened, renamed_not, can_open, new_caps, opened_next, openings_carry, CanBeSplit, holes_counted, begins, drawn_sound, can_be_split, is_rewritten, swap, closing, closing_leads, CanTake, held, StandsAsBefore, corner_points, loop_points, AreTurned, IsTakenOver, SplitKeepsBelow, SplitSharesFaces}
 use Rattle.euler_operators.specs.Table as table
-use Rattle.euler_operators.proofs.Common.{IsIn_or_not, count-append, tick_other, tick_same, from_map, IsIn-filter, IsIn_rest, filter_passes, IsIn_head, item_loop, number_real, outer_row, solid_row, in_use_within}
-use Rattle.euler_laws.proofs.Common.{IsIn-from_listed, listed-from_in, face_there, solid_either, same_point, same_tail}
-use Rattle.shapes.specs.Common.{corners, loops_of, start, vertices_in, vertices_on, Taken, numbers_after, is_flat, normal, face_is_above, faces_above, straddles, Drawing, with_drawings, below_halves, section_cycles, Caps, Opening, holes_closed, opened_along, outer_caps, opened_at, split_refusal}
-use Rattle.shapes.proofs.Common.{IsReplaced, content_stays, face_of_loop, loops_agree}
-use Rattle.split_drawing_laws.proofs.crossings.Premises.{in_solid}
-use Rattle.split_drawing_laws.proofs.cut_volumes.CutWhole.{all_flat}
-use Rattle.split_opening_laws.specs.sections.Capped.{cap_faces}
-use Rattle.split_opening_laws.specs.sections.InTurn.{upper_faces, CanBeOpenedInTurn}
-use Rattle.split_opening_laws.specs.strips.Opened.{CanBeOpened}
-use Rattle.split_opening_laws.proofs.sections.Numbered.{renamed_not}
-use Rattle.split_opening_laws.proofs.sections.InTurn.{can_open, new_caps, opened_next, openings_carry}
-use Rattle.split_laws.specs.volumes.Laws.{CanBeSplit}
-use Rattle.split_laws.proofs.Holes.{holes_counted}
-use Rattle.split_laws.proofs.drawn.Drawn.{begins, drawn_sound}
-use Rattle.split_laws.proofs.measures.Splittable.{can_be_split}
-use Rattle.split_laws.proofs.opened.InTurn.{is_rewritten}
+use Rattle.euler_laws.proofs.Common.{same_point}
 use Rattle.split_laws.proofs.opened.Kept as kept
-use Rattle.split_laws.proofs.opened.Starts.{swap}
-use Rattle.split_laws.proofs.volumes.Closed.{closing, closing_leads}
 use Rattle.split_laws.proofs.volumes.Split as split
 use Rattle.split_laws.proofs.volumes.Taken as taken
-use Rattle.split_laws.proofs.volumes.Taken.{CanTake}
-use Rattle.undo_journal.specs.Machine.{held}
-use Rattle.command_laws.specs.LeftAlone.{StandsAsBefore}
-use Rattle.command_laws.specs.NewFaces.{corner_points}
-use Rattle.command_laws.specs.RingedFaces.{loop_points}
-use Rattle.command_laws.specs.TakenOver.{AreTurned, IsTakenOver}
 use Rattle.command_laws.proofs.Turned.{IsTurned, not_turned, rewritten_turned, turned_on, turned_over}
-use Rattle.command_laws.specs.Splits.{SplitKeepsBelow, SplitSharesFaces}
 use Rattle.command_laws.proofs.splits_laws.PartedWithin.{kill_keeps, part_keeps}
 use Rattle.command_laws.proofs.splits_laws.Uncut.{uncut_stands, uncut_turned}
 use Rattle.command_laws.proofs.splits_laws.Whole.{after_is, after_sound}

@@ -1,25 +1,8 @@
 -- A solid opened along its section, its holes closed and its upper faces parted: other solids stay as they were.
-use Rattle.std.proofs.Common.{◌≡◌, ◌≢◌, ℕ, ◌+◌, true, false, cond, not, ◌&&◌, List, [], ◌∷◌, length, map, Some, None, is_some, refl, sym, ap, subst, ◌∙◌, ◌⊎◌, inl, inr, filter, fold, option_map, arith}
-use Rattle.std.proofs.lemmas.Bool.{eqb-false, false_from_ne_true}
-use Rattle.std.proofs.lemmas.Bool.Decides.{eqb_tells}
-use Rattle.euler_operators.specs.Common.{Plane, count, IsIn, edge_of, mate, minus, plus, get-map_rows, items_of, Model, content, face_of, solid_of, tail, Sound, Has, HasHalf, face_at, first_false, lists, effect, kfmrh, part}
-use Rattle.euler_operators.specs.declared.Op.TheVariants.{Kfmrh}
+use Rattle.command_laws.proofs.Prelude.{◌≡◌, ◌≢◌, ℕ, ◌+◌, true, false, cond, not, ◌&&◌, List, [], ◌∷◌, length, map, Some, None, is_some, refl, sym, ap, subst, ◌∙◌, ◌⊎◌, inl, inr, filter, fold, option_map, arith, eqb-false, false_from_ne_true, eqb_tells, Plane, count, IsIn, edge_of, mate, minus, plus, get-map_rows, items_of, Model, content, face_of, solid_of, tail, Sound, Has, HasHalf, face_at, first_false, lists, effect, kfmrh, part, Kfmrh, mate_plus, IsIn_or_not, from_map, item_loop, face_row, number_real, plus_there, same_solid, solid_row, in_use_within, row_some, kfmrh_goes, listed_front, loop_row as row_of, get-put_cases, none_replaced, Taken, numbers_after, renamed, Caps, Opening, all_opened, both_lists, hole_closed, holes_closed, no_caps, opened_along, opened_row, opened_tail, outer_caps, ArePlain, CanBeOpenedInTurn, CanBeOpened, opened_sound, can_open, openings_carry, upper_row, edges_are, face_still, renamed_not, rim_below, closing_ops, vertex_still, loop_kinds, lower_row}
 use Rattle.euler_operators.specs.Table as table
-use Rattle.euler_operators.proofs.Common.{mate_plus, IsIn_or_not, from_map, item_loop, face_row, number_real, plus_there, same_solid, solid_row, in_use_within, row_some}
 use Rattle.euler_laws.specs.Laws.{AreAccepted}
-use Rattle.euler_laws.proofs.Common.{kfmrh_goes, listed_front, loop_row as row_of}
-use Rattle.shapes.proofs.Common.{get-put_cases, none_replaced}
-use Rattle.shapes.specs.Common.{Taken, numbers_after, renamed, Caps, Opening, all_opened, both_lists, hole_closed, holes_closed, no_caps, opened_along, opened_row, opened_tail, outer_caps}
-use Rattle.split_opening_laws.specs.sections.Capped.{ArePlain}
-use Rattle.split_opening_laws.specs.sections.InTurn.{CanBeOpenedInTurn}
-use Rattle.split_opening_laws.specs.strips.Opened.{CanBeOpened}
-use Rattle.split_opening_laws.proofs.opening.Whole.{opened_sound}
-use Rattle.split_opening_laws.proofs.sections.InTurn.{can_open, openings_carry}
-use Rattle.split_opening_laws.proofs.sections.OpenedRows.{upper_row, edges_are, face_still, faces_are, loop_row}
-use Rattle.split_opening_laws.proofs.sections.Numbered.{renamed_not, rim_below}
-use Rattle.split_laws.specs.SplitOps.{closing_ops}
-use Rattle.split_laws.proofs.Flags.{vertex_still}
-use Rattle.split_laws.proofs.opened.Caps.{loop_kinds, lower_row}
+use Rattle.split_opening_laws.proofs.sections.OpenedRows.{faces_are, loop_row}
 use Rattle.command_laws.proofs.Owners.{agree_none, is_of, solid_of_half, solid_of_loop}
 use Rattle.command_laws.proofs.Inner.{AgreeBut}
 use Rattle.command_laws.proofs.splits_laws.Steps.{kill_within, own_edge}

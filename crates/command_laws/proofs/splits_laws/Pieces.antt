@@ -1,33 +1,10 @@
 -- The faces of the two parts of a split: those of the solid, pieces of those that straddle the plane, and caps.
-use Rattle.std.proofs.Common.{◌≡◌, ◌⊎◌, ℕ, ◌+◌, Bool, true, false, cond, not, pos, int_lt, ◌≢◌, ◌&&◌, ◌||◌, List, [], ◌∷◌, ◌++◌, length, None, is_some, refl, sym, ap, subst, ◌∙◌, arith, inl, inr, true≢false}
-use Rattle.std.proofs.lemmas.Bool.{and_parts}
-use Rattle.std.proofs.lemmas.Bool.Decides.{eqb_tells}
-use Rattle.std.proofs.lemmas.Grind.{flat_map-append}
-use Rattle.euler_operators.specs.Common.{Plane, IsIn, count, direction, dot, face_at, origin, same_point, Model, solid_of, faces_of, Sound, Has, kfmrh, part}
+use Rattle.command_laws.proofs.Prelude.{◌≡◌, ◌⊎◌, ℕ, ◌+◌, Bool, true, false, cond, not, pos, int_lt, ◌≢◌, ◌&&◌, ◌||◌, List, [], ◌∷◌, ◌++◌, length, None, is_some, refl, sym, ap, subst, ◌∙◌, arith, inl, inr, true≢false, and_parts, eqb_tells, flat_map-append, Plane, IsIn, count, direction, dot, face_at, origin, same_point, Model, solid_of, faces_of, Sound, Has, kfmrh, part, IsIn-filter, count-append, get-remove_here, get-remove_other, no_row, row_some, same_solid, tick_same, half_face, listed-from_in, mapped_some, corners, normal, is_plane_of, plane_of, reaches_above, reaches_below, straddles, faces_above, straddling_faces, Drawing, with_drawings, below_halves, section_cycles, Caps, Opening, holes_closed, opened_along, opened_at, face_is_above, are_on, face_listed, get-put_cases, drawn_lies, cap_faces, upper_faces, new_caps, opened_next, openings_carry, CanBeSplit, crossings_keep, CanBegin, begins, drawn_sound, drawn_stays, never_stuck, none_straddles, in_solid, can_be_split, closing_carries, Machine, held, IsSplit, HasNewFace, IsCap, IsOfEither, IsPiece, LiesInPlaneOf, SplitKeepsPlanes, SplitPartsFaces, StraddlingGoAbove, StraddlingStayBelow}
 use Rattle.euler_operators.specs.Table as table
-use Rattle.euler_operators.proofs.Common.{IsIn-filter, count-append, get-remove_here, get-remove_other, no_row, row_some, same_solid, tick_same}
-use Rattle.euler_laws.proofs.Common.{half_face, listed-from_in, mapped_some}
-use Rattle.shapes.specs.Common.{corners, normal, is_plane_of, plane_of, reaches_above, reaches_below, straddles, faces_above, straddling_faces, Drawing, with_drawings, below_halves, section_cycles, Caps, Opening, holes_closed, opened_along, opened_at, face_is_above}
-use Rattle.shapes.proofs.Common.{are_on, face_listed, get-put_cases}
-use Rattle.split_drawing_laws.proofs.drawn_volumes.DrawWhole.{drawn_lies}
-use Rattle.split_opening_laws.specs.sections.Capped.{cap_faces}
-use Rattle.split_opening_laws.specs.sections.InTurn.{upper_faces}
-use Rattle.split_opening_laws.proofs.sections.InTurn.{new_caps, opened_next, openings_carry}
 use Rattle.split_opening_laws.proofs.sections.OpenedRows as rows
-use Rattle.split_laws.specs.volumes.Laws.{CanBeSplit}
-use Rattle.split_drawing_laws.proofs.crossings.Whole.{crossings_keep}
-use Rattle.split_drawing_laws.specs.crossings.Laws.{CanBegin}
-use Rattle.split_laws.proofs.drawn.Drawn.{begins, drawn_sound, drawn_stays, never_stuck}
-use Rattle.split_drawing_laws.proofs.face_sides.Begun.{none_straddles}
-use Rattle.split_drawing_laws.proofs.crossings.Premises.{in_solid}
-use Rattle.split_laws.proofs.measures.Splittable.{can_be_split}
-use Rattle.split_laws.proofs.volumes.Closed.{closing_carries}
 use Rattle.split_laws.proofs.volumes.Split as split
-use Rattle.undo_journal.specs.Machine.{Machine, held}
-use Rattle.plane_split.specs.SplitModels.{IsSplit}
 use Rattle.command_laws.proofs.Owners.{is_of, neither, turned}
 use Rattle.command_laws.proofs.Turned.{turned_lies}
-use Rattle.command_laws.specs.Splits.{HasNewFace, IsCap, IsOfEither, IsPiece, LiesInPlaneOf, SplitKeepsPlanes, SplitPartsFaces, StraddlingGoAbove, StraddlingStayBelow}
 use Rattle.command_laws.proofs.splits_laws.DrawnFaces.{drawn_half, drawn_in}
 use Rattle.command_laws.proofs.splits_laws.DrawnWithin.{drawings_within}
 use Rattle.command_laws.proofs.splits_laws.Lower.{goes_high, stays_low}

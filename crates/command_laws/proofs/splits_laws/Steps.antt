@@ -1,13 +1,6 @@
 -- One step of a split within a solid: whatever isn't of the solid stays, and nothing else comes to be of another.
-use Rattle.std.proofs.Common.{◌≡◌, ◌≢◌, ℕ, true, false, cond, List, Option, Some, None, is_some, refl, sym, ap, subst, ◌∙◌, true≢false, ne_eqb, inl, inr, Bool, nat_eq, eq-eqb, option_map, arith}
-use Rattle.std.proofs.lemmas.Bool.Decides.{eqb_tells}
-use Rattle.std.proofs.lemmas.Bool.{eqb-false, false_from_ne_true}
-use Rattle.euler_operators.specs.Common.{edge_of, Model, LoopRow, face_of, outer, solid_of, content, Sound, Has, HasHalf, lists, effect, faces_to_solid, first_false, kfmrh, loop_to_face, part, ring_in, Table}
+use Rattle.command_laws.proofs.Prelude.{◌≡◌, ◌≢◌, ℕ, true, false, cond, List, Option, Some, None, is_some, refl, sym, ap, subst, ◌∙◌, true≢false, ne_eqb, inl, inr, Bool, nat_eq, eq-eqb, option_map, arith, eqb_tells, eqb-false, false_from_ne_true, edge_of, Model, LoopRow, face_of, outer, solid_of, content, Sound, Has, HasHalf, lists, effect, faces_to_solid, first_false, kfmrh, loop_to_face, part, ring_in, Table, Kfmrh, code-half, plus_row, same_edge, face_row, same_solid, solid_row, face_there, mapped_some, solid_either, loop_row, CanDraw, CanJoin, draw_accepted, face_drawn, join_accepted, loops_joined}
 use Rattle.euler_operators.specs.Table as table
-use Rattle.euler_operators.specs.declared.Op.TheVariants.{Kfmrh}
-use Rattle.euler_operators.proofs.Common.{code-half, plus_row, same_edge, face_row, same_solid, solid_row}
-use Rattle.euler_laws.proofs.Common.{face_there, mapped_some, solid_either, loop_row}
-use Rattle.split_drawing_laws.proofs.drawings.Drawn.{CanDraw, CanJoin, draw_accepted, face_drawn, join_accepted, loops_joined}
 use Rattle.command_laws.proofs.Inner.{AgreeBut, kfmrh_within, mef_within, mekr_within}
 use Rattle.command_laws.proofs.Owners.{Agree, half_kept, is_either, is_of, neither, not_either, solid_of_edge, solid_of_half, solid_of_loop, turned}
 

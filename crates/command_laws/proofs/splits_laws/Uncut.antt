@@ -1,28 +1,6 @@
 -- A face that the plane doesn't straddle stands as it did once the edges are cut and the faces drawn that do.
-use Rattle.std.proofs.Common.{◌≡◌, ◌≢◌, ℕ, ◌+◌, Bool, true, false, ◌&&◌, ◌||◌, List, [], ◌∷◌, None, Some, is_some, refl, sym, ap, subst, ◌∙◌, arith, true≢false, inl, inr, ◌⊎◌, fold, map}
-use Rattle.std.proofs.lemmas.Bool.{false_from_ne_true}
-use Rattle.euler_operators.specs.Common.{Plane, are_opposite, count, IsIn, edge_of, mate, minus, plus, Model, after, content, face_of, items_of, loop_of, point_of, rings_of, tail, Sound, Has, HasHalf, face_at, lists, edge_row, ring_in}
+use Rattle.command_laws.proofs.Prelude.{◌≡◌, ◌≢◌, ℕ, ◌+◌, Bool, true, false, ◌&&◌, ◌||◌, List, [], ◌∷◌, None, Some, is_some, refl, sym, ap, subst, ◌∙◌, arith, true≢false, inl, inr, ◌⊎◌, fold, map, false_from_ne_true, Plane, are_opposite, count, IsIn, edge_of, mate, minus, plus, Model, after, content, face_of, items_of, loop_of, point_of, rings_of, tail, Sound, Has, HasHalf, face_at, lists, edge_row, ring_in, mate_minus, mate_plus, minus_row, plus_row, IsIn_or_not, tick_same, filter_passes, cycle_there, face_row, in-holds, loop_there, mate_there, same_face, halves_of_edge, half_after, loop_after, IsIn-from_listed, listed-from_in, edge_there, corners, vertices_on, crossing_edges, straddles, with_crossings, Drawing, FacePairs, drawn_between, next_drawn, straddling_pairs, undrawn, with_drawings, split_refusal, Kept, CanBegin, DrawnIn, Fits, pairs_in, Drawable, Ready, any_passes, edge_facts, tail_in_face, crossings_keep, faces_are, CanDraw, CanJoin, face_drawn_else, loops_joined_faces, face_drawn, loops_joined, between_keeps, Newer, RingOf, row_else, row_gone, row_joined, row_other, drawable, drawable_on, next_is, ready, never_free, new_loop_face, old_loop_face, can_be_drawn, begins, drawn_stays, StandsAsBefore}
 use Rattle.euler_operators.specs.Table as table
-use Rattle.euler_operators.proofs.Common.{mate_minus, mate_plus, minus_row, plus_row, IsIn_or_not, tick_same, filter_passes, cycle_there, face_row, in-holds, loop_there, mate_there, same_face}
-use Rattle.euler_laws.proofs.Common.{halves_of_edge, half_after, loop_after, IsIn-from_listed, listed-from_in, edge_there}
-use Rattle.shapes.specs.Common.{corners, vertices_on, crossing_edges, straddles, with_crossings, Drawing, FacePairs, drawn_between, next_drawn, straddling_pairs, undrawn, with_drawings, split_refusal}
-use Rattle.split_drawing_laws.specs.crossings.Kept.{Kept}
-use Rattle.split_drawing_laws.specs.crossings.Laws.{CanBegin}
-use Rattle.split_drawing_laws.specs.drawings.DrawnIn.{DrawnIn}
-use Rattle.split_drawing_laws.specs.drawings.Pairs.{Fits, pairs_in}
-use Rattle.split_drawing_laws.specs.drawings.Passing.{Drawable, Ready}
-use Rattle.split_drawing_laws.proofs.crossings.Premises.{any_passes, edge_facts, tail_in_face}
-use Rattle.split_drawing_laws.proofs.crossings.Whole.{crossings_keep}
-use Rattle.split_drawing_laws.proofs.drawings.Counted.{faces_are}
-use Rattle.split_drawing_laws.proofs.drawings.Drawn.{CanDraw, CanJoin, face_drawn_else, loops_joined_faces, face_drawn, loops_joined}
-use Rattle.split_drawing_laws.proofs.drawings.Faces.{between_keeps}
-use Rattle.split_drawing_laws.proofs.drawings.Rings.{Newer, RingOf}
-use Rattle.split_drawing_laws.proofs.drawings.Stays.{row_else, row_gone, row_joined, row_other}
-use Rattle.split_drawing_laws.proofs.drawings.Whole.{drawable, drawable_on, next_is, ready}
-use Rattle.split_drawing_laws.proofs.face_sides.Beside.{never_free, new_loop_face, old_loop_face}
-use Rattle.split_drawing_laws.proofs.pairs.Whole.{can_be_drawn}
-use Rattle.split_laws.proofs.drawn.Drawn.{begins, drawn_stays}
-use Rattle.command_laws.specs.LeftAlone.{StandsAsBefore}
 use Rattle.command_laws.proofs.OnFaces.{vertex_there}
 use Rattle.command_laws.proofs.Standing.{rings_same, stands, stands_turned}
 use Rattle.command_laws.proofs.Turned.{IsTurned}

@@ -1,25 +1,11 @@
 -- The models before and after a split agree but for the two parts, and each vertex keeps its point.
-use Rattle.std.proofs.Common.{◌≡◌, ◌≢◌, ℕ, false, List, [], is_some, sym, ap, subst, ◌∙◌, filter, ne_eqb, arith}
-use Rattle.euler_operators.specs.Common.{Plane, Model, rings_of, solid_of, Sound, Has, part}
+use Rattle.command_laws.proofs.Prelude.{◌≡◌, ◌≢◌, ℕ, false, List, [], is_some, sym, ap, subst, ◌∙◌, filter, ne_eqb, arith, Plane, Model, rings_of, solid_of, Sound, Has, part, same_solid, faces_above, Drawing, with_drawings, below_halves, section_cycles, Opening, holes_closed, opened_at, split_model, crossings_keep, upper_faces, hole_ops, CanBeSplit, AreClosed, begins, drawn_stays, can_be_split, Machine, held, IsSplit, OfOthers, SplitKeepsRows, SplitKeepsOwners, SplitKeepsLoops, SplitKeepsEdges, SplitKeepsPoints, SplitKeepsShapes}
 use Rattle.euler_operators.specs.Table as table
-use Rattle.euler_operators.proofs.Common.{same_solid}
-use Rattle.shapes.specs.Common.{faces_above, Drawing, with_drawings, below_halves, section_cycles, Opening, holes_closed, opened_at, split_model}
-use Rattle.split_drawing_laws.proofs.crossings.Whole.{crossings_keep}
-use Rattle.split_opening_laws.specs.sections.InTurn.{upper_faces}
-use Rattle.split_laws.specs.SplitOps.{hole_ops}
-use Rattle.split_laws.specs.volumes.Laws.{CanBeSplit}
-use Rattle.split_laws.proofs.Holes.{AreClosed}
 use Rattle.split_laws.proofs.Whole.{split_sound}
-use Rattle.split_laws.proofs.drawn.Drawn.{begins, drawn_stays}
-use Rattle.split_laws.proofs.measures.Splittable.{can_be_split}
 use Rattle.split_laws.proofs.volumes.Split as split
-use Rattle.undo_journal.specs.Machine.{Machine, held}
-use Rattle.plane_split.specs.SplitModels.{IsSplit}
-use Rattle.command_laws.specs.LeftAlone.{OfOthers}
 use Rattle.command_laws.proofs.Owners.{Agree, agree_on, is_either, is_of, solid_of_half, solid_of_loop}
 use Rattle.command_laws.proofs.OnFaces.{vertex_there}
 use Rattle.command_laws.proofs.Standing.{rings_same, stands}
-use Rattle.command_laws.specs.Splits.{SplitKeepsRows, SplitKeepsOwners, SplitKeepsLoops, SplitKeepsEdges, SplitKeepsPoints, SplitKeepsShapes}
 use Rattle.command_laws.proofs.splits_laws.DrawnWithin.{drawings_within, within_on}
 use Rattle.command_laws.proofs.splits_laws.PartedWithin.{holes_keep, holes_within, openings_vertices, openings_within, part_keeps}
 use Rattle.command_laws.proofs.Inner.{AgreeBut}

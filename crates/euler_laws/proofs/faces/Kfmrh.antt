@@ -1,11 +1,6 @@
 -- kfmrh makes a face a ring of another face, and mfkrh a ring a face: they keep a sound model sound and take each other back.
-use Rattle.std.proofs.Common.{◌≡◌, ◌≢◌, ℕ, Some, None, is_some, IsTrue, refl, sym, ap, ◌∙◌, subst, inl, inr, arith, ne_eqb, eq-eqb, eqb-true}
-use Rattle.std.proofs.lemmas.Bool.Decides.{eqb_tells}
-use Rattle.std.proofs.lemmas.Bool.{not-true, eqb-false}
+use Rattle.euler_laws.proofs.Prelude.{◌≡◌, ◌≢◌, ℕ, Some, None, is_some, IsTrue, refl, sym, ap, ◌∙◌, subst, inl, inr, arith, ne_eqb, eq-eqb, eqb-true, eqb_tells, not-true, eqb-false, map_rows, Model, face_of, solid_of, outer, is_number, Sound, Has, first_false, conditions, effect, inverse, kfmrh, mfkrh, loop_to_face, remove-put, no_row, row_elsewhere, solid_row, outer_row, nat_eq_itself, Kfmrh, Mfkrh}
 use Rattle.euler_operators.specs.Table as table
-use Rattle.euler_operators.specs.Common.{map_rows, Model, face_of, solid_of, outer, is_number, Sound, Has, first_false, conditions, effect, inverse, kfmrh, mfkrh, loop_to_face}
-use Rattle.euler_operators.proofs.Common.{remove-put, no_row, row_elsewhere, solid_row, outer_row, nat_eq_itself}
-use Rattle.euler_operators.specs.declared.Op.TheVariants.{Kfmrh, Mfkrh}
 use Rattle.euler_laws.proofs.shared.Goes.{all_hold, none_refuses, taken}
 use Rattle.euler_laws.proofs.shared.Parts.{FaceSet, row_here, has_on, has_back, solid_other, outer_other, fit-put, fit-remove}
 use Rattle.euler_laws.proofs.shared.Faces.{SameWalks, LoopMoves, face_moved, face_kept, walks_same, old_outer, sound-moves, loop_home}

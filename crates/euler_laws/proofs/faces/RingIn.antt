@@ -1,10 +1,6 @@
 -- RingIn, which takes a ring to another face of its solid: it keeps a sound model sound, and RingIn to the old face takes it back.
-use Rattle.std.proofs.Common.{◌≡◌, ◌≢◌, ℕ, None, refl, inr, arith, ne_eqb, eqb-true}
-use Rattle.std.proofs.lemmas.Bool.{not-true, eqb-false}
+use Rattle.euler_laws.proofs.Prelude.{◌≡◌, ◌≢◌, ℕ, None, refl, inr, arith, ne_eqb, eqb-true, not-true, eqb-false, Model, face_of, solid_of, outer, Sound, Has, AllHold, ring_and_face, first_false, conditions, effect, inverse, ring_in, RingIn, same_outer, same_solid, nat_eq_itself}
 use Rattle.euler_operators.specs.Table as table
-use Rattle.euler_operators.specs.Common.{Model, face_of, solid_of, outer, Sound, Has, AllHold, ring_and_face, first_false, conditions, effect, inverse, ring_in}
-use Rattle.euler_operators.specs.declared.Op.TheVariants.{RingIn}
-use Rattle.euler_operators.proofs.Common.{same_outer, same_solid, nat_eq_itself}
 use Rattle.euler_laws.proofs.shared.Goes.{all_hold, all_hold-append, all_hold-front, all_hold-back, none_refuses, not_false}
 use Rattle.euler_laws.proofs.shared.Faces.{SameWalks, LoopMoves, faces_after, face_moved, face_kept, walks_same, old_outer, sound-moves, loop_home}
 use Rattle.euler_laws.proofs.shared.Rows.{never_outer, is_ring}

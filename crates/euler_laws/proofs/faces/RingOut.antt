@@ -1,8 +1,5 @@
 -- RingOut and Outer, by which a ring becomes the outer loop of a face: they keep a sound model sound and take each other back.
-use Rattle.std.proofs.Common.{◌≡◌, ◌≢◌, ℕ, None, refl, sym, ap, ◌∙◌, subst, inl, inr, arith}
-use Rattle.std.proofs.lemmas.Bool.Decides.{eqb_tells}
-use Rattle.euler_operators.specs.Common.{Model, face_of, solid_of, outer, Sound, Has, first_false, conditions, effect, inverse, ring_out, take_outer}
-use Rattle.euler_operators.specs.declared.Op.TheVariants.{RingOut, Outer}
+use Rattle.euler_laws.proofs.Prelude.{◌≡◌, ◌≢◌, ℕ, None, refl, sym, ap, ◌∙◌, subst, inl, inr, arith, eqb_tells, Model, face_of, solid_of, outer, Sound, Has, first_false, conditions, effect, inverse, ring_out, take_outer, RingOut, Outer}
 use Rattle.euler_laws.proofs.shared.Goes.{all_hold, none_refuses}
 use Rattle.euler_laws.proofs.shared.Parts.{outer_other}
 use Rattle.euler_laws.proofs.shared.Faces.{LoopMoves, faces_after, OuterSet, face_moved, face_kept, walks_same, old_outer, sound-moves, loop_home, outer_set, has_face_same, solid_same, outer_new, outer_home}

@@ -1,11 +1,6 @@
 -- mvfs and kvfs as operators: they keep a model sound, and each passes its conditions after the other and takes it back.
-use Rattle.std.proofs.Common.{◌≡◌, ℕ, true, false, not, nat_eq, ◌||◌, List, [], ◌∷◌, Some, None, unwrap_or, is_some, refl, sym, ap, ◌∙◌, subst, arith, true≢false, eq-eqb, eqb-true}
-use Rattle.std.proofs.lemmas.Bool.Decides.{nat_tests, eqb_tells}
-use Rattle.std.proofs.lemmas.Bool.{not-true, not-false}
-use Rattle.euler_operators.specs.Common.{Point, Model, lone, no_face, content, face_of, solid_of, outer, point_of, faces_of, rings_of, Sound, Has, first_false, conditions, bare_face, has_rings, is_empty, is_lone, lone_vertex, lists, effect, inverse, mvfs, kvfs_at, head_or_zero}
+use Rattle.euler_laws.proofs.Prelude.{◌≡◌, ℕ, true, false, not, nat_eq, ◌||◌, List, [], ◌∷◌, Some, None, unwrap_or, is_some, refl, sym, ap, ◌∙◌, subst, arith, true≢false, eq-eqb, eqb-true, nat_tests, eqb_tells, not-true, not-false, Point, Model, lone, no_face, content, face_of, solid_of, outer, point_of, faces_of, rings_of, Sound, Has, first_false, conditions, bare_face, has_rings, is_empty, is_lone, lone_vertex, lists, effect, inverse, mvfs, kvfs_at, head_or_zero, put-remove, remove-put, no_row, row_some, get-remove_here, and_first, and_second, Mvfs, Kvfs}
 use Rattle.euler_operators.specs.Table as table
-use Rattle.euler_operators.proofs.Common.{put-remove, remove-put, no_row, row_some, get-remove_here, and_first, and_second}
-use Rattle.euler_operators.specs.declared.Op.TheVariants.{Mvfs, Kvfs}
 use Rattle.euler_laws.proofs.shared.Goes.{all_hold, none_refuses, taken}
 use Rattle.euler_laws.proofs.shared.Rows.{face_there, point_row, lone_is, no_rings_means, means_no_rings, solid_row, loop_row}
 use Rattle.euler_laws.proofs.shared.Listed.{listed_passes, passes_listed, all_where-rises, one_listed}

@@ -1,10 +1,6 @@
 -- kemr as an operator: it keeps a model sound, and mekr passes its conditions after it and takes it back.
-use Rattle.std.proofs.Common.{◌≡◌, ◌≢◌, ℕ, ◌≤◌, true, List, [], ◌∷◌, ◌++◌, Some, None, is_some, IsTrue, refl, sym, ap, ◌∙◌, subst, arith, ne_eqb, eq-eqb, eqb-true}
-use Rattle.std.proofs.lemmas.Bool.{not-true}
-use Rattle.euler_operators.specs.Common.{count, IsIn, IsApart, head_or, canonical, rotate_to, between, beyond, HalfEdge, Corner, code, half, mate, edge_of, Model, cycle, LoopRow, items_of, tail, loop_of, content, cycle_of, face_of, outer, is_number, Sound, Has, HasHalf, first_false, conditions, corner_tail, corner_loop, corner_list, corner_known, corner_lone, corner_number, is_lone, effect, inverse, kemr, mekr, corner_of, cycle_or_lone, edge_row}
-use Rattle.euler_operators.proofs.Common.{tick_same, rotate_to_canonical, canonical-rotate_to, ring_split, nat_eq_itself, edge_of-code, code-half, mate-mate, mate_other, two_undone, no_row, row_of}
+use Rattle.euler_laws.proofs.Prelude.{◌≡◌, ◌≢◌, ℕ, ◌≤◌, true, List, [], ◌∷◌, ◌++◌, Some, None, is_some, IsTrue, refl, sym, ap, ◌∙◌, subst, arith, ne_eqb, eq-eqb, eqb-true, not-true, count, IsIn, IsApart, head_or, canonical, rotate_to, between, beyond, HalfEdge, Corner, code, half, mate, edge_of, Model, cycle, LoopRow, items_of, tail, loop_of, content, cycle_of, face_of, outer, is_number, Sound, Has, HasHalf, first_false, conditions, corner_tail, corner_loop, corner_list, corner_known, corner_lone, corner_number, is_lone, effect, inverse, kemr, mekr, corner_of, cycle_or_lone, edge_row, tick_same, rotate_to_canonical, canonical-rotate_to, ring_split, nat_eq_itself, edge_of-code, code-half, mate-mate, mate_other, two_undone, no_row, row_of, Kemr, Mekr}
 use Rattle.euler_operators.specs.Table as table
-use Rattle.euler_operators.specs.declared.Op.TheVariants.{Kemr, Mekr}
 use Rattle.euler_laws.proofs.shared.Goes.{all_hold, none_refuses, not_false, taken}
 use Rattle.euler_laws.proofs.shared.Parts.{outer_stays}
 use Rattle.euler_laws.proofs.shared.EdgeLess.{edge_gone, half_cases, tail_old}

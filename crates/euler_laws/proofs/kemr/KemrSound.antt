@@ -1,8 +1,5 @@
 -- A sound model stays sound under kemr.
-use Rattle.std.proofs.Common.{◌≡◌, ◌≢◌, ℕ, ◌+◌, List, [], ◌∷◌, Some, None, is_some, IsTrue, refl, sym, ap, ◌∙◌, subst, arith, ◌⊎◌, inl}
-use Rattle.std.proofs.lemmas.Bool.Decides.{eqb_tells}
-use Rattle.euler_operators.specs.Common.{count, tick, IsIn, head_or, canonical, between, beyond, IsRing, successor, after_kef, mate, edge_of, Model, LoopContent, cycle, LoopRow, items_of, tail, loop_of, content, face_of, cycle_of, after, is_number, Sound, Has, HasHalf, StandsIn, IsCycle, IsLoneAt, kemr, cycle_or_lone}
-use Rattle.euler_operators.proofs.Common.{count-append, tick_same, canonical-rotates, IsRotation-sym, count-rotate_to, IsRing-same, ring_split, IsRing-kemr, mate_other, row_elsewhere, in-holds, holds_in, cycle_there, cycle_sound, content_cycle, content_row, face_row, row_of, mate_there}
+use Rattle.euler_laws.proofs.Prelude.{◌≡◌, ◌≢◌, ℕ, ◌+◌, List, [], ◌∷◌, Some, None, is_some, IsTrue, refl, sym, ap, ◌∙◌, subst, arith, ◌⊎◌, inl, eqb_tells, count, tick, IsIn, head_or, canonical, between, beyond, IsRing, successor, after_kef, mate, edge_of, Model, LoopContent, cycle, LoopRow, items_of, tail, loop_of, content, face_of, cycle_of, after, is_number, Sound, Has, HasHalf, StandsIn, IsCycle, IsLoneAt, kemr, cycle_or_lone, count-append, tick_same, canonical-rotates, IsRotation-sym, count-rotate_to, IsRing-same, ring_split, IsRing-kemr, mate_other, row_elsewhere, in-holds, holds_in, cycle_there, cycle_sound, content_cycle, content_row, face_row, row_of, mate_there}
 use Rattle.euler_operators.specs.Table as table
 use Rattle.euler_laws.proofs.shared.Loops.{IsLoop, light, Walks}
 use Rattle.euler_laws.proofs.shared.Same.{solid_at}

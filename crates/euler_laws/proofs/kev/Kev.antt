@@ -1,10 +1,5 @@
 -- kev as an operator: it keeps a model sound. The inverses of mev and of kev pass their conditions and take them back.
-use Rattle.std.proofs.Common.{◌≡◌, ◌≢◌, ℕ, Bool, true, false, cond, nat_eq, ◌&&◌, None, refl, ap, arith, ne_eqb, eqb-true}
-use Rattle.std.proofs.lemmas.Bool.Decides.{eqb_tells}
-use Rattle.std.proofs.lemmas.Bool.{not-true}
-use Rattle.euler_operators.specs.Common.{Point, HalfEdge, Corner, At, Lone, code, half, mate, Model, tail, loop_of, content, after, point_of, Sound, first_false, conditions, lone_vertex, effect, inverse, mev_at, mev_lone, kev, kev_corner, kev_corner_mate}
-use Rattle.euler_operators.proofs.Common.{none_but, edge_of-code, code-half}
-use Rattle.euler_operators.specs.declared.Op.TheVariants.{Mev, Kev}
+use Rattle.euler_laws.proofs.Prelude.{◌≡◌, ◌≢◌, ℕ, Bool, true, false, cond, nat_eq, ◌&&◌, None, refl, ap, arith, ne_eqb, eqb-true, eqb_tells, not-true, Point, HalfEdge, Corner, At, Lone, code, half, mate, Model, tail, loop_of, content, after, point_of, Sound, first_false, conditions, lone_vertex, effect, inverse, mev_at, mev_lone, kev, kev_corner, kev_corner_mate, none_but, edge_of-code, code-half, Mev, Kev}
 use Rattle.euler_laws.proofs.shared.Goes.{all_hold, none_refuses}
 use Rattle.euler_laws.proofs.shared.Undo.{parallel_none, none_parallel}
 use Rattle.euler_laws.proofs.mev.MevSound.{MevGoes, sound-mev}

@@ -1,8 +1,5 @@
 -- A sound model stays sound under kev.
-use Rattle.std.proofs.Common.{◌≡◌, ◌≢◌, ℕ, ◌+◌, Bool, true, false, cond, nat_eq, ◌||◌, List, [], ◌++◌, Option, Some, None, unwrap_or, is_some, refl, sym, ap, ◌∙◌, subst, arith, ◌⊎◌, inl, inr, true≢false, option_map}
-use Rattle.std.proofs.lemmas.Bool.Decides.{nat_tests, eqb_tells}
-use Rattle.euler_operators.specs.Common.{count, tick, IsIn, IsApart, canonical, rest, IsRing, without, redirect, after_kev, mate, edge_of, is_first, tables, Model, LoopContent, lone, cycle, EdgeRow, items_of, holds, tail, loop_of, content, after, tail_in, no_edge, Sound, Has, HasHalf, StandsIn, IsTail, IsLoneAt, kev, moved_tail, cycle_or_lone}
-use Rattle.euler_operators.proofs.Common.{count-append, tick_same, tick_other, IsIn_or_not, count-canonical, IsApart-canonical, count_at, without_none, mate_other, edge_of-mate, mate-mate, edges_apart, mate_edge_apart, row_elsewhere, in-holds, holds_in, holds-none, cycle_there, mate_there, or_true}
+use Rattle.euler_laws.proofs.Prelude.{◌≡◌, ◌≢◌, ℕ, ◌+◌, Bool, true, false, cond, nat_eq, ◌||◌, List, [], ◌++◌, Option, Some, None, unwrap_or, is_some, refl, sym, ap, ◌∙◌, subst, arith, ◌⊎◌, inl, inr, true≢false, option_map, nat_tests, eqb_tells, count, tick, IsIn, IsApart, canonical, rest, IsRing, without, redirect, after_kev, mate, edge_of, is_first, tables, Model, LoopContent, lone, cycle, EdgeRow, items_of, holds, tail, loop_of, content, after, tail_in, no_edge, Sound, Has, HasHalf, StandsIn, IsTail, IsLoneAt, kev, moved_tail, cycle_or_lone, count-append, tick_same, tick_other, IsIn_or_not, count-canonical, IsApart-canonical, count_at, without_none, mate_other, edge_of-mate, mate-mate, edges_apart, mate_edge_apart, row_elsewhere, in-holds, holds_in, holds-none, cycle_there, mate_there, or_true}
 use Rattle.euler_operators.specs.Table as table
 use Rattle.euler_laws.proofs.shared.Fans.{Fan, fan_of, half_after, loop_after, ring_reaches, two_reaches, none_in_fan}
 use Rattle.euler_laws.proofs.shared.Loops.{IsLoop, count_out, count_gone, apart_out, ring_out, light, loop_sound, Walks, loop_at}

@@ -1,8 +1,5 @@
 -- kev is taken back by mev: at two half-edges where others leave the kept vertex, else at the lone loop that is left.
-use Rattle.std.proofs.Common.{◌≡◌, ◌≢◌, ℕ, ◌+◌, cond, nat_eq, List, [], ◌∷◌, ◌++◌, Some, refl, sym, ap, ◌∙◌, subst, arith, ◌⊎◌, inl, inr, is_some}
-use Rattle.std.proofs.lemmas.Bool.Decides.{eqb_tells}
-use Rattle.euler_operators.specs.Common.{count, tick, IsIn, IsApart, head_or, canonical, rotate_to, rest, between, beyond, successor, IsRing, IsRotation, IsPath, without, kev_ring, take_ring, mate, edge_of, Model, LoopContent, lone, cycle, items_of, tail, loop_of, content, after, round, point_of, cycle_of, Sound, Has, HasHalf, IsCycle, mev_at, kev, mev_lone}
-use Rattle.euler_operators.proofs.Common.{count-append, tick_same, tick_other, IsIn_or_not, count-before, count-canonical, IsApart-canonical, canonical-rotates, rotate_to_same, rotate_to_head, count-rotate_to, IsIn_successor, count_at, IsRing-same, rotation_at, IsPath-agree, ring_split, upto_once, canonical_from, mev-kev, put-take, apart_left, without_none, count-insert_before, mate_other, same_edge, mate-mate, put-remove, in-holds, cycle_there, mate_there, cycle_sound, content_cycle, row_of}
+use Rattle.euler_laws.proofs.Prelude.{◌≡◌, ◌≢◌, ℕ, ◌+◌, cond, nat_eq, List, [], ◌∷◌, ◌++◌, Some, refl, sym, ap, ◌∙◌, subst, arith, ◌⊎◌, inl, inr, is_some, eqb_tells, count, tick, IsIn, IsApart, head_or, canonical, rotate_to, rest, between, beyond, successor, IsRing, IsRotation, IsPath, without, kev_ring, take_ring, mate, edge_of, Model, LoopContent, lone, cycle, items_of, tail, loop_of, content, after, round, point_of, cycle_of, Sound, Has, HasHalf, IsCycle, mev_at, kev, mev_lone, count-append, tick_same, tick_other, IsIn_or_not, count-before, count-canonical, IsApart-canonical, canonical-rotates, rotate_to_same, rotate_to_head, count-rotate_to, IsIn_successor, count_at, IsRing-same, rotation_at, IsPath-agree, ring_split, upto_once, canonical_from, mev-kev, put-take, apart_left, without_none, count-insert_before, mate_other, same_edge, mate-mate, put-remove, in-holds, cycle_there, mate_there, cycle_sound, content_cycle, row_of}
 use Rattle.euler_operators.specs.Table as table
 use Rattle.euler_laws.proofs.shared.Fans.{half_after, loop_after}
 use Rattle.euler_laws.proofs.shared.Loops.{put_before, put_there, put_none, put_lone, after-walks, count_out, light, none_else}

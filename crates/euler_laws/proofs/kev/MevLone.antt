@@ -1,8 +1,5 @@
 -- mev at a lone loop is taken back by kev.
-use Rattle.std.proofs.Common.{◌≡◌, ℕ, [], ◌∷◌, refl, sym, ap, ◌∙◌, arith, inl, inr}
-use Rattle.std.proofs.lemmas.Bool.Decides.{eqb_tells}
-use Rattle.euler_operators.specs.Common.{Point, canonical, mate, Model, lone, cycle, holds, tail, content, loop_of, Sound, Has, HasHalf, mev_lone, kev}
-use Rattle.euler_operators.proofs.Common.{tick_same, count-canonical, edge_of-mate, remove-put, no_tail, in-holds}
+use Rattle.euler_laws.proofs.Prelude.{◌≡◌, ℕ, [], ◌∷◌, refl, sym, ap, ◌∙◌, arith, inl, inr, eqb_tells, Point, canonical, mate, Model, lone, cycle, holds, tail, content, loop_of, Sound, Has, HasHalf, mev_lone, kev, tick_same, count-canonical, edge_of-mate, remove-put, no_tail, in-holds}
 use Rattle.euler_operators.specs.Table as table
 use Rattle.euler_laws.proofs.shared.EdgeMore.{OneMore, comes, half_h, half_old, edge_apart, tail-h, tail-m, tail_old}
 use Rattle.euler_laws.proofs.shared.Loops.{none_free}

@@ -1,7 +1,5 @@
 -- mev at two half-edges is taken back by kev.
-use Rattle.std.proofs.Common.{◌≡◌, ◌≢◌, ℕ, List, [], ◌∷◌, refl, sym, ap, ◌∙◌, arith, inl, inr, eq-eqb}
-use Rattle.euler_operators.specs.Common.{Point, count, IsIn, canonical, insert_before, led_over, put_ring, mate, edge_of, Model, LoopContent, lone, cycle, items_of, tail, content, after, Sound, Has, HasHalf, IsCycle, mev_at, kev, cycle_or_lone}
-use Rattle.euler_operators.proofs.Common.{count-append, tick_same, tick_other, IsIn_or_not, count-canonical, IsApart-canonical, canonical_nil, count-rotate_to, kev-mev, take-put, apart_put, apart_mev, without_none, count-insert_before, mate_other, edge_of-mate, remove-put, mate_there}
+use Rattle.euler_laws.proofs.Prelude.{◌≡◌, ◌≢◌, ℕ, List, [], ◌∷◌, refl, sym, ap, ◌∙◌, arith, inl, inr, eq-eqb, Point, count, IsIn, canonical, insert_before, led_over, put_ring, mate, edge_of, Model, LoopContent, lone, cycle, items_of, tail, content, after, Sound, Has, HasHalf, IsCycle, mev_at, kev, cycle_or_lone, count-append, tick_same, tick_other, IsIn_or_not, count-canonical, IsApart-canonical, canonical_nil, count-rotate_to, kev-mev, take-put, apart_put, apart_mev, without_none, count-insert_before, mate_other, edge_of-mate, remove-put, mate_there}
 use Rattle.euler_operators.specs.Table as table
 use Rattle.euler_laws.proofs.shared.Loops.{put_before, put_there, put_none, put_lone, none_free, count_out, after-walks}
 use Rattle.euler_laws.proofs.shared.Same.{SameFaces}

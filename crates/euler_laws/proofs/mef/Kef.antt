@@ -1,11 +1,6 @@
 -- kef as an operator: it keeps a model sound, and mef takes it back; and kef passes its conditions after mef and takes it back.
-use Rattle.std.proofs.Common.{◌≡◌, ℕ, None, is_some, refl, sym, ap, ◌∙◌, arith, ne_eqb, eq-eqb}
-use Rattle.std.proofs.lemmas.Bool.Decides.{eqb_tells}
-use Rattle.std.proofs.lemmas.Bool.{not-true, eqb-false}
-use Rattle.euler_operators.specs.Common.{mef_old, mef_new, kef_ring, HalfEdge, code, mate, edge_of, Model, cycle, items_of, loop_of, content, cycle_of, face_of, Sound, first_false, conditions, face_at, effect, inverse, mef, kef}
-use Rattle.euler_operators.proofs.Common.{kef-mef, edge_of-code, code-half, remove-put, two_undone, row_of, cycle_sound}
+use Rattle.euler_laws.proofs.Prelude.{◌≡◌, ℕ, None, is_some, refl, sym, ap, ◌∙◌, arith, ne_eqb, eq-eqb, eqb_tells, not-true, eqb-false, mef_old, mef_new, kef_ring, HalfEdge, code, mate, edge_of, Model, cycle, items_of, loop_of, content, cycle_of, face_of, Sound, first_false, conditions, face_at, effect, inverse, mef, kef, kef-mef, edge_of-code, code-half, remove-put, two_undone, row_of, cycle_sound, Mef, Kef}
 use Rattle.euler_operators.specs.Table as table
-use Rattle.euler_operators.specs.declared.Op.TheVariants.{Mef, Kef}
 use Rattle.euler_laws.proofs.shared.Goes.{all_hold, none_refuses, not_false, taken}
 use Rattle.euler_laws.proofs.shared.EdgeMore.{comes, half_h}
 use Rattle.euler_laws.proofs.shared.TwoRows.{content_first, face_same, has_same}

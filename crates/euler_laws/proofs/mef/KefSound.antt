@@ -1,7 +1,5 @@
 -- A sound model stays sound under kef.
-use Rattle.std.proofs.Common.{◌≡◌, ◌≢◌, ℕ, ◌+◌, List, [], ◌++◌, None, is_some, refl, sym, ap, ◌∙◌, subst, arith, ◌⊎◌, inl, inr}
-use Rattle.euler_operators.specs.Common.{count, tick, IsIn, IsApart, canonical, rest, IsRing, after_kef, kef_ring, mef_old, mef_new, mate, edge_of, Model, LoopContent, cycle, LoopRow, items_of, loop_of, content, face_of, cycle_of, after, outer, solid_of, tail, Sound, Has, HasHalf, face_at, kef, mef, edge_row}
-use Rattle.euler_operators.proofs.Common.{count-append, tick_same, IsIn_or_not, count-canonical, count_at, IsRing-kef, mate_other, mate-mate, row_elsewhere, in-holds, holds_in, cycle_there, cycle_sound, content_cycle, row_of, mate_there, mef-kef}
+use Rattle.euler_laws.proofs.Prelude.{◌≡◌, ◌≢◌, ℕ, ◌+◌, List, [], ◌++◌, None, is_some, refl, sym, ap, ◌∙◌, subst, arith, ◌⊎◌, inl, inr, count, tick, IsIn, IsApart, canonical, rest, IsRing, after_kef, kef_ring, mef_old, mef_new, mate, edge_of, Model, LoopContent, cycle, LoopRow, items_of, loop_of, content, face_of, cycle_of, after, outer, solid_of, tail, Sound, Has, HasHalf, face_at, kef, mef, edge_row, count-append, tick_same, IsIn_or_not, count-canonical, count_at, IsRing-kef, mate_other, mate-mate, row_elsewhere, in-holds, holds_in, cycle_there, cycle_sound, content_cycle, row_of, mate_there, mef-kef}
 use Rattle.euler_operators.specs.Table as table
 use Rattle.euler_laws.proofs.shared.Fans.{half_after, loop_after}
 use Rattle.euler_laws.proofs.shared.Loops.{IsLoop, canonical_cycle, light}

@@ -1,9 +1,5 @@
 -- mef as an operator: what its conditions say, and that it keeps a model sound.
-use Rattle.std.proofs.Common.{◌≡◌, ℕ, None, arith, eqb-true}
-use Rattle.std.proofs.lemmas.Bool.{not-true, eqb-false}
-use Rattle.euler_operators.specs.Common.{HalfEdge, code, Model, first_false, conditions}
-use Rattle.euler_operators.proofs.Common.{edge_of-code, no_row}
-use Rattle.euler_operators.specs.declared.Op.TheVariants.{Mef}
+use Rattle.euler_laws.proofs.Prelude.{◌≡◌, ℕ, None, arith, eqb-true, not-true, eqb-false, HalfEdge, code, Model, first_false, conditions, edge_of-code, no_row, Mef}
 use Rattle.euler_laws.proofs.shared.Goes.{all_hold}
 use Rattle.euler_laws.proofs.shared.Rows.{half_of}
 use Rattle.euler_laws.proofs.mef.MefSound.{MefGoes}

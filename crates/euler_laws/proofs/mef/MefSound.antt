@@ -1,8 +1,5 @@
 -- A sound model stays sound under mef.
-use Rattle.std.proofs.Common.{◌≡◌, ◌≢◌, ℕ, ◌+◌, ◌≤◌, List, [], ◌∷◌, ◌++◌, Some, None, is_some, IsTrue, refl, sym, ap, ◌∙◌, subst, arith, inl, inr}
-use Rattle.std.proofs.lemmas.Bool.Decides.{eqb_tells}
-use Rattle.euler_operators.specs.Common.{count, tick, IsIn, IsApart, upto, onward, IsRing, mef_old, mef_new, after_mef, mate, edge_of, Model, lone, cycle, FaceRow, LoopRow, items_of, holds, tail, loop_of, content, face_of, cycle_of, after, outer, solid_of, is_number, Sound, Has, HasHalf, mef}
-use Rattle.euler_operators.proofs.Common.{count-append, tick_same, tick_other, count-canonical, IsRing-mef, mate_other, in-holds, holds_in, cycle_there, cycle_sound, content_cycle, content_row, face_row, row_of, solid_row, outer_row, row_elsewhere}
+use Rattle.euler_laws.proofs.Prelude.{◌≡◌, ◌≢◌, ℕ, ◌+◌, ◌≤◌, List, [], ◌∷◌, ◌++◌, Some, None, is_some, IsTrue, refl, sym, ap, ◌∙◌, subst, arith, inl, inr, eqb_tells, count, tick, IsIn, IsApart, upto, onward, IsRing, mef_old, mef_new, after_mef, mate, edge_of, Model, lone, cycle, FaceRow, LoopRow, items_of, holds, tail, loop_of, content, face_of, cycle_of, after, outer, solid_of, is_number, Sound, Has, HasHalf, mef, count-append, tick_same, tick_other, count-canonical, IsRing-mef, mate_other, in-holds, holds_in, cycle_there, cycle_sound, content_cycle, content_row, face_row, row_of, solid_row, outer_row, row_elsewhere}
 use Rattle.euler_operators.specs.Table as table
 use Rattle.euler_laws.proofs.shared.Loops.{IsLoop, canonical_cycle, light, Walks}
 use Rattle.euler_laws.proofs.shared.Rows.{count-halves, content_none}

@@ -1,7 +1,5 @@
 -- What mef makes of the loops of a sound model.
-use Rattle.std.proofs.Common.{◌≡◌, ℕ, ◌+◌, List, [], ◌∷◌, ◌++◌, None, ap, ◌∙◌, arith}
-use Rattle.euler_operators.specs.Common.{count, tick, upto, onward, mef_old, mef_new, mate, edge_of, Table, Model, cycle, LoopRow, loop_of, face_of, cycle_of, Sound, HasHalf, mef}
-use Rattle.euler_operators.proofs.Common.{count-canonical, count-append, edge_of-mate, row_of, not_held}
+use Rattle.euler_laws.proofs.Prelude.{◌≡◌, ℕ, ◌+◌, List, [], ◌∷◌, ◌++◌, None, ap, ◌∙◌, arith, count, tick, upto, onward, mef_old, mef_new, mate, edge_of, Table, Model, cycle, LoopRow, loop_of, face_of, cycle_of, Sound, HasHalf, mef, count-canonical, count-append, edge_of-mate, row_of, not_held}
 use Rattle.euler_operators.specs.Table as table
 use Rattle.euler_laws.proofs.shared.Rows.{held_row}
 

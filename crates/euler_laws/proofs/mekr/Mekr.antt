@@ -1,8 +1,5 @@
 -- mekr as an operator: it keeps a model sound, and kemr passes its conditions after it and takes it back.
-use Rattle.std.proofs.Common.{◌≡◌, ℕ, None, refl, arith, eq-eqb}
-use Rattle.euler_operators.specs.Common.{HalfEdge, Corner, code, Model, Sound, first_false, conditions, corner_tail, corner_loop, corner_list, effect, inverse, mekr}
-use Rattle.euler_operators.proofs.Common.{edge_of-code}
-use Rattle.euler_operators.specs.declared.Op.TheVariants.{Kemr, Mekr}
+use Rattle.euler_laws.proofs.Prelude.{◌≡◌, ℕ, None, refl, arith, eq-eqb, HalfEdge, Corner, code, Model, Sound, first_false, conditions, corner_tail, corner_loop, corner_list, effect, inverse, mekr, edge_of-code, Kemr, Mekr}
 use Rattle.euler_laws.proofs.shared.Goes.{none_refuses, not_false}
 use Rattle.euler_laws.proofs.kemr.KemrSound.{KemrGoes}
 use Rattle.euler_laws.proofs.mekr.MekrSpots.{join_goes}

@@ -1,7 +1,5 @@
 -- A sound model stays sound under mekr.
-use Rattle.std.proofs.Common.{◌≡◌, ◌≢◌, ℕ, ◌+◌, List, [], ◌∷◌, ◌++◌, None, refl, sym, ap, ◌∙◌, subst, arith, ◌⊎◌, inl, inr, eq-eqb, ne_eqb}
-use Rattle.euler_operators.specs.Common.{count, tick, IsIn, IsApart, head_or, canonical, IsPath, IsRing, between, beyond, after_mef, mate, edge_of, Model, lone, cycle, LoopRow, items_of, tail, loop_of, content, face_of, after, cycle_of, Sound, Has, HasHalf, edge_row, kemr, cycle_or_lone}
-use Rattle.euler_operators.proofs.Common.{count-append, tick_same, count-canonical, IsPath-append, IsPath-sent, apart_braced, between_canonical, beyond_canonical, mate_other, mate-mate, row_elsewhere, remove-put, in-holds, holds_in}
+use Rattle.euler_laws.proofs.Prelude.{◌≡◌, ◌≢◌, ℕ, ◌+◌, List, [], ◌∷◌, ◌++◌, None, refl, sym, ap, ◌∙◌, subst, arith, ◌⊎◌, inl, inr, eq-eqb, ne_eqb, count, tick, IsIn, IsApart, head_or, canonical, IsPath, IsRing, between, beyond, after_mef, mate, edge_of, Model, lone, cycle, LoopRow, items_of, tail, loop_of, content, face_of, after, cycle_of, Sound, Has, HasHalf, edge_row, kemr, cycle_or_lone, count-append, tick_same, count-canonical, IsPath-append, IsPath-sent, apart_braced, between_canonical, beyond_canonical, mate_other, mate-mate, row_elsewhere, remove-put, in-holds, holds_in}
 use Rattle.euler_operators.specs.Table as table
 use Rattle.euler_laws.proofs.shared.Fans.{Fan}
 use Rattle.euler_laws.proofs.shared.Loops.{IsLoop, canonical_cycle, canonical_ring, Walks}

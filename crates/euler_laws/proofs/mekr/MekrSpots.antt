@@ -1,11 +1,6 @@
 -- The corners that mekr joins: a loop, its vertex, and the half-edges of the loop from the corner on, none where it is lone.
-use Rattle.std.proofs.Common.{◌≡◌, ◌≢◌, ℕ, true, List, [], ◌∷◌, None, is_some, IsTrue, refl, sym, ap, ◌∙◌, subst, arith, ◌⊎◌, inl, inr, Bool, not, nat_eq, ◌&&◌, eqb-true}
-use Rattle.std.proofs.lemmas.Bool.Decides.{nat_tests}
-use Rattle.std.proofs.lemmas.Bool.{not-true, eqb-false}
-use Rattle.euler_operators.specs.Common.{count, IsIn, IsApart, head_or, canonical, rotate_to, IsRing, HalfEdge, Corner, At, Lone, code, edge_of, Model, lone, items_of, tail, after, loop_of, content, cycle_of, face_of, outer, is_number, Sound, Has, HasHalf, StandsIn, first_false, conditions, corner_tail, corner_loop, corner_list, corner_known, corner_lone, cycle_or_lone}
-use Rattle.euler_operators.proofs.Common.{tick_same, rotate_to_is, IsApart-rotate_to, canonical-rotate_to, canonical-rotates, IsRotation-sym, IsRing-same, edge_of-code, in-holds, row_of, content_cycle, cycle_there, cycle_sound, no_row, same_head}
+use Rattle.euler_laws.proofs.Prelude.{◌≡◌, ◌≢◌, ℕ, true, List, [], ◌∷◌, None, is_some, IsTrue, refl, sym, ap, ◌∙◌, subst, arith, ◌⊎◌, inl, inr, Bool, not, nat_eq, ◌&&◌, eqb-true, nat_tests, not-true, eqb-false, count, IsIn, IsApart, head_or, canonical, rotate_to, IsRing, HalfEdge, Corner, At, Lone, code, edge_of, Model, lone, items_of, tail, after, loop_of, content, cycle_of, face_of, outer, is_number, Sound, Has, HasHalf, StandsIn, first_false, conditions, corner_tail, corner_loop, corner_list, corner_known, corner_lone, cycle_or_lone, tick_same, rotate_to_is, IsApart-rotate_to, canonical-rotate_to, canonical-rotates, IsRotation-sym, IsRing-same, edge_of-code, in-holds, row_of, content_cycle, cycle_there, cycle_sound, no_row, same_head, Mekr}
 use Rattle.euler_operators.specs.Table as table
-use Rattle.euler_operators.specs.declared.Op.TheVariants.{Mekr}
 use Rattle.euler_laws.proofs.shared.Loops.{light}
 use Rattle.euler_laws.proofs.shared.Rows.{is_ring, items_or_lone, count_or_lone}
 use Rattle.euler_laws.proofs.shared.Goes.{all_hold}

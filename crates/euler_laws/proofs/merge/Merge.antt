@@ -1,11 +1,6 @@
 -- Faces that go to another solid, and merge: it keeps a sound model sound.
-use Rattle.std.proofs.Common.{◌≡◌, ◌≢◌, ℕ, Bool, true, false, cond, nat_eq, Some, None, unwrap_or, is_some, refl, sym, ap, ◌∙◌, subst, arith, inl, inr, option_map, ne_eqb}
-use Rattle.std.proofs.lemmas.Bool.Decides.{nat_tests, eqb_tells}
-use Rattle.std.proofs.lemmas.Bool.{not-true, eqb-false}
-use Rattle.euler_operators.specs.Common.{mate, map_rows, get-map_rows, Model, FaceRow, no_face, no_loop, loop_of, content, face_of, solid_of, outer, Sound, Has, HasHalf, NumbersFit, first_false, conditions, merge, faces_to_solid}
+use Rattle.euler_laws.proofs.Prelude.{◌≡◌, ◌≢◌, ℕ, Bool, true, false, cond, nat_eq, Some, None, unwrap_or, is_some, refl, sym, ap, ◌∙◌, subst, arith, inl, inr, option_map, ne_eqb, nat_tests, eqb_tells, not-true, eqb-false, mate, map_rows, get-map_rows, Model, FaceRow, no_face, no_loop, loop_of, content, face_of, solid_of, outer, Sound, Has, HasHalf, NumbersFit, first_false, conditions, merge, faces_to_solid, row_of, row_elsewhere, mate_there, Merge}
 use Rattle.euler_operators.specs.Table as table
-use Rattle.euler_operators.proofs.Common.{row_of, row_elsewhere, mate_there}
-use Rattle.euler_operators.specs.declared.Op.TheVariants.{Merge}
 use Rattle.euler_laws.proofs.shared.Goes.{all_hold, none_refuses}
 use Rattle.euler_laws.proofs.shared.Rows.{face_there}
 use Rattle.euler_laws.proofs.shared.Faces.{sound-same}

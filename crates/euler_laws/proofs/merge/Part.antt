@@ -1,11 +1,6 @@
 -- part as an operator: it keeps a sound model sound. merge and part pass their conditions after each other, and take each other back.
-use Rattle.std.proofs.Common.{◌≡◌, ◌≢◌, ℕ, Bool, true, false, cond, not, nat_eq, ◌||◌, List, [], ◌∷◌, ◌++◌, Some, None, unwrap_or, is_some, IsTrue, refl, sym, ap, ◌∙◌, subst, arith, inl, inr, true≢false, eq-eqb, ne_eqb, eqb-true}
-use Rattle.std.proofs.lemmas.Bool.Decides.{nat_tests, eqb_tells}
-use Rattle.std.proofs.lemmas.Bool.{not-true, not-false}
-use Rattle.euler_operators.specs.Common.{mate, edge_of, plus, minus, map_rows, Model, FaceRow, no_face, loop_of, face_of, solid_of, outer, is_number, faces_of, Sound, Has, HasHalf, AllHold, first_false, conditions, numbers_in_range, faces_known, faces_in, face_at, lists, lists_all, strictly_rises, is_empty, torn_edge, differ, effect, inverse, merge, part, faces_to_solid}
+use Rattle.euler_laws.proofs.Prelude.{◌≡◌, ◌≢◌, ℕ, Bool, true, false, cond, not, nat_eq, ◌||◌, List, [], ◌∷◌, ◌++◌, Some, None, unwrap_or, is_some, IsTrue, refl, sym, ap, ◌∙◌, subst, arith, inl, inr, true≢false, eq-eqb, ne_eqb, eqb-true, nat_tests, eqb_tells, not-true, not-false, mate, edge_of, plus, minus, map_rows, Model, FaceRow, no_face, loop_of, face_of, solid_of, outer, is_number, faces_of, Sound, Has, HasHalf, AllHold, first_false, conditions, numbers_in_range, faces_known, faces_in, face_at, lists, lists_all, strictly_rises, is_empty, torn_edge, differ, effect, inverse, merge, part, faces_to_solid, plus_row, mate_plus, mate_minus, put-remove, remove-put, map_same, first_where_zero, zero_first_where, no_row, row_some, row_elsewhere, mate_there, Merge, Part}
 use Rattle.euler_operators.specs.Table as table
-use Rattle.euler_operators.proofs.Common.{plus_row, mate_plus, mate_minus, put-remove, remove-put, map_same, first_where_zero, zero_first_where, no_row, row_some, row_elsewhere, mate_there}
-use Rattle.euler_operators.specs.declared.Op.TheVariants.{Merge, Part}
 use Rattle.euler_laws.proofs.shared.Goes.{◌also◌, all_hold, none_refuses, not_false, taken, no_zero, all_hold-append, all_hold-front, all_hold-back}
 use Rattle.euler_laws.proofs.shared.Fans.{half_face}
 use Rattle.euler_laws.proofs.shared.Arcs.{halves_of_edge}

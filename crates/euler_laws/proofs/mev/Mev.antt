@@ -1,10 +1,6 @@
 -- mev as an operator: what its conditions say, and that it keeps a model sound.
-use Rattle.std.proofs.Common.{◌≡◌, ℕ, true, None, IsTrue, sym, ap, ◌∙◌, arith, eq-eqb, eqb-true}
-use Rattle.std.proofs.lemmas.Bool.{not-true}
-use Rattle.euler_operators.specs.Common.{Point, IsInRange, HalfEdge, Corner, At, Lone, code, edge_of, Model, lone, content, is_number, Sound, HasHalf, first_false, conditions, corner_number, corner_known, corner_lone, corner_tail, lone_vertex}
+use Rattle.euler_laws.proofs.Prelude.{◌≡◌, ℕ, true, None, IsTrue, sym, ap, ◌∙◌, arith, eq-eqb, eqb-true, not-true, Point, IsInRange, HalfEdge, Corner, At, Lone, code, edge_of, Model, lone, content, is_number, Sound, HasHalf, first_false, conditions, corner_number, corner_known, corner_lone, corner_tail, lone_vertex, edge_of-code, no_row, Mev}
 use Rattle.euler_operators.specs.Table as table
-use Rattle.euler_operators.proofs.Common.{edge_of-code, no_row}
-use Rattle.euler_operators.specs.declared.Op.TheVariants.{Mev}
 use Rattle.euler_laws.proofs.shared.Goes.{all_hold, none_refuses, not_false, taken}
 use Rattle.euler_laws.proofs.mev.MevSound.{MevGoes}
 use Rattle.euler_laws.proofs.mev.MevLoneSound.{LoneGoes}

@@ -1,8 +1,5 @@
 -- A sound model stays sound under mev at a lone loop.
-use Rattle.std.proofs.Common.{◌≡◌, ◌≢◌, ℕ, ◌+◌, true, cond, nat_eq, List, [], ◌∷◌, Some, None, is_some, IsTrue, refl, sym, ap, ◌∙◌, subst, arith, inl, inr}
-use Rattle.std.proofs.lemmas.Bool.Decides.{nat_tests, eqb_tells}
-use Rattle.euler_operators.specs.Common.{Point, IsInRange, count, tick, head_or, canonical, IsRing, mate, edge_of, Model, lone, cycle, LoopRow, items_of, tail, loop_of, content, face_of, after, is_number, Sound, Has, HasHalf, IsLoneAt, lone_vertex, mev_lone, edge_row}
-use Rattle.euler_operators.proofs.Common.{tick_same, tick_other, tick_le, count-canonical, IsPath-agree, mate_other, edge_of-mate, mate-mate, get-put_here, get-put_other, row_elsewhere, no_tail, content_row, face_row, mate_there, same_content, same_face}
+use Rattle.euler_laws.proofs.Prelude.{◌≡◌, ◌≢◌, ℕ, ◌+◌, true, cond, nat_eq, List, [], ◌∷◌, Some, None, is_some, IsTrue, refl, sym, ap, ◌∙◌, subst, arith, inl, inr, nat_tests, eqb_tells, Point, IsInRange, count, tick, head_or, canonical, IsRing, mate, edge_of, Model, lone, cycle, LoopRow, items_of, tail, loop_of, content, face_of, after, is_number, Sound, Has, HasHalf, IsLoneAt, lone_vertex, mev_lone, edge_row, tick_same, tick_other, tick_le, count-canonical, IsPath-agree, mate_other, edge_of-mate, mate-mate, get-put_here, get-put_other, row_elsewhere, no_tail, content_row, face_row, mate_there, same_content, same_face}
 use Rattle.euler_operators.specs.Table as table
 use Rattle.euler_laws.proofs.shared.Fans.{Fan, fan_of}
 use Rattle.euler_laws.proofs.shared.Loops.{IsLoop, canonical_cycle, canonical_ring, Walks, after-walks, one_vertex}

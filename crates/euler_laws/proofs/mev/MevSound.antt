@@ -1,8 +1,5 @@
 -- A sound model stays sound under mev at two half-edges.
-use Rattle.std.proofs.Common.{◌≡◌, ◌≢◌, ℕ, ◌+◌, ◌≤◌, true, false, cond, nat_lt, List, ◌∷◌, Option, Some, None, unwrap_or, is_some, IsTrue, refl, sym, ap, ◌∙◌, subst, arith, ◌⊎◌, inl, inr, true≢false, option_map}
-use Rattle.std.proofs.lemmas.Bool.Decides.{nat_tests, eqb_tells}
-use Rattle.euler_operators.specs.Common.{Point, IsInRange, count, tick, IsIn, IsApart, canonical, upto, onward, IsRing, insert_before, led_over, after_mev, mate, edge_of, is_first, tables, Model, LoopContent, lone, cycle, LoopRow, EdgeRow, items_of, holds, tail, loop_of, content, after, arc, tail_in, no_edge, is_number, Sound, Has, HasHalf, StandsIn, IsLoneAt, mev_at, edge_row, with_before, with_tails}
-use Rattle.euler_operators.proofs.Common.{tick_same, tick_other, IsIn_or_not, mate_other, edge_of-mate, edges_apart, row_elsewhere, no_tail, in-holds, holds_in, cycle_there, mate_there}
+use Rattle.euler_laws.proofs.Prelude.{◌≡◌, ◌≢◌, ℕ, ◌+◌, ◌≤◌, true, false, cond, nat_lt, List, ◌∷◌, Option, Some, None, unwrap_or, is_some, IsTrue, refl, sym, ap, ◌∙◌, subst, arith, ◌⊎◌, inl, inr, true≢false, option_map, nat_tests, eqb_tells, Point, IsInRange, count, tick, IsIn, IsApart, canonical, upto, onward, IsRing, insert_before, led_over, after_mev, mate, edge_of, is_first, tables, Model, LoopContent, lone, cycle, LoopRow, EdgeRow, items_of, holds, tail, loop_of, content, after, arc, tail_in, no_edge, is_number, Sound, Has, HasHalf, StandsIn, IsLoneAt, mev_at, edge_row, with_before, with_tails, tick_same, tick_other, IsIn_or_not, mate_other, edge_of-mate, edges_apart, row_elsewhere, no_tail, in-holds, holds_in, cycle_there, mate_there}
 use Rattle.euler_operators.specs.Table as table
 use Rattle.euler_laws.proofs.shared.Fans.{Fan, not_in_fan, fan_of}
 use Rattle.euler_laws.proofs.shared.Loops.{IsLoop, put_before, put_none, put_lone, lone_put, count_put_there, count_put_none, count_put_other, put_keeps, put_came, loop_put, loop_sound, none_free, none_else, Walks}

@@ -1,8 +1,5 @@
 -- The part of a vertex's fan from one half-edge up to another, and what operators make of fans.
-use Rattle.std.proofs.Common.{◌≡◌, ◌≢◌, ℕ, ◌*◌, true, false, List, [], ◌∷◌, ◌++◌, length, is_some, refl, sym, arith, ◌⊎◌, inl, inr, true≢false, nat_cmp}
-use Rattle.std.specs.FinMap.Entries.{find}
-use Rattle.euler_operators.specs.Common.{count, IsIn, IsApart, rest, canonical, upto, onward, IsRing, after_mev, after_mef, after_kev, after_kef, put_ring, take_ring, mate, edge_of, is_first, plus, minus, Model, EdgeRow, round, arc, HasHalf}
-use Rattle.euler_operators.proofs.Common.{arc_ring, vertex_mev, vertex_mev_other, vertex_mef_first, vertex_mef_second, vertex_mef_other, vertex_kev, vertex_kev_other, vertex_kef_first, vertex_kef_second, vertex_kef_other, mate_cases, apart_within}
+use Rattle.euler_laws.proofs.Prelude.{◌≡◌, ◌≢◌, ℕ, ◌*◌, true, false, List, [], ◌∷◌, ◌++◌, length, is_some, refl, sym, arith, ◌⊎◌, inl, inr, true≢false, nat_cmp, find, count, IsIn, IsApart, rest, canonical, upto, onward, IsRing, after_mev, after_mef, after_kev, after_kef, put_ring, take_ring, mate, edge_of, is_first, plus, minus, Model, EdgeRow, round, arc, HasHalf, arc_ring, vertex_mev, vertex_mev_other, vertex_mef_first, vertex_mef_second, vertex_mef_other, vertex_kev, vertex_kev_other, vertex_kef_first, vertex_kef_second, vertex_kef_other, mate_cases, apart_within}
 use Rattle.euler_operators.specs.Table as table
 
 pub halves_of_edge : (x : ℕ) → ((x ≡ plus (edge_of x)) × (is_first x ≡ true)) ⊎ ((x ≡ minus (edge_of x)) × (is_first x ≡ false))

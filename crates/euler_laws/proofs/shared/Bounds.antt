@@ -1,7 +1,5 @@
 -- A sound model has a bounded number of half-edges and loops.
-use Rattle.std.proofs.Common.{◌≡◌, ℕ, ◌<◌, ◌≤◌, refl, arith}
-use Rattle.euler_operators.specs.Common.{edge_of, Model, Sound, Has, HasHalf}
-use Rattle.euler_operators.proofs.Common.{number_fits}
+use Rattle.euler_laws.proofs.Prelude.{◌≡◌, ℕ, ◌<◌, ◌≤◌, refl, arith, edge_of, Model, Sound, Has, HasHalf, number_fits}
 
 -- more than the half-edges that a model can have
 pub steps : ℕ

@@ -1,8 +1,5 @@
 -- What a list lists stands in it, and in a rising list once.
-use Rattle.std.proofs.Common.{◌≡◌, ℕ, ◌≤◌, Bool, true, false, List, [], ◌∷◌, Some, refl, arith, true≢false}
-use Rattle.std.proofs.lemmas.Bool.Decides.{eqb_tells}
-use Rattle.euler_operators.specs.Common.{count, IsIn, Table, get, all_where, lists, strictly_rises}
-use Rattle.euler_operators.proofs.Common.{tick_same, tick_other}
+use Rattle.euler_laws.proofs.Prelude.{◌≡◌, ℕ, ◌≤◌, Bool, true, false, List, [], ◌∷◌, Some, refl, arith, true≢false, eqb_tells, count, IsIn, Table, get, all_where, lists, strictly_rises, tick_same, tick_other}
 use Rattle.euler_laws.proofs.shared.Listed.{first_listed, rest_listed, listed_passes, passes_listed, IsIn-from_listed, listed-from_in}
 use Rattle.euler_laws.proofs.Sizes.{rises_on, rises_apart}
 

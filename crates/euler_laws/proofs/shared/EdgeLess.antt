@@ -1,8 +1,5 @@
 -- A model without one edge: its half-edges, the fans of its vertices, and what stands at them.
-use Rattle.std.proofs.Common.{◌≡◌, ◌≢◌, ℕ, ◌+◌, List, None, is_some, refl, sym, ap, ◌∙◌, subst, arith, ◌⊎◌, inl, inr}
-use Rattle.std.proofs.lemmas.Bool.Decides.{eqb_tells}
-use Rattle.euler_operators.specs.Common.{count, tick, IsIn, IsRing, take_ring, after_kef, mate, edge_of, Model, lone, tail, content, after, round, Sound, Has, HasHalf, IsTail, IsLoneAt}
-use Rattle.euler_operators.proofs.Common.{IsRing-redirect_other, IsRing-splice_other, tick_same, tick_other, count-canonical, count_at, edge_of-mate, mate-mate, same_edge, edges_apart, mate_edge_apart, mate_there, get-remove_here, get-remove_other, row_elsewhere}
+use Rattle.euler_laws.proofs.Prelude.{◌≡◌, ◌≢◌, ℕ, ◌+◌, List, None, is_some, refl, sym, ap, ◌∙◌, subst, arith, ◌⊎◌, inl, inr, eqb_tells, count, tick, IsIn, IsRing, take_ring, after_kef, mate, edge_of, Model, lone, tail, content, after, round, Sound, Has, HasHalf, IsTail, IsLoneAt, IsRing-redirect_other, IsRing-splice_other, tick_same, tick_other, count-canonical, count_at, edge_of-mate, mate-mate, same_edge, edges_apart, mate_edge_apart, mate_there, get-remove_here, get-remove_other, row_elsewhere}
 use Rattle.euler_operators.specs.Table as table
 use Rattle.euler_laws.proofs.shared.Fans.{Fan, fan_of, half_after, fixed_reaches, none_in_fan}
 use Rattle.euler_laws.proofs.shared.Arcs.{fan_kef_first, fan_kef_second, fan_kef_other}

@@ -1,8 +1,5 @@
 -- A model with one edge more: its half-edges, the fans of its vertices, and what stands at them.
-use Rattle.std.proofs.Common.{◌≡◌, ◌≢◌, ℕ, List, [], ◌∷◌, Some, None, is_some, sym, ap, ◌∙◌, subst, arith, ◌⊎◌, inl, inr}
-use Rattle.std.proofs.lemmas.Bool.Decides.{eqb_tells}
-use Rattle.euler_operators.specs.Common.{count, IsIn, IsRing, put_ring, after_mef, mate, edge_of, Model, tail, after, Sound, Has, HasHalf, IsTail, IsLoneAt, edge_row}
-use Rattle.euler_operators.proofs.Common.{IsRing-led_over_other, IsRing-splice_other, tick_same, tick_other, tick_le, count-canonical, count-rotate_to, edge_of-mate, same_edge, mate-mate, tail_row, mate_there, get-put_here, get-put_other, row_elsewhere}
+use Rattle.euler_laws.proofs.Prelude.{◌≡◌, ◌≢◌, ℕ, List, [], ◌∷◌, Some, None, is_some, sym, ap, ◌∙◌, subst, arith, ◌⊎◌, inl, inr, eqb_tells, count, IsIn, IsRing, put_ring, after_mef, mate, edge_of, Model, tail, after, Sound, Has, HasHalf, IsTail, IsLoneAt, edge_row, IsRing-led_over_other, IsRing-splice_other, tick_same, tick_other, tick_le, count-canonical, count-rotate_to, edge_of-mate, same_edge, mate-mate, tail_row, mate_there, get-put_here, get-put_other, row_elsewhere}
 use Rattle.euler_operators.specs.Table as table
 use Rattle.euler_laws.proofs.shared.Fans.{Fan, not_in_fan, fan_of}
 use Rattle.euler_laws.proofs.shared.Arcs.{fan_mef_first, fan_mef_second, fan_mef_other}

@@ -1,8 +1,6 @@
 -- The model that has nothing is sound.
-use Rattle.std.proofs.Common.{◌≡◌, ℕ, [], unwrap_or, is_some, sym, ap, ◌∙◌, arith, true≢false}
-use Rattle.euler_operators.specs.Common.{edge_of, get-empty, cycle, no_loop, empty_model, holds, content, Sound, Has, HasHalf, StandsIn}
+use Rattle.euler_laws.proofs.Prelude.{◌≡◌, ℕ, [], unwrap_or, is_some, sym, ap, ◌∙◌, arith, true≢false, edge_of, get-empty, cycle, no_loop, empty_model, holds, content, Sound, Has, HasHalf, StandsIn, holds_in, never_lone}
 use Rattle.euler_operators.specs.Table as table
-use Rattle.euler_operators.proofs.Common.{holds_in, never_lone}
 
 has_nothing : (X : Type 0) (n : ℕ) → Has (table.empty {X = X}) n → ⊥
 has_nothing X n t = true≢false (sym t ∙ ap is_some (get-empty {X = X} n))

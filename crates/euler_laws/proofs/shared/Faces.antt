@@ -1,9 +1,6 @@
 -- Operators that leave each loop's content, the edges and the vertices: what stays sound, and loops that change their face.
-use Rattle.std.proofs.Common.{◌≡◌, ℕ, Bool, true, false, cond, nat_eq, Some, is_some, refl, sym, ap, ◌∙◌, subst, arith, ◌≢◌, ◌⊎◌, inl, inr, ne_eqb, eq-eqb, eqb-true}
-use Rattle.std.proofs.lemmas.Bool.Decides.{eqb_tells}
-use Rattle.euler_operators.specs.Common.{mate, map_rows, Model, lone, FaceRow, LoopRow, tail, loop_of, content, face_of, solid_of, outer, after, Sound, Has, HasHalf, IsLoneAt, NumbersFit, loop_to_face, face_to_outer}
+use Rattle.euler_laws.proofs.Prelude.{◌≡◌, ℕ, Bool, true, false, cond, nat_eq, Some, is_some, refl, sym, ap, ◌∙◌, subst, arith, ◌≢◌, ◌⊎◌, inl, inr, ne_eqb, eq-eqb, eqb-true, eqb_tells, mate, map_rows, Model, lone, FaceRow, LoopRow, tail, loop_of, content, face_of, solid_of, outer, after, Sound, Has, HasHalf, IsLoneAt, NumbersFit, loop_to_face, face_to_outer, map_same, map_one, mate_there, row_of, content_row, face_row, same_content, same_face, solid_row, outer_row}
 use Rattle.euler_operators.specs.Table as table
-use Rattle.euler_operators.proofs.Common.{map_same, map_one, mate_there, row_of, content_row, face_row, same_content, same_face, solid_row, outer_row}
 use Rattle.euler_laws.proofs.shared.Loops.{loop_sound, Walks}
 use Rattle.euler_laws.proofs.shared.Same.{map_twice, solid_at}
 use Rattle.euler_laws.proofs.shared.Rows.{loop_row, face_there}

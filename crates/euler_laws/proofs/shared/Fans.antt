@@ -1,9 +1,6 @@
 -- The half-edges that leave a vertex, as a ring.
-use Rattle.std.proofs.Common.{◌≡◌, ◌≢◌, ℕ, List, [], ◌∷◌, ◌++◌, is_some, refl, sym, ap, ◌∙◌, subst, arith, ◌⊎◌, inl, inr}
-use Rattle.std.proofs.lemmas.Bool.Decides.{eqb_tells}
-use Rattle.euler_operators.specs.Common.{count, IsIn, IsApart, head_or, rest, successor, predecessor, IsPath, IsRing, mate, Model, items_of, tail, loop_of, content, cycle_of, after, round, Sound, Has, HasHalf, StandsIn, Reaches, here, further, face_at}
+use Rattle.euler_laws.proofs.Prelude.{◌≡◌, ◌≢◌, ℕ, List, [], ◌∷◌, ◌++◌, is_some, refl, sym, ap, ◌∙◌, subst, arith, ◌⊎◌, inl, inr, eqb_tells, count, IsIn, IsApart, head_or, rest, successor, predecessor, IsPath, IsRing, mate, Model, items_of, tail, loop_of, content, cycle_of, after, round, Sound, Has, HasHalf, StandsIn, Reaches, here, further, face_at, count-append, tick_same, tick_other, split_at, IsIn_or_not, tick_le, apart_back, rotation_at, count_at, IsRing-same, IsIn_successor, IsIn_predecessor, successor-predecessor, IsPath-append, IsPath-left, ring_stays, mate-mate, in-holds, cycle_there, cycle_sound, row_of, mate_there}
 use Rattle.euler_operators.specs.Items.{before, after as after_item}
-use Rattle.euler_operators.proofs.Common.{count-append, tick_same, tick_other, split_at, IsIn_or_not, tick_le, apart_back, rotation_at, count_at, IsRing-same, IsIn_successor, IsIn_predecessor, successor-predecessor, IsPath-append, IsPath-left, ring_stays, mate-mate, in-holds, cycle_there, cycle_sound, row_of, mate_there}
 
 pub reaches_trans : (next : ℕ → ℕ) (x y z : ℕ) → Reaches next x y → Reaches next y z → Reaches next x z
 reaches_trans next x y z p here = p

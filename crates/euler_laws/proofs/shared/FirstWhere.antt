@@ -1,7 +1,6 @@
 -- The first number of a table whose row passes a test is the least one.
-use Rattle.std.proofs.Common.{◌≡◌, ℕ, ◌≤◌, Bool, true, false, cond, List, [], ◌∷◌, Some, refl, sym, ◌∙◌, arith, true≢false, inl, inr}
+use Rattle.euler_laws.proofs.Prelude.{◌≡◌, ℕ, ◌≤◌, Bool, true, false, cond, List, [], ◌∷◌, Some, refl, sym, ◌∙◌, arith, true≢false, inl, inr, Table, first_where, all_where, first_in, all_in, lists, strictly_rises, head_or_zero}
 use Rattle.euler_operators.specs.Table as table
-use Rattle.euler_operators.specs.Common.{Table, first_where, all_where, first_in, all_in, lists, strictly_rises, head_or_zero}
 use Rattle.euler_laws.proofs.shared.Listed.{first_listed, listed_cases, listed_passes, passes_listed, all_where-rises}
 use Rattle.euler_laws.proofs.Sizes.{rises_apart}
 

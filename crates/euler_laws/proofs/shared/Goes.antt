@@ -1,8 +1,6 @@
 -- The facts that the conditions of an operator say, and conditions from facts.
-use Rattle.std.proofs.Common.{◌≡◌, ℕ, Bool, true, false, cond, not, List, [], ◌∷◌, ◌++◌, Ok, Err, Option, Some, None, is_some, refl, sym, ap, ◌∙◌, true≢false, IsTrue, arith}
-use Rattle.euler_operators.specs.Common.{Condition, AllHold, first_refusal, verdict, is_number}
+use Rattle.euler_laws.proofs.Prelude.{◌≡◌, ℕ, Bool, true, false, cond, not, List, [], ◌∷◌, ◌++◌, Ok, Err, Option, Some, None, is_some, refl, sym, ap, ◌∙◌, true≢false, IsTrue, arith, Condition, AllHold, first_refusal, verdict, is_number, IsFirstFalse}
 use Rattle.euler_operators.specs.declared.Refusal.{Refusal}
-use Rattle.euler_laws.specs.Laws.{IsFirstFalse}
 
 all_step : (c : Condition) (cs : List Condition) (b : Bool) → c.holds ≡ b → cond b (first_refusal cs) (Some c.refusal) ≡ None → (first_refusal cs ≡ None → AllHold cs) → AllHold (c ∷ cs)
 all_step c cs true e is rest = (e, rest is)

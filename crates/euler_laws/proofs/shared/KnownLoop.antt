@@ -1,7 +1,5 @@
 -- A loop of a sound model that is known by its half-edges, written from any of them on.
-use Rattle.std.proofs.Common.{◌≡◌, ℕ, List, Some, is_some, sym, ap, ◌∙◌, arith}
-use Rattle.euler_operators.specs.Common.{IsIn, IsApart, canonical, rotate_to, Model, cycle, items_of, holds, loop_of, content, face_of, cycle_of, Sound, HasHalf, StandsIn}
-use Rattle.euler_operators.proofs.Common.{canonical-rotates, count-canonical, rotate_to_same, content_row, face_row, in-holds}
+use Rattle.euler_laws.proofs.Prelude.{◌≡◌, ℕ, List, Some, is_some, sym, ap, ◌∙◌, arith, IsIn, IsApart, canonical, rotate_to, Model, cycle, items_of, holds, loop_of, content, face_of, cycle_of, Sound, HasHalf, StandsIn, canonical-rotates, count-canonical, rotate_to_same, content_row, face_row, in-holds}
 use Rattle.euler_operators.specs.Table as table
 
 -- a loop of a model, written from anywhere on

@@ -1,7 +1,5 @@
 -- What is proved of an operator.
-use Rattle.std.proofs.Common.{◌≡◌, None}
-use Rattle.euler_operators.specs.Common.{Model, Sound, first_false, effect, inverse}
-use Rattle.euler_operators.specs.declared.Op.{Op}
+use Rattle.euler_laws.proofs.Prelude.{◌≡◌, None, Model, Sound, first_false, effect, inverse, Op}
 
 -- the model after is sound, the inverse is accepted in it, and gives the model before
 pub record Lawful (M : Model) (op : Op) : Type 0 where

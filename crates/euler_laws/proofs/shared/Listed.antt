@@ -1,9 +1,5 @@
 -- The numbers of a table whose rows pass a test: which they are, and that they rise.
-use Rattle.std.proofs.Common.{◌≡◌, ◌≢◌, ℕ, Bool, true, false, nat_eq, ◌<◌, ◌||◌, T, List, [], ◌∷◌, ◌++◌, Some, ne_eqb, refl, sym, ap, ◌∙◌, arith, true≢false, ◌⊎◌, nat_cmp, lt-ltb}
-use Rattle.std.specs.FinMap.Entries.{find, is_sorted, below_all}
-use Rattle.std.proofs.lemmas.Bool.Decides.{nat_tests, eqb_tells}
-use Rattle.euler_operators.specs.Common.{IsIn, Table, get, all_where, all_in, lists, strictly_rises}
-use Rattle.euler_operators.proofs.Common.{and_left, and_right, less_means, find_here, find_later, or_true}
+use Rattle.euler_laws.proofs.Prelude.{◌≡◌, ◌≢◌, ℕ, Bool, true, false, nat_eq, ◌<◌, ◌||◌, T, List, [], ◌∷◌, ◌++◌, Some, ne_eqb, refl, sym, ap, ◌∙◌, arith, true≢false, ◌⊎◌, nat_cmp, lt-ltb, find, is_sorted, below_all, nat_tests, eqb_tells, IsIn, Table, get, all_where, all_in, lists, strictly_rises, and_left, and_right, less_means, find_here, find_later, or_true}
 
 -- the first of a list stands in it, and what stands in the rest does
 pub first_listed : (n : ℕ) (ns : List ℕ) → lists (n ∷ ns) n ≡ true

@@ -1,8 +1,5 @@
 -- What a loop holds, changed one half-edge at a time; and how a model's walks follow from its loops and fans.
-use Rattle.std.proofs.Common.{◌≡◌, ◌≢◌, ℕ, ◌+◌, cond, List, None, refl, sym, ap, ◌∙◌, subst, arith, ◌⊎◌, inl, inr}
-use Rattle.std.proofs.lemmas.Bool.Decides.{eqb_tells}
-use Rattle.euler_operators.specs.Common.{count, tick, IsIn, IsApart, canonical, successor, IsRing, insert_before, without, redirect, led_over, mate, edge_of, Model, LoopContent, lone, cycle, items_of, holds, tail, loop_of, content, cycle_of, after, round, Sound, Has, HasHalf, StandsIn, Reaches, here, further, IsCycle}
-use Rattle.euler_operators.proofs.Common.{tick_same, tick_other, IsIn_or_not, IsRing-same, next_is_successor, IsRing-from_successor, ring_stays, canonical-rotates, count-canonical, IsApart-canonical, canonical-canonical, count-insert_before, count-without, without_none, IsRing-insert_before, IsRing-without, IsRing-redirect_other, IsRing-led_over_other, first_where_is, mate_there, content_row, held_row, in-holds, holds_in, holds-none, never_lone, mate-mate}
+use Rattle.euler_laws.proofs.Prelude.{◌≡◌, ◌≢◌, ℕ, ◌+◌, cond, List, None, refl, sym, ap, ◌∙◌, subst, arith, ◌⊎◌, inl, inr, eqb_tells, count, tick, IsIn, IsApart, canonical, successor, IsRing, insert_before, without, redirect, led_over, mate, edge_of, Model, LoopContent, lone, cycle, items_of, holds, tail, loop_of, content, cycle_of, after, round, Sound, Has, HasHalf, StandsIn, Reaches, here, further, IsCycle, tick_same, tick_other, IsIn_or_not, IsRing-same, next_is_successor, IsRing-from_successor, ring_stays, canonical-rotates, count-canonical, IsApart-canonical, canonical-canonical, count-insert_before, count-without, without_none, IsRing-insert_before, IsRing-without, IsRing-redirect_other, IsRing-led_over_other, first_where_is, mate_there, content_row, held_row, in-holds, holds_in, holds-none, never_lone, mate-mate}
 use Rattle.euler_operators.specs.Table as table
 use Rattle.euler_laws.proofs.shared.Fans.{Fan, ring_reaches}
 

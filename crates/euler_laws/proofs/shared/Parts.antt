@@ -1,9 +1,6 @@
 -- Soundness in four parts: the walks of loops and vertices, what stands at vertices, faces and solids, and the ranges of numbers and points.
-use Rattle.std.proofs.Common.{◌≡◌, ◌≢◌, ℕ, Option, Some, None, is_some, IsTrue, true, sym, ap, ◌∙◌, subst, ◌⊎◌, arith}
-use Rattle.std.proofs.lemmas.Bool.Decides.{eqb_tells}
-use Rattle.euler_operators.specs.Common.{Point, IsInRange, mate, Table, get-map_rows, Model, FaceRow, lone, tail, loop_of, content, face_of, solid_of, outer, is_number, Sound, Has, HasHalf, IsTail, IsLoneAt, NumbersFit}
+use Rattle.euler_laws.proofs.Prelude.{◌≡◌, ◌≢◌, ℕ, Option, Some, None, is_some, IsTrue, true, sym, ap, ◌∙◌, subst, ◌⊎◌, arith, eqb_tells, Point, IsInRange, mate, Table, get-map_rows, Model, FaceRow, lone, tail, loop_of, content, face_of, solid_of, outer, is_number, Sound, Has, HasHalf, IsTail, IsLoneAt, NumbersFit, same_outer, same_solid, get-put_here, get-put_other, get-remove_here, get-remove_other, row_elsewhere}
 use Rattle.euler_operators.specs.Table as table
-use Rattle.euler_operators.proofs.Common.{same_outer, same_solid, get-put_here, get-put_other, get-remove_here, get-remove_other, row_elsewhere}
 use Rattle.euler_laws.proofs.shared.Loops.{Walks, stands-walks, one_loop-walks, cycles-walks, ends_meet-walks, one_fan-walks}
 use Rattle.euler_laws.proofs.shared.Same.{mapped_some, SameFaces, solid_at}
 

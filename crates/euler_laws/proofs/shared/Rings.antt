@@ -1,6 +1,5 @@
 -- Two models with the same edges whose loops hold the same half-edges: what is known of the walks of one holds for the other.
-use Rattle.std.proofs.Common.{◌≡◌, ◌≢◌, ℕ, unwrap_or, sym, ap, ◌∙◌, subst, arith}
-use Rattle.euler_operators.specs.Common.{mate, edge_of, is_first, Model, holds, tail, tail_in, no_edge, loop_of, content, after, Sound, Has, HasHalf, StandsIn, IsTail, NumbersFit}
+use Rattle.euler_laws.proofs.Prelude.{◌≡◌, ◌≢◌, ℕ, unwrap_or, sym, ap, ◌∙◌, subst, arith, mate, edge_of, is_first, Model, holds, tail, tail_in, no_edge, loop_of, content, after, Sound, Has, HasHalf, StandsIn, IsTail, NumbersFit}
 use Rattle.euler_operators.specs.Table as table
 use Rattle.euler_laws.proofs.shared.Fans.{fan_of}
 use Rattle.euler_laws.proofs.shared.Loops.{IsLoop, Walks, loop_at}

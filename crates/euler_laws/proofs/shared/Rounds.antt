@@ -1,7 +1,5 @@
 -- The walk round a loop, which meets each of its half-edges once.
-use Rattle.std.proofs.Common.{◌≡◌, ◌≢◌, ℕ, ◌+◌, ◌≤◌, List, [], ◌∷◌, ◌++◌, refl, sym, ap, subst, ◌∙◌, arith}
-use Rattle.euler_operators.specs.Common.{count, IsIn, IsApart, canonical, rotate_to, walk_to, orbit, successor, IsRing, IsRotation, Model, items_of, content, after, Sound, HasHalf}
-use Rattle.euler_operators.proofs.Common.{count-append, orbit_from, IsRing-from_successor, IsIn_successor, count-rotate_to, rotate_to-rotates, walk_done, walk_on, walk_over, item_there, item_loop, cycle_sound, length_below}
+use Rattle.euler_laws.proofs.Prelude.{◌≡◌, ◌≢◌, ℕ, ◌+◌, ◌≤◌, List, [], ◌∷◌, ◌++◌, refl, sym, ap, subst, ◌∙◌, arith, count, IsIn, IsApart, canonical, rotate_to, walk_to, orbit, successor, IsRing, IsRotation, Model, items_of, content, after, Sound, HasHalf, count-append, orbit_from, IsRing-from_successor, IsIn_successor, count-rotate_to, rotate_to-rotates, walk_done, walk_on, walk_over, item_there, item_loop, cycle_sound, length_below}
 use Rattle.euler_laws.proofs.shared.Bounds.{steps, half_below}
 
 -- the walk round loop l from its item first on has met some items and come to h, and n steps may follow

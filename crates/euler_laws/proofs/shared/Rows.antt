@@ -1,9 +1,5 @@
 -- What single rows and loops of a model say, and small facts that several operators share.
-use Rattle.std.proofs.Common.{◌≡◌, ◌≢◌, ℕ, ◌+◌, Bool, true, false, cond, not, nat_eq, ◌&&◌, List, [], ◌∷◌, Some, None, unwrap_or, is_some, refl, sym, ap, ◌∙◌, arith, true≢false}
-use Rattle.std.proofs.lemmas.Bool.Decides.{nat_tests}
-use Rattle.std.proofs.lemmas.Bool.{eqb-false}
-use Rattle.euler_operators.specs.Common.{count, IsIn, IsApart, head_or, canonical, rotate_to, rest, upto, onward, between, beyond, successor, IsRing, HalfEdge, code, mate, edge_of, is_first, plus, Table, tables, same_table, Model, loop_of, cycle_of, LoopContent, lone, cycle, FaceRow, LoopRow, tail_in, items_of, holds, tail, face_of, outer, solid_of, point_of, no_loop, content, is_ring_of, Sound, Has, HasHalf, IsCycle, has_rings, is_empty, is_lone, lone_vertex, where_held, edge_row, cycle_or_lone}
-use Rattle.euler_operators.proofs.Common.{count-canonical, count-rotate_to, canonical_nil, rotate_to-rotates, successor_at, successor_same, upto-onward, ring_split, count-append, tick_same, tick_other, count-before, edge_of-code, edge_of-mate, is_first-mate, plus_row, all_where_none, none_all_where, map_one, put-remove, face_row, row_of, other_loop, in-holds, cycle_there}
+use Rattle.euler_laws.proofs.Prelude.{◌≡◌, ◌≢◌, ℕ, ◌+◌, Bool, true, false, cond, not, nat_eq, ◌&&◌, List, [], ◌∷◌, Some, None, unwrap_or, is_some, refl, sym, ap, ◌∙◌, arith, true≢false, nat_tests, eqb-false, count, IsIn, IsApart, head_or, canonical, rotate_to, rest, upto, onward, between, beyond, successor, IsRing, HalfEdge, code, mate, edge_of, is_first, plus, Table, tables, same_table, Model, loop_of, cycle_of, LoopContent, lone, cycle, FaceRow, LoopRow, tail_in, items_of, holds, tail, face_of, outer, solid_of, point_of, no_loop, content, is_ring_of, Sound, Has, HasHalf, IsCycle, has_rings, is_empty, is_lone, lone_vertex, where_held, edge_row, cycle_or_lone, count-canonical, count-rotate_to, canonical_nil, rotate_to-rotates, successor_at, successor_same, upto-onward, ring_split, count-append, tick_same, tick_other, count-before, edge_of-code, edge_of-mate, is_first-mate, plus_row, all_where_none, none_all_where, map_one, put-remove, face_row, row_of, other_loop, in-holds, cycle_there}
 use Rattle.euler_operators.specs.Table as table
 use Rattle.euler_laws.proofs.shared.Loops.{IsLoop, canonical_cycle, canonical_ring}
 

@@ -1,8 +1,6 @@
 -- Models whose loops are rewritten row by row, and what stays where faces and solids stay.
-use Rattle.std.proofs.Common.{◌≡◌, ℕ, [], Option, Some, None, is_some, unwrap_or, refl, sym, ap, ◌∙◌, arith, option_map}
+use Rattle.euler_laws.proofs.Prelude.{◌≡◌, ℕ, [], Option, Some, None, is_some, unwrap_or, refl, sym, ap, ◌∙◌, arith, option_map, Table, same_table, map_rows, get-map_rows, Model, LoopContent, cycle, LoopRow, content, face_of, solid_of, loop_of, tail, tail_in, no_edge, no_point, point_of, Sound, HasHalf, edge_of, is_first, same_solid}
 use Rattle.euler_operators.specs.Table as table
-use Rattle.euler_operators.specs.Common.{Table, same_table, map_rows, get-map_rows, Model, LoopContent, cycle, LoopRow, content, face_of, solid_of, loop_of, tail, tail_in, no_edge, no_point, point_of, Sound, HasHalf, edge_of, is_first}
-use Rattle.euler_operators.proofs.Common.{same_solid}
 use Rattle.euler_laws.proofs.shared.Fans.{loop_after, kept_round}
 
 pub map_twice : {X : Type 0} (f g : ℕ → X → X) (t : Table X) → map_rows f (map_rows g t) ≡ map_rows (λ q x. f q (g q x)) t

@@ -1,9 +1,6 @@
 -- The rows of two loops changed, or of one, and all other rows stayed, while one edge came or went: what stands where afterwards.
-use Rattle.std.proofs.Common.{◌≡◌, ◌≢◌, ℕ, zero, suc, ◌+◌, ◌≤◌, List, Option, Some, is_some, refl, sym, ap, ◌∙◌, subst, arith, ◌⊎◌, inl, inr}
-use Rattle.std.proofs.lemmas.Bool.Decides.{eqb_tells}
-use Rattle.euler_operators.specs.Common.{count, IsIn, IsRing, mate, edge_of, Model, LoopContent, lone, cycle, LoopRow, items_of, holds, tail, loop_of, content, face_of, after, Sound, Has, HasHalf, StandsIn}
+use Rattle.euler_laws.proofs.Prelude.{◌≡◌, ◌≢◌, ℕ, zero, suc, ◌+◌, ◌≤◌, List, Option, Some, is_some, refl, sym, ap, ◌∙◌, subst, arith, ◌⊎◌, inl, inr, eqb_tells, count, IsIn, IsRing, mate, edge_of, Model, LoopContent, lone, cycle, LoopRow, items_of, holds, tail, loop_of, content, face_of, after, Sound, Has, HasHalf, StandsIn, edge_of-mate, never_lone, mate_there, in-holds, holds_in, held_row, content_row, face_row, same_content, same_face, get-put_here, get-put_other}
 use Rattle.euler_operators.specs.Table as table
-use Rattle.euler_operators.proofs.Common.{edge_of-mate, never_lone, mate_there, in-holds, holds_in, held_row, content_row, face_row, same_content, same_face, get-put_here, get-put_other}
 use Rattle.euler_laws.proofs.shared.Fans.{Fan}
 use Rattle.euler_laws.proofs.shared.Loops.{IsLoop, loop_sound, Walks, loop_at}
 use Rattle.euler_laws.proofs.shared.Same.{solid_at}

@@ -1,8 +1,5 @@
 -- Models that answer alike are equal; and lists that an operator and its inverse leave.
-use Rattle.std.proofs.Common.{◌≡◌, ◌≢◌, ℕ, ◌+◌, Bool, true, false, not, nat_eq, ◌&&◌, ◌||◌, List, ◌∷◌, Option, Some, None, unwrap_or, is_some, IsTrue, refl, sym, ap, ◌∙◌, arith, true≢false}
-use Rattle.std.proofs.lemmas.Bool.Decides.{nat_tests, eqb_tells}
-use Rattle.euler_operators.specs.Common.{count, IsIn, IsApart, head_or, canonical, rotate_to, rest, between, successor, IsRotation, insert_before, without, mev_ring, kev_ring, put_ring, take_ring, mate, edge_of, is_first, plus, minus, same_table, Model, LoopRow, no_loop, EdgeRow, no_edge, tail_in, tail, content, face_of, is_number, Has, HasHalf, parallel}
-use Rattle.euler_operators.proofs.Common.{count-append, tick_same, tick_other, canonical-rotates, canonical_same, rest_same, rotate_to_is, ring_split, apart_at, count-insert_before, insert_before-rotates, insert_before_same, mev_ring_is, without-rotates, kev_ring_is, plus_row, minus_row, mate_plus, mate_minus, first_where_zero, zero_first_where, row_some}
+use Rattle.euler_laws.proofs.Prelude.{◌≡◌, ◌≢◌, ℕ, ◌+◌, Bool, true, false, not, nat_eq, ◌&&◌, ◌||◌, List, ◌∷◌, Option, Some, None, unwrap_or, is_some, IsTrue, refl, sym, ap, ◌∙◌, arith, true≢false, nat_tests, eqb_tells, count, IsIn, IsApart, head_or, canonical, rotate_to, rest, between, successor, IsRotation, insert_before, without, mev_ring, kev_ring, put_ring, take_ring, mate, edge_of, is_first, plus, minus, same_table, Model, LoopRow, no_loop, EdgeRow, no_edge, tail_in, tail, content, face_of, is_number, Has, HasHalf, parallel, count-append, tick_same, tick_other, canonical-rotates, canonical_same, rest_same, rotate_to_is, ring_split, apart_at, count-insert_before, insert_before-rotates, insert_before_same, mev_ring_is, without-rotates, kev_ring_is, plus_row, minus_row, mate_plus, mate_minus, first_where_zero, zero_first_where, row_some}
 use Rattle.euler_operators.proofs.Cuts.{IsIn_rest}
 use Rattle.euler_operators.specs.Table as table
 use Rattle.euler_laws.proofs.shared.Loops.{apart_out}

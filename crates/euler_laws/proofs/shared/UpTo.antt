@@ -1,8 +1,5 @@
 -- The numbers of a rising list up to one.
-use Rattle.std.proofs.Common.{◌≡◌, ℕ, ◌≤◌, ◌<◌, true, false, cond, nat_le, List, [], ◌∷◌, ◌++◌, refl, sym, ap, ◌∙◌, arith, true≢false, inl, inr}
-use Rattle.std.proofs.lemmas.Bool.Decides.{nat_tests}
-use Rattle.euler_operators.specs.Common.{count, lists, strictly_rises}
-use Rattle.euler_operators.proofs.Common.{at_most_or_above}
+use Rattle.euler_laws.proofs.Prelude.{◌≡◌, ℕ, ◌≤◌, ◌<◌, true, false, cond, nat_le, List, [], ◌∷◌, ◌++◌, refl, sym, ap, ◌∙◌, arith, true≢false, inl, inr, nat_tests, count, lists, strictly_rises, at_most_or_above}
 use Rattle.euler_laws.proofs.shared.Listed.{first_listed, rest_listed, listed_cases}
 use Rattle.euler_laws.proofs.Sizes.{rises_on, rises_apart}
 

@@ -1,16 +1,8 @@
 -- The conditions of a glue, part by part.
-use Rattle.std.proofs.Common.{◌≡◌, ℕ, Bool, true, false, cond, not, ◌&&◌, ◌||◌, nat_eq, List, ◌++◌, Option, Some, None, Result, Ok, Err, is_err, unwrap_or, refl, sym, ap, ◌∙◌, arith, true≢false, reverse}
-use Rattle.std.proofs.lemmas.Bool.Decides.{nat_tests}
-use Rattle.euler_operators.specs.Common.{get, Model, LoopRow, no_loop, content, face_of, solid_of, outer, faces_of, Sound, Has, Condition, first_refusal, verdict, is_lone, lists}
-use Rattle.euler_operators.proofs.Common.{zero_first_where, first_fails, or_true, loop_number}
+use Rattle.gluing.proofs.Prelude.{◌≡◌, ℕ, Bool, true, false, cond, not, ◌&&◌, ◌||◌, nat_eq, List, ◌++◌, Option, Some, None, Result, Ok, Err, is_err, unwrap_or, refl, sym, ap, ◌∙◌, arith, true≢false, reverse, nat_tests, get, Model, LoopRow, no_loop, content, face_of, solid_of, outer, faces_of, Sound, Has, Condition, first_refusal, verdict, is_lone, lists, zero_first_where, first_fails, or_true, loop_number, all_hold, verdict_passed, verdict_failed, first_refusal-append, first_refusal-front, first_refusal-refused, none_found, none_is_lone, faces_of_both, least_lone, taken_in, numbers_left, face_conditions, faces_are_flat, outline_conditions, early_glue_conditions, glue_conditions, has_repeats, is_rotation, outline, RepeatedPoint, NoMatch, early_refusal}
 use Rattle.euler_operators.specs.declared.Refusal.{Refusal}
-use Rattle.euler_laws.proofs.Common.{all_hold, verdict_passed, verdict_failed}
-use Rattle.shapes.proofs.Common.{first_refusal-append, first_refusal-front, first_refusal-refused, none_found, none_is_lone}
 use Rattle.shapes.proofs.glue.Facts.{faces_there}
-use Rattle.shapes.specs.Common.{faces_of_both, least_lone, taken_in, numbers_left, face_conditions, faces_are_flat, outline_conditions, early_glue_conditions, glue_conditions, has_repeats, is_rotation, outline}
 use Rattle.solid_measure.proofs.solid_checks_laws.FaceWalks.{member_faces, member_both}
-use Rattle.euler_operators.specs.declared.Why.TheVariants.{RepeatedPoint, NoMatch}
-use Rattle.gluing.specs.glue_checks.Conditions.{early_refusal}
 use Rattle.solid_walks.proofs.face_walks_laws.Above.{member, lists_member}
 
 -- a verdict that is an error is the whole verdict

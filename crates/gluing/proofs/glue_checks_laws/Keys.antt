@@ -1,13 +1,8 @@
 -- Points as keys of an ordered set.
-use Rattle.std.proofs.Common.{◌≡◌, ℤ, ◌-◌, ◌≤◌, List, [], ◌∷◌, length, sym, Bool, true, false, cond, not, ◌&&◌, ◌||◌, int_cmp, Ordering, BTreeSet, refl, ap, ◌∙◌, arith, is_eq, take, drop, slice_index_or}
+use Rattle.gluing.proofs.Prelude.{◌≡◌, ℤ, ◌-◌, ◌≤◌, List, [], ◌∷◌, length, sym, Bool, true, false, cond, not, ◌&&◌, ◌||◌, int_cmp, Ordering, BTreeSet, refl, ap, ◌∙◌, arith, is_eq, take, drop, slice_index_or, list_any, take_rest, has_repeats, Point, same_point, after_equal, equal_is}
 use Rattle.std.specs.Ordering.{ordering_then}
 use Rattle.std.specs.BTreeSet as sorted
-use Rattle.std.specs.List.{list_any}
-use Rattle.std.proofs.lemmas.List.{take_rest}
-use Rattle.shapes.specs.Common.{has_repeats}
 use Rattle.gluing.proofs.glue_checks_laws.Points.{new_point, old_point}
-use Rattle.euler_operators.specs.Common.{Point, same_point}
-use Rattle.euler_operators.proofs.Common.{after_equal, equal_is}
 
 abbrev pub Key : Type 0
 Key = ℤ × ℤ × ℤ

@@ -1,14 +1,8 @@
 -- A solid that is closed and flat adds nothing to what is searched for in two solids.
-use Rattle.std.proofs.Common.{◌≡◌, ℕ, Bool, true, false, not, cond, ◌&&◌, nat_eq, List, [], ◌∷◌, Option, Some, None, is_some, unwrap_or, refl, sym, ap, subst, ◌∙◌, eqb-true, IfSome}
-use Rattle.euler_operators.specs.Common.{IsIn, Model, LoopRow, no_face, face_of, faces_of, first_refusal, solid_of, Sound, Has, is_lone, lists}
+use Rattle.gluing.proofs.Prelude.{◌≡◌, ℕ, Bool, true, false, not, cond, ◌&&◌, nat_eq, List, [], ◌∷◌, Option, Some, None, is_some, unwrap_or, refl, sym, ap, subst, ◌∙◌, eqb-true, IfSome, IsIn, Model, LoopRow, no_face, face_of, faces_of, first_refusal, solid_of, Sound, Has, is_lone, lists, LoneLoop, NotFlat, content_row, face_row, first_where_zero, IsIn_head, IsIn_rest, listed_passes, listed-from_in, faces_are_flat, faces_of_both, first_such, found, is_flat, least_lone, no_such, lesser_none}
 use Rattle.euler_operators.specs.Table as table
-use Rattle.euler_operators.specs.declared.Why.TheVariants.{LoneLoop, NotFlat}
-use Rattle.euler_operators.proofs.Common.{content_row, face_row, first_where_zero, IsIn_head, IsIn_rest}
-use Rattle.euler_laws.proofs.Common.{listed_passes, listed-from_in}
-use Rattle.shapes.specs.Common.{faces_are_flat, faces_of_both, first_such, found, is_flat, least_lone, no_such}
 use Rattle.solid_measure.proofs.solid_checks_laws.BentFaces.{first_bent, both_bent}
 use Rattle.solid_walks.proofs.lone_laws.LoneLoops.{both_lone}
-use Rattle.solid_walks.proofs.lone_laws.Searches.{lesser_none}
 use Rattle.solid_walks.specs.Least.{lesser}
 use Rattle.gluing.specs.Flat.{IsClosedFlat}
 

@@ -1,12 +1,5 @@
 -- The test for equal points, and points that are met twice.
-use Rattle.std.proofs.Common.{◌≡◌, ℕ, zero, suc, ◌+◌, ◌<◌, is_some, ℤ, Bool, true, false, ◌&&◌, ◌||◌, List, [], ◌∷◌, ◌++◌, length, refl, sym, ap, ◌∙◌, arith, true≢false, get_or, reverse, int_eq}
-use Rattle.std.specs.List.{list_any}
-use Rattle.std.proofs.lemmas.Bool.{or_parts}
-use Rattle.std.proofs.lemmas.List.{reverse-append}
-use Rattle.euler_operators.specs.Common.{Point, same_point}
-use Rattle.euler_operators.proofs.Common.{same_as, or_false, or_true}
-use Rattle.shapes.specs.Common.{has_repeats}
-use Rattle.gluing.specs.glue_checks.Places.{place_from}
+use Rattle.gluing.proofs.Prelude.{◌≡◌, ℕ, zero, suc, ◌+◌, ◌<◌, is_some, ℤ, Bool, true, false, ◌&&◌, ◌||◌, List, [], ◌∷◌, ◌++◌, length, refl, sym, ap, ◌∙◌, arith, true≢false, get_or, reverse, int_eq, list_any, or_parts, reverse-append, Point, same_point, same_as, or_false, or_true, has_repeats, place_from}
 
 numbers_turned : (m n : ℤ) → int_eq m n ≡ int_eq n m
 numbers_turned m n = grind arith

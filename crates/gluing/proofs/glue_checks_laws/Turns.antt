@@ -1,12 +1,5 @@
 -- Lists of points that are turns of one another.
-use Rattle.std.proofs.Common.{◌≡◌, ◌≢◌, ℕ, zero, suc, ◌+◌, ◌-◌, ◌<◌, ◌≤◌, true, false, cond, ◌&&◌, List, [], ◌∷◌, ◌++◌, length, Some, None, refl, sym, ap, subst, ◌∙◌, arith, true≢false, inl, inr, get_or, take, drop, is_some, slice_index_or, append-nil, length-append, get_or-drop, take_all, length-drop, length-take-le}
-use Rattle.std.proofs.lemmas.List.{drop_all}
-use Rattle.std.proofs.lemmas.Bool.{or_cases, cases_eq, or_left, or_right}
-use Rattle.euler_operators.specs.Common.{Point, same_point}
-use Rattle.euler_operators.proofs.Common.{same_as, same_truth}
-use Rattle.shapes.specs.Common.{has_repeats, same_points, is_turned, is_rotation}
-use Rattle.gluing.specs.glue_checks.Places.{place_from}
-use Rattle.shapes.proofs.Common.{same_is, same_lists}
+use Rattle.gluing.proofs.Prelude.{◌≡◌, ◌≢◌, ℕ, zero, suc, ◌+◌, ◌-◌, ◌<◌, ◌≤◌, true, false, cond, ◌&&◌, List, [], ◌∷◌, ◌++◌, length, Some, None, refl, sym, ap, subst, ◌∙◌, arith, true≢false, inl, inr, get_or, take, drop, is_some, slice_index_or, append-nil, length-append, get_or-drop, take_all, length-drop, length-take-le, drop_all, or_cases, cases_eq, or_left, or_right, Point, same_point, same_as, same_truth, has_repeats, same_points, is_turned, is_rotation, place_from, same_is, same_lists}
 use Rattle.gluing.proofs.glue_checks_laws.Points.{one_place}
 
 pub lists_same : (ps : List Point) → same_points ps ps ≡ true

@@ -1,15 +1,7 @@
 -- The last item: only its partner's edge goes, with face f.
-use Rattle.std.proofs.Common.{◌≡◌, ◌≢◌, ℕ, true, false, cond, nat_eq, Bool, List, [], ◌∷◌, ◌++◌, Option, Some, None, is_some, unwrap_or, refl, sym, ap, ◌∙◌, subst, arith, true≢false, inl, inr, map, option_map}
-use Rattle.std.proofs.lemmas.Bool.Decides.{nat_tests, eqb_tells}
-use Rattle.std.proofs.lemmas.List.{map-append}
-use Rattle.euler_operators.specs.Common.{count, IsIn, IsApart, canonical, rest, mate, edge_of, half, Table, tables, same_table, get-map_rows, Model, FaceRow, LoopRow, cycle, tail, loop_of, face_of, solid_of, outer, cycle_of, no_face, Has, HasHalf, face_at, first_false, effect, kef, faces_to_solid}
-use Rattle.euler_operators.proofs.Common.{count-append, tick_same, rest_same, rest_at, canonical-rotates, code-half, mate-mate, edge_of-mate, face_row, row_of, mate_there}
+use Rattle.gluing_laws.proofs.Prelude.{◌≡◌, ◌≢◌, ℕ, true, false, cond, nat_eq, Bool, List, [], ◌∷◌, ◌++◌, Option, Some, None, is_some, unwrap_or, refl, sym, ap, ◌∙◌, subst, arith, true≢false, inl, inr, map, option_map, nat_tests, eqb_tells, map-append, count, IsIn, IsApart, canonical, rest, mate, edge_of, half, Table, tables, same_table, get-map_rows, Model, FaceRow, LoopRow, cycle, tail, loop_of, face_of, solid_of, outer, cycle_of, no_face, Has, HasHalf, face_at, first_false, effect, kef, faces_to_solid, count-append, tick_same, rest_same, rest_at, canonical-rotates, code-half, mate-mate, edge_of-mate, face_row, row_of, mate_there, Kef, face_there, KefGoes, kef_accepted, Around, half_is, loop_is, apart_xs, cycle_is, rewritten_row, renamed, without_rows, glued_along, renamed_tails, moves, partner, partners, paired, glued_part, renamed_last, without_first, without_more, map_agree, map_removed, Facing}
 use Rattle.euler_operators.specs.Table as table
-use Rattle.euler_operators.specs.declared.Op.TheVariants.{Kef}
-use Rattle.euler_laws.proofs.Common.{face_there, KefGoes, kef_accepted, Around, half_is, loop_is, apart_xs, cycle_is}
 use Rattle.euler_laws.proofs.mef.KefSound as kill
-use Rattle.shapes.specs.Common.{rewritten_row, renamed, without_rows, glued_along, renamed_tails, moves, partner, partners, paired, glued_part}
-use Rattle.shapes.proofs.Common.{renamed_last, without_first, without_more, map_agree, map_removed, Facing}
 use Rattle.shapes.proofs.glue.Facing as facing
 use Rattle.gluing_laws.proofs.glue.Stages as stages
 use Rattle.gluing_laws.proofs.glue.Stages.{Stage}

@@ -1,17 +1,10 @@
 -- All items glued, one after the other.
-use Rattle.std.proofs.Common.{◌≡◌, ℕ, List, [], ◌∷◌, ◌++◌, refl, sym, ap, ◌∙◌, subst, None, append_assoc}
-use Rattle.euler_operators.specs.Common.{IsIn, last_or, head_or, Model, outer, Sound}
-use Rattle.euler_operators.proofs.Common.{last_or_push, IsIn_last}
+use Rattle.gluing_laws.proofs.Prelude.{◌≡◌, ℕ, List, [], ◌∷◌, ◌++◌, refl, sym, ap, ◌∙◌, subst, None, append_assoc, IsIn, last_or, head_or, Model, outer, Sound, last_or_push, IsIn_last, effects, AreAccepted, effects_keep_sound, Leads, leads_on, leads_sound, opening, closing, closings, fresh_edge, glue_ops, glued_part, rim, partner, glue_refusal, glue_model, Facing, facing, shape}
 use Rattle.euler_operators.specs.declared.Op.{Op}
-use Rattle.euler_laws.specs.Laws.{effects, AreAccepted}
-use Rattle.euler_laws.proofs.Common.{effects_keep_sound, Leads, leads_on, leads_sound}
-use Rattle.shapes.specs.Common.{opening, closing, closings, fresh_edge, glue_ops, glued_part, rim, partner, glue_refusal, glue_model}
-use Rattle.shapes.proofs.Common.{Facing}
 use Rattle.gluing_laws.proofs.glue.Stages.{Stage}
 use Rattle.gluing_laws.proofs.glue.Turn.{turn_accepted, turn_is}
 use Rattle.gluing_laws.proofs.glue.Ending.{glued_all, ending_ok, ending_is, glued_along_is}
 use Rattle.gluing_laws.proofs.glue.Opening.{opened}
-use Rattle.shapes.proofs.glue.Facts.{facing, shape}
 
 module _ (M : Model) (f g : ℕ) (partner_of : ℕ → ℕ) (hs : List ℕ) (x : ℕ) where
   -- the rest of the items, and then the solids are glued

@@ -1,20 +1,9 @@
 -- The first four operators of a glue: the solids become one, and the two loops one loop.
-use Rattle.std.proofs.Common.{◌≡◌, ◌≢◌, ℕ, cond, nat_eq, List, [], ◌∷◌, ◌++◌, Some, None, is_some, refl, sym, ap, ◌∙◌, subst, arith, true≢false, map, reverse, ne_eqb, eq-eqb}
-use Rattle.std.proofs.lemmas.Bool.Decides.{nat_tests}
-use Rattle.std.proofs.lemmas.List.{map-append, reverse-append}
-use Rattle.euler_operators.specs.Common.{count, IsIn, IsApart, canonical, rest, successor, without, mate, edge_of, half, plus, minus, Table, tables, same_table, At, Model, FaceRow, LoopRow, EdgeRow, cycle, items_of, tail, tail_in, face_of, solid_of, outer, is_number, Sound, HasHalf, first_false, effect, merge, kfmrh, mekr, kev, faces_to_solid, loop_to_face, moved_tail, edge_row}
+use Rattle.gluing_laws.proofs.Prelude.{◌≡◌, ◌≢◌, ℕ, cond, nat_eq, List, [], ◌∷◌, ◌++◌, Some, None, is_some, refl, sym, ap, ◌∙◌, subst, arith, true≢false, map, reverse, ne_eqb, eq-eqb, nat_tests, map-append, reverse-append, count, IsIn, IsApart, canonical, rest, successor, without, mate, edge_of, half, plus, minus, Table, tables, same_table, At, Model, FaceRow, LoopRow, EdgeRow, cycle, items_of, tail, tail_in, face_of, solid_of, outer, is_number, Sound, HasHalf, first_false, effect, merge, kfmrh, mekr, kev, faces_to_solid, loop_to_face, moved_tail, edge_row, count-append, tick_same, before_at, after_at, canonical_same, count-canonical, canonical-rotates, IsApart-canonical, successor_inner, successor_same, rest_canonical, code-half, plus_row, minus_row, edge_of-mate, mate_plus, map-put, map_same, map_one, remove-put, get-put_here, get-put_other, get-remove_other, same_outer, content_row, face_row, tail_row, in-holds, holds-none, not_held, same_head, Kev, Mekr, Kfmrh, Merge, both_out, edge_row_plus, OtherSolids, MergeGoes, merge_accepted, merge_other, solid_new, joined_same, joined_t, sound-merge, KillGoes, kfmrh_accepted, CornerAt, corner_here, MekrGoes, mekr_accepted, KevGoes, kev_accepted, effect_keeps_sound, Leads, leads_one, leads_first, Around, half_is, loop_is, cycle_is, apart_xs, same_tail, as_cycle, effects, AreAccepted, edge_plus, rewritten_row, renamed, opening, paired, seam, glued_part, renamed_more, row_unrenamed, map_agree, map_removed, Facing}
 use Rattle.euler_operators.specs.Items.{before, after}
-use Rattle.euler_operators.proofs.Common.{count-append, tick_same, before_at, after_at, canonical_same, count-canonical, canonical-rotates, IsApart-canonical, successor_inner, successor_same, rest_canonical, code-half, plus_row, minus_row, edge_of-mate, mate_plus, map-put, map_same, map_one, remove-put, get-put_here, get-put_other, get-remove_other, same_outer, content_row, face_row, tail_row, in-holds, holds-none, not_held, same_head}
 use Rattle.euler_operators.specs.Table as table
 use Rattle.euler_operators.specs.Model as model
-use Rattle.euler_operators.specs.declared.Op.TheVariants.{Kev, Mekr, Kfmrh, Merge}
-use Rattle.euler_laws.proofs.Common.{both_out, edge_row_plus, OtherSolids, MergeGoes, merge_accepted, merge_other, solid_new, joined_same, joined_t, sound-merge, KillGoes, kfmrh_accepted, CornerAt, corner_here, MekrGoes, mekr_accepted, KevGoes, kev_accepted, effect_keeps_sound, Leads, leads_one, leads_first, Around, half_is, loop_is, cycle_is, apart_xs, same_tail}
 use Rattle.euler_laws.proofs.merge.Merge.{face_same}
-use Rattle.euler_laws.proofs.kev.MevUndo.{as_cycle}
-use Rattle.euler_laws.specs.Laws.{effects, AreAccepted}
-use Rattle.sweeps_laws.proofs.prism.Steps.{edge_plus}
-use Rattle.shapes.specs.Common.{rewritten_row, renamed, opening, paired, seam, glued_part}
-use Rattle.shapes.proofs.Common.{renamed_more, row_unrenamed, map_agree, map_removed, Facing}
 use Rattle.shapes.proofs.glue.Facing as facing
 use Rattle.gluing_laws.proofs.glue.Round.{out_edge, out_here, out_none}
 

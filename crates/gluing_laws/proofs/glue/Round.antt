@@ -1,15 +1,7 @@
 -- One item closed: mef, kev and kef, in a sound model of which one loop is known.
-use Rattle.std.proofs.Common.{◌≡◌, ◌≢◌, ℕ, true, false, cond, ◌||◌, List, [], ◌∷◌, ◌++◌, Some, None, is_some, unwrap_or, IsTrue, sym, ap, ◌∙◌, subst, arith, true≢false, inl, inr, rules}
-use Rattle.std.proofs.lemmas.Bool.Decides.{nat_tests, eqb_tells}
-use Rattle.euler_operators.specs.Common.{count, IsIn, IsApart, canonical, rest, without, edge_of, plus, minus, mate, half, Table, tables, same_table, get-map_rows, Model, EdgeRow, LoopRow, LoopContent, cycle, items_of, holds, tail, tail_in, no_loop, no_face, loop_of, content, face_of, solid_of, outer, cycle_of, after, is_number, Sound, HasHalf, Has, face_at, first_false, effect, kev, kef, moved_tail, cycle_or_lone}
-use Rattle.euler_operators.proofs.Common.{count-append, tick_same, tick_other, canonical-rotates, count-canonical, rest_same, rest_head, rest_at, IsApart-canonical, rest_canonical, without_none, plus_row, minus_row, code-half, mate-mate, edge_of-mate, mate_minus, map-put, map_same, remove-put, get-put_here, get-put_other, tail_row, content_row, face_row, in-holds, holds-none, not_held, row_of, mate_there, or_true}
+use Rattle.gluing_laws.proofs.Prelude.{◌≡◌, ◌≢◌, ℕ, true, false, cond, ◌||◌, List, [], ◌∷◌, ◌++◌, Some, None, is_some, unwrap_or, IsTrue, sym, ap, ◌∙◌, subst, arith, true≢false, inl, inr, rules, nat_tests, eqb_tells, count, IsIn, IsApart, canonical, rest, without, edge_of, plus, minus, mate, half, Table, tables, same_table, get-map_rows, Model, EdgeRow, LoopRow, LoopContent, cycle, items_of, holds, tail, tail_in, no_loop, no_face, loop_of, content, face_of, solid_of, outer, cycle_of, after, is_number, Sound, HasHalf, Has, face_at, first_false, effect, kev, kef, moved_tail, cycle_or_lone, count-append, tick_same, tick_other, canonical-rotates, count-canonical, rest_same, rest_head, rest_at, IsApart-canonical, rest_canonical, without_none, plus_row, minus_row, code-half, mate-mate, edge_of-mate, mate_minus, map-put, map_same, remove-put, get-put_here, get-put_other, tail_row, content_row, face_row, in-holds, holds-none, not_held, row_of, mate_there, or_true, Mef, Kev, Kef, taken_out, count_out, loop_after, mapped_some, same_tail, KevGoes, kev_accepted, KefGoes, kef_accepted, effect_keeps_sound, Leads, leads_one, leads_first, Around, apart_xs, loop_is, half_is, as_cycle, with_chord, mef_does, mef_fits, closing}
 use Rattle.euler_operators.specs.Table as table
-use Rattle.euler_operators.specs.declared.Op.TheVariants.{Mef, Kev, Kef}
-use Rattle.euler_laws.proofs.Common.{taken_out, count_out, loop_after, mapped_some, same_tail, KevGoes, kev_accepted, KefGoes, kef_accepted, effect_keeps_sound, Leads, leads_one, leads_first, Around, apart_xs, loop_is, half_is}
-use Rattle.euler_laws.proofs.kev.MevUndo.{as_cycle}
 use Rattle.euler_laws.proofs.mef.KefSound as kill
-use Rattle.sweeps_laws.proofs.prism.Steps.{with_chord, mef_does, mef_fits}
-use Rattle.shapes.specs.Common.{closing}
 
 -- an item taken out of a loop
 pub taken_from : (e v : ℕ) (ps : List ℕ) (z : ℕ) (zs : List ℕ) → IsApart ps → IsIn e ps → rest e ps ≡ z ∷ zs → cycle_or_lone (without e (canonical ps)) v ≡ cycle (canonical (z ∷ zs))

@@ -1,13 +1,7 @@
 -- What a model holds while two solids are being glued together, and one item more.
-use Rattle.std.proofs.Common.{◌≡◌, ◌≢◌, ℕ, nat_eq, List, ◌∷◌, ◌++◌, Option, Some, None, is_some, unwrap_or, refl, sym, ap, ◌∙◌, subst, arith, true≢false, inl, inr, cond, [], map, reverse, option_map}
-use Rattle.std.proofs.lemmas.Bool.Decides.{nat_tests, eqb_tells}
+use Rattle.gluing_laws.proofs.Prelude.{◌≡◌, ◌≢◌, ℕ, nat_eq, List, ◌∷◌, ◌++◌, Option, Some, None, is_some, unwrap_or, refl, sym, ap, ◌∙◌, subst, arith, true≢false, inl, inr, cond, [], map, reverse, option_map, nat_tests, eqb_tells, count, IsIn, canonical, rest, mate, edge_of, is_first, Table, tables, get-map_rows, same_table, get-put, Model, LoopRow, cycle, tail, tail_in, no_edge, solid_of, outer, items_of, loop_of, content, face_of, cycle_of, Sound, HasHalf, StandsIn, faces_to_solid, count-append, tick_other, IsIn_or_not, get-put_here, get-put_other, count-canonical, from_map, count-reverse, content_row, holds_in, none-holds, other_loop, row_of, cycle_there, cycle_sound, mate_there, IsIn-map, mapped_some, Around, half_is, loop_is, rewritten_row, renamed, without_rows, renamed_tails, paired, seam, glued_part, renamed_not, without_there, without_gone, renamed_more, replaced, tail_renamed, Facing, side, row_stays, row_turns}
 use Rattle.std.proofs.lemmas.Option.{same_Some}
-use Rattle.euler_operators.specs.Common.{count, IsIn, canonical, rest, mate, edge_of, is_first, Table, tables, get-map_rows, same_table, get-put, Model, LoopRow, cycle, tail, tail_in, no_edge, solid_of, outer, items_of, loop_of, content, face_of, cycle_of, Sound, HasHalf, StandsIn, faces_to_solid}
-use Rattle.euler_operators.proofs.Common.{count-append, tick_other, IsIn_or_not, get-put_here, get-put_other, count-canonical, from_map, count-reverse, content_row, holds_in, none-holds, other_loop, row_of, cycle_there, cycle_sound, mate_there, IsIn-map}
 use Rattle.euler_operators.specs.Table as table
-use Rattle.euler_laws.proofs.Common.{mapped_some, Around, half_is, loop_is}
-use Rattle.shapes.specs.Common.{rewritten_row, renamed, without_rows, renamed_tails, paired, seam, glued_part}
-use Rattle.shapes.proofs.Common.{renamed_not, without_there, without_gone, renamed_more, replaced, tail_renamed, Facing, side, row_stays, row_turns}
 use Rattle.shapes.proofs.glue.Facing as facing
 
 -- some items are glued, the others aren't yet; last is the last item

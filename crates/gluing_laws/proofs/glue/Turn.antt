@@ -1,14 +1,6 @@
 -- One item more is glued.
-use Rattle.std.proofs.Common.{◌≡◌, ◌≢◌, ℕ, cond, nat_eq, List, [], ◌∷◌, ◌++◌, Some, is_some, refl, sym, ap, ◌∙◌, subst, arith, inl, inr, rules, map, reverse, append_assoc}
-use Rattle.std.proofs.lemmas.Bool.Decides.{nat_tests}
-use Rattle.std.proofs.lemmas.List.{map-append}
-use Rattle.euler_operators.specs.Common.{count, IsIn, canonical, mate, edge_of, Table, tables, same_table, Model, LoopRow, cycle, tail, loop_of, solid_of, outer, HasHalf, moved_tail}
-use Rattle.euler_operators.proofs.Common.{count-append, tick_same, tick_other, canonical_same, reverse-cons, mate_there}
+use Rattle.gluing_laws.proofs.Prelude.{◌≡◌, ◌≢◌, ℕ, cond, nat_eq, List, [], ◌∷◌, ◌++◌, Some, is_some, refl, sym, ap, ◌∙◌, subst, arith, inl, inr, rules, map, reverse, append_assoc, nat_tests, map-append, count, IsIn, canonical, mate, edge_of, Table, tables, same_table, Model, LoopRow, cycle, tail, loop_of, solid_of, outer, HasHalf, moved_tail, count-append, tick_same, tick_other, canonical_same, reverse-cons, mate_there, map_twice, Around, half_is, apart_xs, effects, AreAccepted, rewritten_row, renamed, without_rows, renamed_tails, closing, paired, seam, glued_part, renamed_cases, renamed_more, without_more, map_agree, map_removed, Facing, side}
 use Rattle.euler_operators.specs.Table as table
-use Rattle.euler_laws.proofs.Common.{map_twice, Around, half_is, apart_xs}
-use Rattle.euler_laws.specs.Laws.{effects, AreAccepted}
-use Rattle.shapes.specs.Common.{rewritten_row, renamed, without_rows, renamed_tails, closing, paired, seam, glued_part}
-use Rattle.shapes.proofs.Common.{renamed_cases, renamed_more, without_more, map_agree, map_removed, Facing, side}
 use Rattle.shapes.proofs.glue.Facing as facing
 use Rattle.gluing_laws.proofs.glue.Stages as stages
 use Rattle.gluing_laws.proofs.glue.Stages.{Stage}

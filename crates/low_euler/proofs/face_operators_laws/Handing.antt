@@ -1,13 +1,7 @@
 -- Faces that are given to a solid one by one.
-use Rattle.std.proofs.Common.{◌≡◌, ◌≢◌, ℕ, ◌+◌, ◌<◌, Bool, true, false, cond, nat_eq, ◌||◌, List, [], ◌∷◌, ◌++◌, length, take, get_or, Option, Some, None, is_some, unwrap_or, refl, sym, ap, ◌∙◌, arith, inl, inr, option_map, eq-eqb}
-use Rattle.std.proofs.lemmas.Bool.Decides.{nat_tests, eqb_tells}
+use Rattle.low_euler.proofs.Prelude.{◌≡◌, ◌≢◌, ℕ, ◌+◌, ◌<◌, Bool, true, false, cond, nat_eq, ◌||◌, List, [], ◌∷◌, ◌++◌, length, take, get_or, Option, Some, None, is_some, unwrap_or, refl, sym, ap, ◌∙◌, arith, inl, inr, option_map, eq-eqb, nat_tests, eqb_tells, Table, map_rows, put, same_table, get-map_rows, get-put, Model, FaceRow, no_face, outer, Has, lists, faces_to_solid, Store, set_solid, or_true, or_false, row_some, mapped_some, moved}
 use Rattle.std.proofs.lemmas.List.{take_more}
 use Rattle.euler_operators.specs.Table as table
-use Rattle.euler_operators.specs.Common.{Table, map_rows, put, same_table, get-map_rows, get-put, Model, FaceRow, no_face, outer, Has, lists, faces_to_solid}
-use Rattle.euler_conditions.specs.Store.{Store, set_solid}
-use Rattle.euler_operators.proofs.Common.{or_true, or_false, row_some}
-use Rattle.euler_laws.proofs.Common.{mapped_some}
-use Rattle.low_euler.specs.face_operators.Moving.{moved}
 
 abbrev given : List ℕ → ℕ → ℕ → FaceRow → FaceRow
 given fs n = faces_to_solid (λ f _. lists fs f) n

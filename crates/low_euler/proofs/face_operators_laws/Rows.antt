@@ -1,8 +1,5 @@
 -- A rewriting of one row is a row that is put.
-use Rattle.std.proofs.Common.{◌≡◌, ℕ, cond, refl, ap, ◌∙◌, ne_eqb, eq-eqb}
-use Rattle.euler_operators.specs.Common.{map_rows, put, Model, FaceRow, LoopRow, content, face_of, solid_of, outer, Has, loop_to_face, face_to_outer}
-use Rattle.euler_operators.proofs.Common.{map_one}
-use Rattle.euler_laws.proofs.Common.{face_there, loop_row}
+use Rattle.low_euler.proofs.Prelude.{◌≡◌, ℕ, cond, refl, ap, ◌∙◌, ne_eqb, eq-eqb, map_rows, put, Model, FaceRow, LoopRow, content, face_of, solid_of, outer, Has, loop_to_face, face_to_outer, map_one, face_there, loop_row}
 
 -- one loop that goes to another face
 pub loop_moved : (M : Model) (l f : ℕ) → Has M.loops l → map_rows (loop_to_face l f) M.loops ≡ put M.loops l (record { face = f; content = content M l })

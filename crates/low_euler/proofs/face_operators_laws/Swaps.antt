@@ -1,10 +1,6 @@
 -- A face that gets another outer loop while a loop goes to another face.
-use Rattle.std.proofs.Common.{◌≡◌, ℕ, true, refl, sym, ap, ◌∙◌, arith}
-use Rattle.std.proofs.lemmas.Bool.Decides.{nat_tests}
+use Rattle.low_euler.proofs.Prelude.{◌≡◌, ℕ, true, refl, sym, ap, ◌∙◌, arith, nat_tests, Table, tables, map_rows, put, Model, FaceRow, content, solid_of, Has, loop_to_face, face_to_outer, same_content, Store, set_face, set_outer}
 use Rattle.euler_operators.specs.Table as table
-use Rattle.euler_operators.specs.Common.{Table, tables, map_rows, put, Model, FaceRow, content, solid_of, Has, loop_to_face, face_to_outer}
-use Rattle.euler_operators.proofs.Common.{same_content}
-use Rattle.euler_conditions.specs.Store.{Store, set_face, set_outer}
 use Rattle.low_euler.proofs.face_operators_laws.Rows.{loop_moved, outer_changed}
 
 -- one loop that goes to another face, whatever became of the faces

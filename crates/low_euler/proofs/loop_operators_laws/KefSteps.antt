@@ -1,14 +1,8 @@
 -- What kef's writers make of a store, one after another.
-use Rattle.std.proofs.Common.{◌≡◌, ◌≢◌, ℕ, ◌+◌, true, List, [], ◌∷◌, ◌++◌, Some, is_some, sym, ap, ◌∙◌, subst, arith}
-use Rattle.euler_operators.specs.Common.{count, IsIn, IsApart, head_or, canonical, rest, joined, HalfEdge, code, mate, edge_of, Table, LoopContent, LoopRow, cycle, items_of, content, face_of, loop_of, cycle_of, tail, after as after_half, has_half, face_at, effect, kef}
-use Rattle.euler_operators.proofs.Common.{count-append, tick_same, count-canonical, count_at, count-joined, no_cons, both_empty, mate_other, row_of}
+use Rattle.low_euler.proofs.Prelude.{◌≡◌, ◌≢◌, ℕ, ◌+◌, true, List, [], ◌∷◌, ◌++◌, Some, is_some, sym, ap, ◌∙◌, subst, arith, count, IsIn, IsApart, head_or, canonical, rest, joined, HalfEdge, code, mate, edge_of, Table, LoopContent, LoopRow, cycle, items_of, content, face_of, loop_of, cycle_of, tail, has_half, face_at, effect, kef, count-append, tick_same, count-canonical, count_at, count-joined, no_cons, both_empty, mate_other, row_of, Kef, Accepts, after, KefGoes, kef_goes, cycle_filled, Store, join, take_edge, take_loop, take_face, IsStanding, take_out, kill_edge}
+use Rattle.euler_operators.specs.Common.{after as after_half}
 use Rattle.euler_operators.specs.Table as table
-use Rattle.euler_operators.specs.declared.Op.TheVariants.{Kef}
-use Rattle.euler_conditions.specs.Ready.{Accepts, after}
 use Rattle.euler_laws.proofs.mef.KefSound as laws
-use Rattle.euler_laws.proofs.Common.{KefGoes, kef_goes, cycle_filled}
-use Rattle.euler_conditions.specs.Store.{Store, join, take_edge, take_loop, take_face}
-use Rattle.low_euler.specs.steps.Steps.{IsStanding, take_out, kill_edge}
 use Rattle.low_euler.proofs.steps_laws.RingSteps.{rest_joined, rest_both}
 use Rattle.low_euler.proofs.steps_laws.TwoLoops as two
 use Rattle.low_euler.proofs.steps_laws.TwoLoops.{TwoLoops, Fits, CanJoin}

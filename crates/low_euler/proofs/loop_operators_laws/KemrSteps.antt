@@ -1,14 +1,7 @@
 -- What kemr's writers make of a store, one after another.
-use Rattle.std.proofs.Common.{◌≡◌, ◌≢◌, ℕ, ◌+◌, true, cond, List, [], ◌∷◌, is_some, sym, ap, ◌∙◌, subst, arith, ne_eqb}
-use Rattle.euler_operators.specs.Common.{count, tick, IsIn, IsApart, between, beyond, cut_left, cut_right, HalfEdge, code, mate, edge_of, Table, LoopContent, LoopRow, cycle, face_of, loop_of, cycle_of, tail, face_at, effect, kemr, cycle_or_lone}
-use Rattle.euler_operators.proofs.Common.{count-canonical, count-cut, IsIn-cut, mate_other, put_same, row_of}
+use Rattle.low_euler.proofs.Prelude.{◌≡◌, ◌≢◌, ℕ, ◌+◌, true, cond, List, [], ◌∷◌, is_some, sym, ap, ◌∙◌, subst, arith, ne_eqb, count, tick, IsIn, IsApart, between, beyond, cut_left, cut_right, HalfEdge, code, mate, edge_of, Table, LoopContent, LoopRow, cycle, face_of, loop_of, cycle_of, tail, face_at, effect, kemr, cycle_or_lone, count-canonical, count-cut, IsIn-cut, mate_other, put_same, row_of, Kemr, Accepts, after, count_or_lone, KemrGoes, kemr_goes, Store, put_loop, cut, cut_loose, cut_to, take_edge, IsStanding, take_out, kill_edge}
 use Rattle.euler_operators.specs.Table as table
-use Rattle.euler_operators.specs.declared.Op.TheVariants.{Kemr}
-use Rattle.euler_conditions.specs.Ready.{Accepts, after}
-use Rattle.euler_laws.proofs.Common.{count_or_lone, KemrGoes, kemr_goes}
 use Rattle.euler_laws.proofs.kemr.KemrSound as laws
-use Rattle.euler_conditions.specs.Store.{Store, put_loop, cut, cut_loose, cut_to, take_edge}
-use Rattle.low_euler.specs.steps.Steps.{IsStanding, take_out, kill_edge}
 use Rattle.low_euler.proofs.steps_laws.RingSteps.{rest_left, rest_right}
 use Rattle.low_euler.proofs.steps_laws.TwoLoops as two
 use Rattle.low_euler.proofs.steps_laws.TwoLoops.{TwoLoops, Fits, CanCut}

@@ -1,14 +1,6 @@
 -- What mef's writers make of a store, one after another.
-use Rattle.std.proofs.Common.{◌≡◌, ◌≢◌, ℕ, true, false, cond, List, [], ◌∷◌, Some, is_some, sym, ap, ◌∙◌, subst, arith, ne_eqb}
-use Rattle.std.proofs.lemmas.Bool.Decides.{nat_tests}
-use Rattle.euler_operators.specs.Common.{count, IsIn, IsApart, cut_right, put_ring, mef_old, mef_new, HalfEdge, At, code, mate, edge_of, Table, tables, Model, LoopRow, cycle, items_of, content, face_of, solid_of, loop_of, cycle_of, before, tail, face_at, effect, mef, edge_row}
-use Rattle.euler_operators.proofs.Common.{tick_same, mate_other, edge_of-code, put_same, row_elsewhere, row_of, cycle_there, cycle_sound}
+use Rattle.low_euler.proofs.Prelude.{◌≡◌, ◌≢◌, ℕ, true, false, cond, List, [], ◌∷◌, Some, is_some, sym, ap, ◌∙◌, subst, arith, ne_eqb, nat_tests, count, IsIn, IsApart, cut_right, put_ring, mef_old, mef_new, HalfEdge, At, code, mate, edge_of, Table, tables, Model, LoopRow, cycle, items_of, content, face_of, solid_of, loop_of, cycle_of, before, tail, face_at, effect, mef, edge_row, tick_same, mate_other, edge_of-code, put_same, row_elsewhere, row_of, cycle_there, cycle_sound, Mef, Accepts, after, MefGoes, mef_goes, loops-mef, Store, Extents, within, put_loop, cut, cut_loose, cut_to, put_face, IsStanding, IsUnused, with_edge, put_before, make_edge}
 use Rattle.euler_operators.specs.Table as table
-use Rattle.euler_operators.specs.declared.Op.TheVariants.{Mef}
-use Rattle.euler_conditions.specs.Ready.{Accepts, after}
-use Rattle.euler_laws.proofs.Common.{MefGoes, mef_goes, loops-mef}
-use Rattle.euler_conditions.specs.Store.{Store, Extents, within, put_loop, cut, cut_loose, cut_to, put_face}
-use Rattle.low_euler.specs.steps.Steps.{IsStanding, IsUnused, with_edge, put_before, make_edge}
 use Rattle.low_euler.proofs.steps_laws.RingSteps.{cut_old, cut_new, count_put}
 use Rattle.low_euler.proofs.steps_laws.TwoLoops as two
 use Rattle.low_euler.proofs.steps_laws.TwoLoops.{TwoLoops, Fits, CanCut}

@@ -1,10 +1,6 @@
 -- Two loose half-edges put before one half-edge, in either order.
-use Rattle.std.proofs.Common.{◌≡◌, ◌≢◌, ℕ, true, List, [], ◌∷◌, refl, sym, ap, ◌∙◌, subst}
-use Rattle.euler_operators.specs.Common.{count, joined, put_ring, HalfEdge, At, code, mate, Table, Model, LoopContent, cycle, items_of, content, has_half, loop_of, cycle_of, before, StandsIn}
-use Rattle.euler_operators.proofs.Common.{mate_other, mate-mate, holds_in}
+use Rattle.low_euler.proofs.Prelude.{◌≡◌, ◌≢◌, ℕ, true, List, [], ◌∷◌, refl, sym, ap, ◌∙◌, subst, count, joined, put_ring, HalfEdge, At, code, mate, Table, Model, LoopContent, cycle, items_of, content, has_half, loop_of, cycle_of, before, StandsIn, mate_other, mate-mate, holds_in, Store, with_loop, loose_key, join, LoopsStandApart, IsStanding, IsLoose, IsUnused, with_edge, put_before}
 use Rattle.euler_operators.specs.Table as table
-use Rattle.euler_conditions.specs.Store.{Store, with_loop, loose_key, join}
-use Rattle.low_euler.specs.steps.Steps.{LoopsStandApart, IsStanding, IsLoose, IsUnused, with_edge, put_before}
 use Rattle.low_euler.proofs.steps_laws.RingSteps.{joined_twice}
 use Rattle.low_euler.proofs.steps_laws.StoreSteps.{JoinsAlone, join_is, joins_after, was_joined, edge_turned, content_written, written_again}
 use Rattle.low_euler.proofs.steps_laws.LoopsApart.{stays-put, before_stands}

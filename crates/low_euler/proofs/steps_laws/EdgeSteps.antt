@@ -1,11 +1,6 @@
 -- What is loose while an edge is made between two corners, and once it is killed.
-use Rattle.std.proofs.Common.{◌≡◌, ◌≢◌, ℕ, true, List, [], ◌∷◌, Some, is_some, refl, sym, ap, ◌∙◌, subst, arith}
-use Rattle.std.proofs.lemmas.Bool.Decides.{nat_tests}
-use Rattle.euler_operators.specs.Common.{count, put_ring, Corner, At, Lone, code, mate, edge_of, plus, minus, Table, tables, Model, cycle, items_of, content, has_half, loop_of, cycle_of, edge_row}
-use Rattle.euler_operators.proofs.Common.{tick_other, mate_other, edge_of-mate, get-put_here}
+use Rattle.low_euler.proofs.Prelude.{◌≡◌, ◌≢◌, ℕ, true, List, [], ◌∷◌, Some, is_some, refl, sym, ap, ◌∙◌, subst, arith, nat_tests, count, put_ring, Corner, At, Lone, code, mate, edge_of, plus, minus, Table, tables, Model, cycle, items_of, content, has_half, loop_of, cycle_of, edge_row, tick_other, mate_other, edge_of-mate, get-put_here, Store, with_loop, loose_key, loose_ring, fill, IsLoose, IsUnused, with_edge, put_before, take_out, put_at}
 use Rattle.euler_operators.specs.Table as table
-use Rattle.euler_conditions.specs.Store.{Store, with_loop, loose_key, loose_ring, fill}
-use Rattle.low_euler.specs.steps.Steps.{IsLoose, IsUnused, with_edge, put_before, take_out, put_at}
 use Rattle.low_euler.proofs.steps_laws.RingSteps.{count_put}
 use Rattle.low_euler.proofs.steps_laws.LooseRings.{AreSingles, pair, pair_singles, get_first, left_second, pair_gone, singles_remove, key_is, ring_is, halves_of}
 

@@ -1,16 +1,8 @@
 -- Models of which the loops hold half-edges that are there, each once and in one loop: what stays so where one half-edge goes into a
 -- loop or leaves one, and where an edge is made.
-use Rattle.std.proofs.Common.{◌≡◌, ◌≢◌, ℕ, ◌+◌, Bool, true, false, cond, List, [], ◌∷◌, Some, None, refl, sym, ap, ◌∙◌, subst, arith, ◌⊎◌, inl, inr, true≢false, option_map}
-use Rattle.std.proofs.lemmas.Bool.{false_from_ne_true}
-use Rattle.std.proofs.lemmas.Bool.Decides.{nat_tests, eqb_tells}
-use Rattle.euler_operators.specs.Common.{count, tick, IsIn, IsApart, canonical, rest, predecessor, put_ring, insert_before, without, mate, edge_of, tables, Model, EdgeRow, LoopContent, cycle, LoopRow, items_of, holds, loop_of, content, face_of, cycle_of, before, tail, Sound, HasHalf, StandsIn, edge_row, where_held, with_before, cycle_or_lone}
-use Rattle.euler_operators.proofs.Common.{tick_same, tick_other, tick_le, IsIn_or_not, IsIn_predecessor, count-canonical, canonical_nil, without_none, edge_of-mate, map_one, get-put_other, holds_in, in-holds, holds-none, content_row, held_row, no_row, same_content, same_face}
+use Rattle.low_euler.proofs.Prelude.{◌≡◌, ◌≢◌, ℕ, ◌+◌, Bool, true, false, cond, List, [], ◌∷◌, Some, None, refl, sym, ap, ◌∙◌, subst, arith, ◌⊎◌, inl, inr, true≢false, option_map, false_from_ne_true, nat_tests, eqb_tells, count, tick, IsIn, IsApart, canonical, rest, predecessor, put_ring, insert_before, without, mate, edge_of, tables, Model, EdgeRow, LoopContent, cycle, LoopRow, items_of, holds, loop_of, content, face_of, cycle_of, before, tail, Sound, HasHalf, StandsIn, edge_row, where_held, with_before, cycle_or_lone, tick_same, tick_other, tick_le, IsIn_or_not, IsIn_predecessor, count-canonical, canonical_nil, without_none, edge_of-mate, map_one, get-put_other, holds_in, in-holds, holds-none, content_row, held_row, no_row, same_content, same_face, count_out, count_gone, apart_out, light, loop_at, Rewritten, content-new, face-same, count_or_lone, put_in, taken_out, content_none, Store, with_loop, LoopsStandApart, IsStanding, IsLoose, IsUnused, with_edge, put_before, take_out}
 use Rattle.euler_operators.specs.Table as table
-use Rattle.euler_laws.proofs.Common.{count_out, count_gone, apart_out, light, loop_at, Rewritten, content-new, face-same, count_or_lone, put_in, taken_out}
-use Rattle.euler_laws.proofs.shared.Rows.{content_none}
 use Rattle.euler_laws.proofs.shared.Same as same
-use Rattle.euler_conditions.specs.Store.{Store, with_loop}
-use Rattle.low_euler.specs.steps.Steps.{LoopsStandApart, IsStanding, IsLoose, IsUnused, with_edge, put_before, take_out}
 use Rattle.low_euler.proofs.steps_laws.RingSteps.{count_put}
 use Rattle.low_euler.proofs.steps_laws.StoreSteps.{content_written}
 

@@ -1,10 +1,6 @@
 -- Tables of loose rings of one half-edge each.
-use Rattle.std.proofs.Common.{◌≡◌, ◌≢◌, ℕ, List, [], ◌∷◌, Some, None, unwrap_or, sym, ap, ◌∙◌, arith, ◌⊎◌, inl, inr}
-use Rattle.std.proofs.lemmas.Bool.Decides.{nat_tests, eqb_tells}
-use Rattle.euler_operators.specs.Common.{count, IsIn, mate, edge_of, plus, minus, Table, tables, same_table, cycle, holds}
-use Rattle.euler_operators.proofs.Common.{tick_same, tick_other, mate_cases, first_where_is, in-holds, holds_in}
+use Rattle.low_euler.proofs.Prelude.{◌≡◌, ◌≢◌, ℕ, List, [], ◌∷◌, Some, None, unwrap_or, sym, ap, ◌∙◌, arith, ◌⊎◌, inl, inr, nat_tests, eqb_tells, count, IsIn, mate, edge_of, plus, minus, Table, tables, same_table, cycle, holds, tick_same, tick_other, mate_cases, first_where_is, in-holds, holds_in, Store, loose_key, loose_ring}
 use Rattle.euler_operators.specs.Table as table
-use Rattle.euler_conditions.specs.Store.{Store, loose_key, loose_ring}
 
 -- each ring holds the half-edge alone under which it stands
 abbrev pub AreSingles : Table (List ℕ) → Type 0

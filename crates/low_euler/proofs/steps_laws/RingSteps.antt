@@ -1,8 +1,6 @@
 -- An item that goes into a ring or leaves it, by a join or a cut after the item before.
-use Rattle.std.proofs.Common.{◌≡◌, ◌≢◌, ℕ, ◌+◌, List, [], ◌∷◌, ◌++◌, refl, sym, ap, ◌∙◌, subst, arith}
-use Rattle.euler_operators.specs.Common.{count, tick, IsIn, IsApart, last_or, canonical, rotate_to, rest, predecessor, between, beyond, cut_left, cut_right, joined, put_ring, take_ring, mef_old, mef_new}
+use Rattle.low_euler.proofs.Prelude.{◌≡◌, ◌≢◌, ℕ, ◌+◌, List, [], ◌∷◌, ◌++◌, refl, sym, ap, ◌∙◌, subst, arith, count, tick, IsIn, IsApart, last_or, canonical, rotate_to, rest, predecessor, between, beyond, cut_left, cut_right, joined, put_ring, take_ring, mef_old, mef_new, count-append, tick_same, before_at, after_at, split_at, front_of, IsIn_predecessor, count_at, ring_split, upto_other, onward_other, rest_canonical, IsApart-exchanged, apart_split, apart_joined, canonical-rotates, count-canonical, count-rotate_to, rotate_to-rotates, IsApart-rotate_to, rotate_to_is, rest_at, rest_head, rest_parts, rest_same, canonical_same, canonical_one, apart_front, apart_braced, rotate_to_whole, between_canonical, beyond_canonical, both_empty}
 use Rattle.euler_operators.specs.Items.{before, after}
-use Rattle.euler_operators.proofs.Common.{count-append, tick_same, before_at, after_at, split_at, front_of, IsIn_predecessor, count_at, ring_split, upto_other, onward_other, rest_canonical, IsApart-exchanged, apart_split, apart_joined, canonical-rotates, count-canonical, count-rotate_to, rotate_to-rotates, IsApart-rotate_to, rotate_to_is, rest_at, rest_head, rest_parts, rest_same, canonical_same, canonical_one, apart_front, apart_braced, rotate_to_whole, between_canonical, beyond_canonical, both_empty}
 
 -- a list whose last item, or x, isn't x, up to that item
 last_split : (x : ℕ) (us : List ℕ) → last_or x us ≢ x → (qs : List ℕ) × (us ≡ qs ++ last_or x us ∷ [])

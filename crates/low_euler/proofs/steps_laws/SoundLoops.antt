@@ -1,12 +1,7 @@
 -- Two loops of a model whose loops stand apart, also with a new edge whose half-edges are loose.
-use Rattle.std.proofs.Common.{◌≡◌, ◌≢◌, ℕ, ◌+◌, true, List, ◌∷◌, ◌++◌, append-nil, None, is_some, refl, sym, ap, ◌∙◌, subst, arith, inl, inr}
-use Rattle.std.proofs.lemmas.Bool.Decides.{eqb_tells}
-use Rattle.euler_operators.specs.Common.{count, IsIn, IsApart, mate, edge_of, Model, EdgeRow, items_of, content, is_number, HasHalf}
-use Rattle.euler_operators.proofs.Common.{count-append, tick_other, IsIn_or_not, apart_front, mate_other, get-put_here, number_real, mate_there, in-holds}
+use Rattle.low_euler.proofs.Prelude.{◌≡◌, ◌≢◌, ℕ, ◌+◌, true, List, ◌∷◌, ◌++◌, append-nil, None, is_some, refl, sym, ap, ◌∙◌, subst, arith, inl, inr, eqb_tells, count, IsIn, IsApart, mate, edge_of, Model, EdgeRow, items_of, content, is_number, HasHalf, count-append, tick_other, IsIn_or_not, apart_front, mate_other, get-put_here, number_real, mate_there, in-holds, content_none, LoopsStandApart}
 use Rattle.euler_operators.specs.Table as table
-use Rattle.euler_laws.proofs.shared.Rows.{content_none}
 use Rattle.low_euler.proofs.steps_laws.TwoLoops.{TwoLoops}
-use Rattle.low_euler.specs.steps.Steps.{LoopsStandApart}
 use Rattle.low_euler.proofs.steps_laws.LoopsApart.{placed-same, half-put}
 
 -- a loop that isn't there adds nothing to another

@@ -1,12 +1,7 @@
 -- What the arena's writers make of a store, where an edge is made and where one half-edge goes into a loop or leaves one.
-use Rattle.std.proofs.Common.{◌≡◌, ◌≢◌, ℕ, Bool, true, false, cond, not, List, [], ◌∷◌, is_some, refl, sym, ap, ◌∙◌, subst, eq-eqb}
-use Rattle.euler_operators.specs.Common.{IsIn, rest, cut_left, cut_right, joined, take_ring, mate, edge_of, is_first, plus, minus, code, HalfEdge, Model, EdgeRow, LoopContent, LoopRow, lone, cycle, items_of, content, face_of, has_half, loop_of, cycle_of, before, tail, edge_row, cycle_or_lone}
+use Rattle.low_euler.proofs.Prelude.{◌≡◌, ◌≢◌, ℕ, Bool, true, false, cond, not, List, [], ◌∷◌, is_some, refl, sym, ap, ◌∙◌, subst, eq-eqb, IsIn, rest, cut_left, cut_right, joined, take_ring, mate, edge_of, is_first, plus, minus, code, HalfEdge, Model, EdgeRow, LoopContent, LoopRow, lone, cycle, items_of, content, face_of, has_half, loop_of, cycle_of, before, tail, edge_row, cycle_or_lone, plus_row, mate_plus, mate_minus, mate-mate, mate_other, edge_of-mate, is_first-mate, get-put_here, put-put, put_turned, content_row, face_row, holds_in, held_row, in_no_loop, cycle_filled, Store, with_loop, with_lone, loosened, loose_key, loose_ring, join, join_loose, join_loops, cut, cut_loose, clear, IsStanding, IsLoose, with_edge, put_before, take_out}
 use Rattle.euler_operators.specs.Table as table
-use Rattle.euler_operators.proofs.Common.{plus_row, mate_plus, mate_minus, mate-mate, mate_other, edge_of-mate, is_first-mate, get-put_here, put-put, put_turned, content_row, face_row, holds_in, held_row, in_no_loop}
-use Rattle.euler_laws.proofs.Common.{cycle_filled}
 use Rattle.euler_conditions.specs.Store as store
-use Rattle.euler_conditions.specs.Store.{Store, with_loop, with_lone, loosened, loose_key, loose_ring, join, join_loose, join_loops, cut, cut_loose, clear}
-use Rattle.low_euler.specs.steps.Steps.{IsStanding, IsLoose, with_edge, put_before, take_out}
 use Rattle.low_euler.proofs.steps_laws.RingSteps.{joined_before, cut_keeps, cut_takes, follows, nothing_follows, alone_list}
 
 -- ---- a new edge

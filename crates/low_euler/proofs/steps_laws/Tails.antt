@@ -1,13 +1,8 @@
 -- A walk round a vertex from one half-edge up to before another, which lets each that it meets start elsewhere.
-use Rattle.std.proofs.Common.{◌≡◌, ◌≢◌, ℕ, ◌+◌, ◌<◌, ◌≤◌, Bool, true, false, cond, nat_lt, List, [], ◌∷◌, ◌++◌, length, Option, Some, None, is_some, unwrap_or, refl, sym, ap, ◌∙◌, subst, arith, inl, inr, true≢false, ne_eqb, option_map}
-use Rattle.std.proofs.lemmas.Bool.Decides.{nat_tests, eqb_tells}
-use Rattle.euler_operators.specs.Common.{count, tick, IsIn, IsApart, head_or, rest, successor, rotate_to, upto, IsRing, HalfEdge, code, mate, edge_of, is_first, plus, minus, Table, tables, same_table, Model, EdgeRow, no_edge, tail_in, tail, loop_of, after, round, arc, content, items_of, Sound, HasHalf, with_tails}
+use Rattle.low_euler.proofs.Prelude.{◌≡◌, ◌≢◌, ℕ, ◌+◌, ◌<◌, ◌≤◌, Bool, true, false, cond, nat_lt, List, [], ◌∷◌, ◌++◌, length, Option, Some, None, is_some, unwrap_or, refl, sym, ap, ◌∙◌, subst, arith, inl, inr, true≢false, ne_eqb, option_map, nat_tests, eqb_tells, count, tick, IsIn, IsApart, head_or, rest, successor, rotate_to, upto, IsRing, HalfEdge, code, mate, edge_of, is_first, plus, minus, Table, tables, same_table, Model, EdgeRow, no_edge, tail_in, tail, loop_of, round, arc, content, items_of, Sound, HasHalf, with_tails, tick_same, tick_other, next_is_successor, IsIn_successor, rotation_at, count_at, apart_at, rotate_to_is, rotate_to_same, rotate_at, upto_itself, plus_row, minus_row, edge_of-code, map_same, row_some, get-put_here, get-put_other, number_real, loop_there, mate_there as half_mate, steps_are, half_below, Fan, fan_of, mapped_some, tails_of_row, halves_of_edge, arc_is, Store, set_tail, with_tails_at}
+use Rattle.euler_operators.specs.Common.{after}
 use Rattle.euler_operators.specs.Items.{before as before_item}
-use Rattle.euler_operators.proofs.Common.{tick_same, tick_other, next_is_successor, IsIn_successor, rotation_at, count_at, apart_at, rotate_to_is, rotate_to_same, rotate_at, upto_itself, plus_row, minus_row, edge_of-code, map_same, row_some, get-put_here, get-put_other, number_real, loop_there, mate_there as half_mate}
 use Rattle.euler_operators.specs.Table as table
-use Rattle.euler_laws.proofs.Common.{steps_are, half_below, Fan, fan_of, mapped_some, tails_of_row, halves_of_edge, arc_is}
-use Rattle.euler_conditions.specs.Store.{Store, set_tail}
-use Rattle.low_euler.specs.steps.Steps.{with_tails_at}
 use Rattle.low_euler.proofs.steps_laws.LoopsApart.{loop_of-same, content-same}
 
 -- ---- the arc from one half-edge, and from the next one round

@@ -1,12 +1,6 @@
 -- Stores that differ in the contents of two loops only: what the readers answer there, and what the steps make of them.
-use Rattle.std.proofs.Common.{◌≡◌, ◌≢◌, ℕ, ◌+◌, ◌≤◌, true, cond, List, [], ◌∷◌, Some, is_some, unwrap_or, sym, ap, ◌∙◌, subst, arith, ◌⊎◌, inl, inr, ne_eqb}
-use Rattle.std.proofs.lemmas.Bool.Decides.{nat_tests, eqb_tells}
-use Rattle.euler_operators.specs.Common.{count, IsIn, IsApart, rest, predecessor, cut_left, cut_right, joined, put_ring, Table, tables, same_table, Model, LoopContent, LoopRow, cycle, holds, items_of, content, face_of, has_half, loop_of, cycle_of, before, tail, no_loop, HasHalf, StandsIn, cycle_or_lone}
-use Rattle.euler_operators.proofs.Common.{IsIn_predecessor, put-put, put_turned, put_same, content_row, face_row, same_content, in-holds, holds_in}
+use Rattle.low_euler.proofs.Prelude.{◌≡◌, ◌≢◌, ℕ, ◌+◌, ◌≤◌, true, cond, List, [], ◌∷◌, Some, is_some, unwrap_or, sym, ap, ◌∙◌, subst, arith, ◌⊎◌, inl, inr, ne_eqb, nat_tests, eqb_tells, count, IsIn, IsApart, rest, predecessor, cut_left, cut_right, joined, put_ring, Table, tables, same_table, Model, LoopContent, LoopRow, cycle, holds, items_of, content, face_of, has_half, loop_of, cycle_of, before, tail, no_loop, HasHalf, StandsIn, cycle_or_lone, IsIn_predecessor, put-put, put_turned, put_same, content_row, face_row, same_content, in-holds, holds_in, loop_at, Store, Extents, join, join_loose, join_loops, cut_to, IsStanding, put_before, take_out}
 use Rattle.euler_operators.specs.Table as table
-use Rattle.euler_laws.proofs.Common.{loop_at}
-use Rattle.euler_conditions.specs.Store.{Store, Extents, join, join_loose, join_loops, cut_to}
-use Rattle.low_euler.specs.steps.Steps.{IsStanding, put_before, take_out}
 use Rattle.low_euler.proofs.steps_laws.LooseRings.{AreSingles, key_is}
 
 -- two loops of a model, which get the faces fr and fl, and half-edges that stand in no other loop

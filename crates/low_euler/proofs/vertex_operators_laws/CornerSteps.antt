@@ -1,13 +1,6 @@
 -- An edge made at two half-edges by the writers of an arena.
-use Rattle.std.proofs.Common.{◌≡◌, ◌≢◌, ℕ, false, None, is_some, sym, ap, ◌∙◌}
-use Rattle.euler_operators.specs.Common.{Point, HalfEdge, At, code, mate, edge_of, loop_of, before, tail, arc, effect, mev_at, with_before, with_tails, edge_row}
+use Rattle.low_euler.proofs.Prelude.{◌≡◌, ◌≢◌, ℕ, false, None, is_some, sym, ap, ◌∙◌, Point, HalfEdge, At, code, mate, edge_of, loop_of, before, tail, arc, effect, mev_at, with_before, with_tails, edge_row, edge_of-code, Mev, MevGoes, mev_goes, Store, put_vertex, Accepts, after, LoopsStandApart, IsStanding, IsUnused, with_edge, put_before, make_edge, with_tails_at}
 use Rattle.euler_operators.specs.Table as table
-use Rattle.euler_operators.proofs.Common.{edge_of-code}
-use Rattle.euler_operators.specs.declared.Op.TheVariants.{Mev}
-use Rattle.euler_laws.proofs.Common.{MevGoes, mev_goes}
-use Rattle.euler_conditions.specs.Store.{Store, put_vertex}
-use Rattle.euler_conditions.specs.Ready.{Accepts, after}
-use Rattle.low_euler.specs.steps.Steps.{LoopsStandApart, IsStanding, IsUnused, with_edge, put_before, make_edge, with_tails_at}
 use Rattle.low_euler.proofs.steps_laws.LoopsApart.{HasLoop, placed_of, placed-same, loop-same, before-same, never_zero, standing_of, placed-edge, unused_of, loops_E, loops_put, placed-put, loop-put}
 use Rattle.low_euler.proofs.steps_laws.EdgeSteps as edge
 use Rattle.low_euler.proofs.steps_laws.EdgeSteps.{first_loose, second_loose}

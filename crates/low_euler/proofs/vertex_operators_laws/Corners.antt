@@ -1,10 +1,5 @@
 -- The corners at which mev may be called.
-use Rattle.std.proofs.Common.{◌≡◌, ℕ, None, sym, ap, subst, ◌∙◌}
-use Rattle.euler_operators.specs.Common.{Point, HalfEdge, Corner, At, Lone, Model, lone, content, Sound, first_false, lone_vertex}
-use Rattle.euler_operators.specs.declared.Op.TheVariants.{Mev}
-use Rattle.euler_laws.proofs.Common.{mev_holds, mixed_first, mixed_second, lone_is}
-use Rattle.euler_conditions.specs.Store.{Store}
-use Rattle.euler_conditions.specs.Ready.{Accepts, after}
+use Rattle.low_euler.proofs.Prelude.{◌≡◌, ℕ, None, sym, ap, subst, ◌∙◌, Point, HalfEdge, Corner, At, Lone, Model, lone, content, Sound, first_false, lone_vertex, Mev, mev_holds, mixed_first, mixed_second, lone_is, Store, Accepts, after}
 
 -- two lone loops at one vertex are one
 same_lone : (M : Model) (l d : ℕ) (h : HalfEdge) (v : ℕ) (p : Point) → Sound M → first_false M (Mev (Lone l) (Lone d) h v p) ≡ None → d ≡ l

@@ -1,16 +1,9 @@
 -- An edge and the vertex at its far end killed by the writers of an arena.
-use Rattle.std.proofs.Common.{◌≡◌, ◌≢◌, ℕ, true, false, cond, nat_eq, nat_lt, List, [], ◌∷◌, ◌++◌, None, unwrap_or, refl, sym, ap, subst, ◌∙◌, arith, ◌⊎◌, inl, inr}
-use Rattle.std.proofs.lemmas.Bool.Decides.{nat_tests, eqb_tells}
-use Rattle.euler_operators.specs.Common.{count, IsIn, IsApart, canonical, rest, rotate_to, successor, predecessor, without, HalfEdge, code, mate, edge_of, is_first, plus, minus, Model, LoopContent, cycle, no_edge, items_of, holds, tail, tail_in, loop_of, face_of, content, after, round, arc, HasHalf, effect, kev, cycle_or_lone}
+use Rattle.low_euler.proofs.Prelude.{◌≡◌, ◌≢◌, ℕ, true, false, cond, nat_eq, nat_lt, List, [], ◌∷◌, ◌++◌, None, unwrap_or, refl, sym, ap, subst, ◌∙◌, arith, ◌⊎◌, inl, inr, nat_tests, eqb_tells, count, IsIn, IsApart, canonical, rest, rotate_to, successor, predecessor, without, HalfEdge, code, mate, edge_of, is_first, plus, minus, Model, LoopContent, cycle, no_edge, items_of, holds, tail, tail_in, loop_of, face_of, content, round, arc, HasHalf, effect, kev, cycle_or_lone, tick_other, IsIn_or_not, next_is_successor, IsIn_successor, predecessor-successor, count_at, count-canonical, IsApart-canonical, canonical-rotates, rest_same, without_none, count-without, upto_once, mate_other, mate-mate, get-remove_here, get-remove_other, in-holds, holds-none, cycle_there, mate_there as half_mate, Kev, Fan, half_after, none_in_fan, apart_out, arc_is, same_loops, same_edges, taken_out, KevGoes, fan_killed, m_in, touched, emptied, half_cases, tail_old, edge_gone, edge_mapped, not_m, cycle_filled, mapped_some, kev_goes, Store, take_edge, take_vertex, Accepts, after as after_op, LoopsStandApart, IsStanding, take_out, kill_edge, with_tails_at}
+use Rattle.euler_operators.specs.Common.{after}
 use Rattle.euler_operators.specs.Items.{before as before_item, after as after_item}
-use Rattle.euler_operators.proofs.Common.{tick_other, IsIn_or_not, next_is_successor, IsIn_successor, predecessor-successor, count_at, count-canonical, IsApart-canonical, canonical-rotates, rest_same, without_none, count-without, upto_once, mate_other, mate-mate, get-remove_here, get-remove_other, in-holds, holds-none, cycle_there, mate_there as half_mate}
 use Rattle.euler_operators.specs.Table as table
-use Rattle.euler_operators.specs.declared.Op.TheVariants.{Kev}
-use Rattle.euler_laws.proofs.Common.{Fan, half_after, none_in_fan, apart_out, arc_is, same_loops, same_edges, taken_out, KevGoes, fan_killed, m_in, touched, emptied, half_cases, tail_old, edge_gone, edge_mapped, not_m, cycle_filled, mapped_some, kev_goes}
 use Rattle.euler_laws.proofs.kev.KevSound as kill
-use Rattle.euler_conditions.specs.Store.{Store, take_edge, take_vertex}
-use Rattle.euler_conditions.specs.Ready.{Accepts, after as after_op}
-use Rattle.low_euler.specs.steps.Steps.{LoopsStandApart, IsStanding, take_out, kill_edge, with_tails_at}
 use Rattle.low_euler.proofs.steps_laws.RingSteps.{upto_before}
 use Rattle.low_euler.proofs.steps_laws.LooseRings.{edge_gone as both_gone}
 use Rattle.low_euler.proofs.steps_laws.LoopsApart.{HasLoop, placed_of, placed-same, loop-same, content-same, face_of-same, never_zero, standing_of, same_or_lone, placed-taken, loop-taken, content-O, face-O, has-O}

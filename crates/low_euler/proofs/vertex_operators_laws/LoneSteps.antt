@@ -1,14 +1,7 @@
 -- An edge made at a lone loop by the writers of an arena.
-use Rattle.std.proofs.Common.{◌≡◌, ◌≢◌, ℕ, ◌+◌, true, false, List, [], ◌∷◌, is_some, refl, sym, ap, subst, ◌∙◌, arith, true≢false}
-use Rattle.euler_operators.specs.Common.{Point, count, tick, canonical, put_ring, HalfEdge, At, Lone, code, mate, cycle, items_of, loop_of, cycle_of, face_of, content, is_number, StandsIn, lone_vertex, is_lone, effect, mev_lone}
-use Rattle.euler_operators.proofs.Common.{tick_other, tick_le, apart_front, rotate_to_head, canonical_same, mate_other, edge_of-code}
+use Rattle.low_euler.proofs.Prelude.{◌≡◌, ◌≢◌, ℕ, ◌+◌, true, false, List, [], ◌∷◌, is_some, refl, sym, ap, subst, ◌∙◌, arith, true≢false, Point, count, tick, canonical, put_ring, HalfEdge, At, Lone, code, mate, cycle, items_of, loop_of, cycle_of, face_of, content, is_number, StandsIn, lone_vertex, is_lone, effect, mev_lone, tick_other, tick_le, apart_front, rotate_to_head, canonical_same, mate_other, edge_of-code, Mev, lone_goes, Store, put_vertex, fill, with_loop, Accepts, after, LoopsStandApart, IsStanding, IsLoose, IsUnused, CanTake, with_edge, put_before, make_edge}
 use Rattle.euler_operators.specs.Table as table
-use Rattle.euler_operators.specs.declared.Op.TheVariants.{Mev}
 use Rattle.euler_laws.proofs.mev.MevLoneSound.{LoneGoes}
-use Rattle.euler_laws.proofs.Common.{lone_goes}
-use Rattle.euler_conditions.specs.Store.{Store, put_vertex, fill, with_loop}
-use Rattle.euler_conditions.specs.Ready.{Accepts, after}
-use Rattle.low_euler.specs.steps.Steps.{LoopsStandApart, IsStanding, IsLoose, IsUnused, CanTake, with_edge, put_before, make_edge}
 use Rattle.low_euler.proofs.steps_laws.StoreSteps.{content_written, written_again}
 use Rattle.low_euler.proofs.steps_laws.LoopsApart.{placed_of, placed-same, placed-edge, placed_with, stands_there, standing_of, unused_of}
 use Rattle.low_euler.proofs.steps_laws.EdgeSteps.{first_key, first_ring, first_loose, second_key, none_loose}

@@ -1,13 +1,6 @@
 -- A solid with one face and one vertex, made and killed by the writers of an arena.
-use Rattle.std.proofs.Common.{◌≡◌, ℕ, true, [], ◌∷◌, Some, None, is_some, unwrap_or, sym, ap, subst, ◌∙◌}
-use Rattle.euler_operators.specs.Common.{Point, Table, Model, LoopRow, lone, cycle, items_of, no_loop, outer, face_of, faces_of, content, first_false, lone_vertex, effect, mvfs, kvfs_at, head_or_zero}
+use Rattle.low_euler.proofs.Prelude.{◌≡◌, ℕ, true, [], ◌∷◌, Some, None, is_some, unwrap_or, sym, ap, subst, ◌∙◌, Point, Table, Model, LoopRow, lone, cycle, items_of, no_loop, outer, face_of, faces_of, content, first_false, lone_vertex, effect, mvfs, kvfs_at, head_or_zero, Mvfs, Kvfs, get-put_here, put-put, KvfsGoes, faces_one, kvfs_goes, Store, put_vertex, put_solid, put_face, put_loop, with_lone, only_item, take_solid, take_face, take_loop, take_vertex, IsReady, after, one_face}
 use Rattle.euler_operators.specs.Table as table
-use Rattle.euler_operators.specs.declared.Op.TheVariants.{Mvfs, Kvfs}
-use Rattle.euler_operators.proofs.Common.{get-put_here, put-put}
-use Rattle.euler_laws.proofs.Common.{KvfsGoes, faces_one, kvfs_goes}
-use Rattle.euler_conditions.specs.Store.{Store, put_vertex, put_solid, put_face, put_loop, with_lone, only_item, take_solid, take_face, take_loop, take_vertex}
-use Rattle.euler_conditions.specs.Ready.{IsReady, after}
-use Rattle.euler_conditions.proofs.Solids.{one_face}
 
 module _ (s : Store) (n f l v : ℕ) (p : Point) where
   abbrev pub begun : Store

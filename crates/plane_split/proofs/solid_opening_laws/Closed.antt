@@ -1,17 +1,6 @@
 -- The part that is left once the holes are closed.
-use Rattle.std.proofs.Common.{◌≡◌, ℕ, ◌≤◌, Bool, true, cond, List, [], ◌∷◌, ◌++◌, length, filter, slice_index_or, refl, sym, ap, ◌∙◌, subst}
-use Rattle.euler_operators.specs.Common.{Model}
-use Rattle.euler_operators.specs.declared.Op.{Op}
-use Rattle.euler_operators.specs.declared.Op.TheVariants.{Kfmrh, Part}
-use Rattle.euler_laws.specs.Laws.{AreAccepted, effects}
+use Rattle.plane_split.proofs.Prelude.{◌≡◌, ℕ, ◌≤◌, Bool, true, cond, List, [], ◌∷◌, ◌++◌, length, filter, slice_index_or, refl, sym, ap, ◌∙◌, subst, Model, Op, Kfmrh, Part, AreAccepted, effects, outer_caps, upper_left, closing_ops, hole_ops, others, parts, Caps, caps_of, all_caps, holes_ops, outer_uppers, Leads, AreAccepted-front, some_taken}
 use Rattle.shapes.specs.split.Opening as shape
-use Rattle.shapes.specs.Common.{outer_caps, upper_left}
-use Rattle.split_laws.specs.SplitOps.{closing_ops, hole_ops}
-use Rattle.split_drawing.proofs.CutPlaces.{others, parts}
-use Rattle.plane_split.specs.declared.solid_opening.caps.Caps.{Caps}
-use Rattle.plane_split.specs.solid_opening.Capped.{caps_of, all_caps}
-use Rattle.plane_split.specs.solid_opening.Closing.{holes_ops, outer_uppers}
-use Rattle.euler_laws.proofs.Common.{Leads, AreAccepted-front, some_taken}
 
 module _ (M : Model) (s t : ℕ) (above : List ℕ) (caps : List Caps) (outer : Caps) (is : caps_of outer ≡ outer_caps (all_caps caps))
     (accepted : AreAccepted M (hole_ops (all_caps caps) ++ Part s t (upper_left above (all_caps caps)) ∷ [])) where

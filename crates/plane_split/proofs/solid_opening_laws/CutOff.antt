@@ -1,14 +1,7 @@
 -- The strips of a cycle cut off one after the other.
-use Rattle.std.proofs.Common.{◌≡◌, ℕ, ◌+◌, ◌≤◌, ◌<◌, List, [], ◌∷◌, ◌++◌, length, None, sym, ap, ◌∙◌, subst, arith, get_or}
-use Rattle.euler_operators.specs.Common.{mate, Model, HasHalf, first_false}
-use Rattle.euler_laws.specs.Laws.{effects}
-use Rattle.shapes.specs.Common.{Taken}
-use Rattle.split_opening_laws.specs.strips.Strips.{strips_cut}
-use Rattle.split_opening_laws.specs.strips.StripOps.{cut_strip, strip_ops}
+use Rattle.plane_split.proofs.Prelude.{◌≡◌, ℕ, ◌+◌, ◌≤◌, ◌<◌, List, [], ◌∷◌, ◌++◌, length, None, sym, ap, ◌∙◌, subst, arith, get_or, mate, Model, HasHalf, first_false, effects, Taken, strips_cut, cut_strip, strip_ops, cut_half, strip_accepted, CanOpen}
 use Rattle.split_opening_laws.proofs.strips.Cycle as on
-use Rattle.split_opening_laws.proofs.strips.Strip.{cut_half, strip_accepted}
 use Rattle.split_opening_laws.proofs.strips.Whole.{strips_lead, part_sound}
-use Rattle.plane_split.specs.solid_opening.Stages.{CanOpen}
 use Rattle.plane_split.proofs.solid_opening_laws.Items.{one_on}
 
 module _ (M : Model) (s : ℕ) (c : Taken) (bs : List ℕ) (can : CanOpen M s c bs) where

@@ -1,16 +1,5 @@
 -- A solid opened along one cycle: each of its three stages can be taken.
-use Rattle.std.proofs.Common.{◌≡◌, ℕ, ◌+◌, ◌*◌, ◌≤◌, ◌<◌, List, ◌++◌, length, map, sym, ap, ◌∙◌, subst, arith}
-use Rattle.std.proofs.lemmas.List.{length-map}
-use Rattle.euler_operators.specs.Common.{HalfEdge, code, Model}
-use Rattle.euler_operators.specs.declared.Op.{Op}
-use Rattle.euler_laws.specs.Laws.{AreAccepted, effects}
-use Rattle.euler_laws.proofs.Common.{effects-append, AreAccepted-back}
-use Rattle.shapes.specs.Common.{Taken}
-use Rattle.split_opening_laws.specs.strips.StripOps.{strip_ops, copy_ops}
-use Rattle.split_opening_laws.specs.caps.CapOps.{cap_ops}
-use Rattle.split_opening_laws.specs.opening.OpeningOps.{opening_ops}
-use Rattle.split_opening_laws.proofs.opening.Whole.{opening_accepted}
-use Rattle.plane_split.specs.solid_opening.Stages.{CanOpen, AreStripped}
+use Rattle.plane_split.proofs.Prelude.{◌≡◌, ℕ, ◌+◌, ◌*◌, ◌≤◌, ◌<◌, List, ◌++◌, length, map, sym, ap, ◌∙◌, subst, arith, length-map, HalfEdge, code, Model, Op, AreAccepted, effects, effects-append, AreAccepted-back, Taken, strip_ops, copy_ops, cap_ops, opening_ops, opening_accepted, CanOpen, AreStripped}
 use Rattle.plane_split.proofs.solid_opening_laws.CutOff.{so_far}
 use Rattle.plane_split.proofs.solid_opening_laws.Raised.{read_before}
 

@@ -1,11 +1,5 @@
 -- The half-edges of a cycle as the code holds them, and the operators that it makes of them.
-use Rattle.std.proofs.Common.{◌≡◌, ℕ, suc, ◌+◌, ◌<◌, List, map, length, slice_index_or, sym, ap, ◌∙◌, subst, arith, get_or}
-use Rattle.std.proofs.lemmas.List.{get_or-map, length-map}
-use Rattle.euler_operators.specs.Common.{Point, HalfEdge, At, code, half, edge_of, mate, plus, minus, Model, tail, point_of, after, Has, HasHalf}
-use Rattle.euler_operators.proofs.Common.{half-code, edge_of-code}
-use Rattle.euler_operators.specs.declared.Op.TheVariants.{Mev, Mef}
-use Rattle.shapes.specs.Common.{Taken}
-use Rattle.split_opening_laws.specs.strips.StripOps.{cut_strip, place_before, raise_copy}
+use Rattle.plane_split.proofs.Prelude.{◌≡◌, ℕ, suc, ◌+◌, ◌<◌, List, map, length, slice_index_or, sym, ap, ◌∙◌, subst, arith, get_or, get_or-map, length-map, Point, HalfEdge, At, code, half, edge_of, mate, plus, minus, Model, tail, point_of, after, Has, HasHalf, half-code, edge_of-code, Mev, Mef, Taken, cut_strip, place_before, raise_copy}
 use Rattle.split_opening_laws.proofs.strips.Cycle.{before_below}
 
 -- the half-edge at a place

@@ -1,12 +1,5 @@
 -- The risers killed one after the other, and what is left then of the operators that make caps.
-use Rattle.std.proofs.Common.{◌≡◌, ℕ, suc, ◌+◌, ◌-◌, ◌*◌, ◌≤◌, ◌<◌, List, [], ◌∷◌, ◌++◌, map, None, refl, sym, ap, ◌∙◌, subst, append_assoc, arith}
-use Rattle.euler_operators.specs.Common.{HalfEdge, half, plus, minus, Model, first_false, effect}
-use Rattle.euler_operators.specs.declared.Op.{Op}
-use Rattle.euler_operators.specs.declared.Op.TheVariants.{Kef, Kemr, Mfkrh}
-use Rattle.euler_laws.specs.Laws.{AreAccepted, effects}
-use Rattle.shapes.specs.Common.{Taken, numbers_after}
-use Rattle.split_opening_laws.specs.caps.CapOps.{joinings, partings, cap_ops}
-use Rattle.euler_laws.proofs.Common.{Leads, AreAccepted-front, some_taken}
+use Rattle.plane_split.proofs.Prelude.{◌≡◌, ℕ, suc, ◌+◌, ◌-◌, ◌*◌, ◌≤◌, ◌<◌, List, [], ◌∷◌, ◌++◌, map, None, refl, sym, ap, ◌∙◌, subst, append_assoc, arith, HalfEdge, half, plus, minus, Model, first_false, effect, Op, Kef, Kemr, Mfkrh, AreAccepted, effects, Taken, numbers_after, joinings, partings, cap_ops, Leads, AreAccepted-front, some_taken}
 
 -- the edges after k up to the last go
 abbrev pub kills : ℕ → ℕ → List Op

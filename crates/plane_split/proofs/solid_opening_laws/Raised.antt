@@ -1,23 +1,13 @@
 -- The copies of a cycle's vertices raised one after the other, once its strips are cut off.
-use Rattle.std.proofs.Common.{◌≡◌, ℕ, zero, suc, ◌+◌, ◌≤◌, ◌<◌, cond, not, ◌&&◌, List, [], ◌∷◌, ◌++◌, length, map, None, unwrap_or, refl, sym, ap, ◌∙◌, subst, arith, inl, inr, get_or}
-use Rattle.euler_operators.specs.Common.{Point, count, At, mate, half, plus, minus, Model, tail, point_of, no_point, Sound, HasHalf, first_false, lists}
-use Rattle.euler_operators.proofs.Common.{IsIn_or_not}
+use Rattle.plane_split.proofs.Prelude.{◌≡◌, ℕ, zero, suc, ◌+◌, ◌≤◌, ◌<◌, cond, not, ◌&&◌, List, [], ◌∷◌, ◌++◌, length, map, None, unwrap_or, refl, sym, ap, ◌∙◌, subst, arith, inl, inr, get_or, Point, count, At, mate, half, plus, minus, Model, tail, point_of, no_point, Sound, HasHalf, first_false, lists, IsIn_or_not, Op, Mev, effects, Taken, numbers_after, renamed, copy_riser, copied, strips_cut, copies_raised, place_before, raise_copy, copy_ops, cut_tail, AreStripped}
 use Rattle.euler_operators.specs.Table as table
-use Rattle.euler_operators.specs.declared.Op.{Op}
-use Rattle.euler_operators.specs.declared.Op.TheVariants.{Mev}
-use Rattle.euler_laws.specs.Laws.{effects}
-use Rattle.shapes.specs.Common.{Taken, numbers_after, renamed}
 use Rattle.split_opening_laws.proofs.sections.Numbered.{in_numbers}
 use Rattle.split_opening_laws.proofs.sections.StillFree.{copied_other}
-use Rattle.split_opening_laws.specs.strips.Strips.{copy_riser, copied, strips_cut, copies_raised}
-use Rattle.split_opening_laws.specs.strips.StripOps.{place_before, raise_copy, copy_ops}
 use Rattle.split_opening_laws.specs.strips.Opened.{CanBeOpened}
 use Rattle.split_opening_laws.proofs.strips.Cycle as on
-use Rattle.split_opening_laws.proofs.strips.Strip.{cut_tail}
 use Rattle.split_opening_laws.proofs.copies.Copies.{copy_accepted}
 use Rattle.split_opening_laws.proofs.copies.Raised.{old_half, old_tail, raised_vertices}
 use Rattle.split_opening_laws.proofs.copies.Raising.{copies_lead, part_sound}
-use Rattle.plane_split.specs.solid_opening.Stages.{AreStripped}
 use Rattle.plane_split.proofs.solid_opening_laws.Items.{one_on}
 
 -- an operator that raises a copy, by the point of the vertex

@@ -1,23 +1,9 @@
 -- The cycles of a section, along which a solid is opened one after the other.
-use Rattle.std.proofs.Common.{◌≡◌, ℕ, ◌+◌, ◌*◌, ◌≤◌, Bool, false, List, [], ◌∷◌, ◌++◌, length, map, slice_index_or, sym, ap, ◌∙◌, subst, drop, append_assoc}
-use Rattle.std.proofs.lemmas.List.{length-map, map-append}
-use Rattle.euler_operators.specs.Common.{Plane, HalfEdge, code, Model}
-use Rattle.euler_laws.specs.Laws.{effects}
-use Rattle.shapes.specs.Common.{is_hole, Opening, opened_along, next_opened, all_opened}
-use Rattle.split_opening_laws.specs.sections.InTurn.{CanBeOpenedInTurn}
+use Rattle.plane_split.proofs.Prelude.{◌≡◌, ℕ, ◌+◌, ◌*◌, ◌≤◌, Bool, false, List, [], ◌∷◌, ◌++◌, length, map, slice_index_or, sym, ap, ◌∙◌, subst, drop, append_assoc, length-map, map-append, Plane, HalfEdge, code, Model, effects, is_hole, Opening, opened_along, next_opened, all_opened, CanBeOpenedInTurn, opening_ops, opening_made, openings_ops, others, parts, taken_of, halves_of, caps_of, all_caps, opening_of, CanOpen, Caps}
 use Rattle.split_opening_laws.proofs.sections.InTurn.{can_open, others_on}
-use Rattle.split_opening_laws.specs.opening.OpeningOps.{opening_ops}
-use Rattle.split_opening_laws.proofs.opening.Whole.{opening_made}
-use Rattle.split_laws.specs.SplitOps.{openings_ops}
 use Rattle.split_laws.proofs.Flags.{flags_are, next_flags}
-use Rattle.split_drawing.proofs.CutPlaces.{others, parts}
-use Rattle.split_drawing.specs.Counters.{taken_of}
 use Rattle.split_drawing.specs.declared.Counters.{Counters}
-use Rattle.split_sections.specs.section_cycles.Halves.{halves_of}
 use Rattle.split_sections.specs.declared.section_cycles.cycle.Cycle.{Cycle}
-use Rattle.plane_split.specs.solid_opening.Capped.{caps_of, all_caps, opening_of}
-use Rattle.plane_split.specs.solid_opening.Stages.{CanOpen}
-use Rattle.plane_split.specs.declared.solid_opening.caps.Caps.{Caps}
 
 -- ---- hole flags
 

@@ -1,11 +1,7 @@
 -- The bits of a word: the lowest and the greatest, those of a word that is shifted, and one that is set or cleared.
-use Rattle.std.proofs.Common.{◌≡◌, ℕ, suc, ◌+◌, ◌-◌, ◌*◌, ◌/◌, ◌%◌, ◌^◌, ◌≤◌, ◌<◌, true, false, cond, nat_eq, bit_and, bit_or, bit_xor, refl, true-eqb, sym, ap, ◌∙◌, arith, eq-eqb, ne_eqb, inl, inr, pow-add, w64}
-use Rattle.std.proofs.lemmas.Bool.{cases_eq, agree_below_at}
+use Rattle.raw_cells.proofs.Prelude.{◌≡◌, ℕ, suc, ◌+◌, ◌-◌, ◌*◌, ◌/◌, ◌%◌, ◌^◌, ◌≤◌, ◌<◌, true, false, cond, nat_eq, bit_and, bit_or, bit_xor, refl, true-eqb, sym, ap, ◌∙◌, arith, eq-eqb, ne_eqb, inl, inr, pow-add, w64, cases_eq, agree_below_at, bit_at-zero, bit_at_above, bit_at-trailing_zeros, bit_at_set_same, bit_at_set_other, bit_at_clear_same, bit_at_clear_other, bit_at, bit_not, trailing_zeros, leading_zeros, is_set}
 use Rattle.std.proofs.Math.Nat.{div-div-eq-div-mul, div-eq_of_lt-le, pow-suc}
 use Rattle.std.proofs.lemmas.Nat.{leading_top}
-use Rattle.std.proofs.lemmas.Nat.Bits.{bit_at-zero, bit_at_above, bit_at-trailing_zeros, bit_at_set_same, bit_at_set_other, bit_at_clear_same, bit_at_clear_other}
-use Rattle.std.specs.Int.{bit_at, bit_not, trailing_zeros, leading_zeros}
-use Rattle.raw_cells.specs.Numbers.{is_set}
 
 pub set_bit : (word k : ℕ) → bit_at word k ≡ 1 → is_set word k ≡ true
 set_bit word k e = eq-eqb (bit_at word k) 1 e

@@ -1,9 +1,5 @@
 -- Cells with the numbers in use among them, as rows.
-use Rattle.std.proofs.Common.{◌≡◌, ℕ, zero, suc, ◌*◌, ◌/◌, ◌≤◌, ◌<◌, Bool, true, false, cond, nat_eq, List, [], ◌∷◌, length, take, slice_set, Option, Some, None, is_some, refl, sym, ap, subst, ◌∙◌, arith, eq-eqb, ne_eqb, true≢false, inl, inr, get_or-set_same, get_or-set_other, get_or-take, length-set, length-take-le}
-use Rattle.std.proofs.lemmas.Bool.{cases_eq, cases_lt}
-use Rattle.raw_cells.specs.Numbers.{IsLast}
-use Rattle.raw_cells.specs.Rows.{row_at, has_row, rows_of, AreCells}
-use Rattle.raw_cells.specs.Numbers.{IsNext, uses}
+use Rattle.raw_cells.proofs.Prelude.{◌≡◌, ℕ, zero, suc, ◌*◌, ◌/◌, ◌≤◌, ◌<◌, Bool, true, false, cond, nat_eq, List, [], ◌∷◌, length, take, slice_set, Option, Some, None, is_some, refl, sym, ap, subst, ◌∙◌, arith, eq-eqb, ne_eqb, true≢false, inl, inr, get_or-set_same, get_or-set_other, get_or-take, length-set, length-take-le, cases_eq, cases_lt, IsLast, row_at, has_row, rows_of, AreCells, IsNext, uses}
 use Rattle.raw_cells.proofs.numbers_laws.Lasts.{last_same}
 use Rattle.raw_cells.proofs.numbers_laws.Words.{uses_past}
 

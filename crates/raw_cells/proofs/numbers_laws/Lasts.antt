@@ -1,6 +1,5 @@
 -- The greatest number in use where one number comes or goes.
-use Rattle.std.proofs.Common.{◌≡◌, ℕ, Bool, false, ◌∙◌, refl}
-use Rattle.raw_cells.specs.Numbers.{IsLast}
+use Rattle.raw_cells.proofs.Prelude.{◌≡◌, ℕ, Bool, false, ◌∙◌, refl, IsLast}
 
 pub last_none : (used : ℕ → Bool) → ((k : ℕ) → used k ≡ false) → IsLast used 0
 last_none used none = record { here = λ n. absurd (n refl); above = λ k h. none k }

@@ -1,7 +1,5 @@
 -- The next number in use and the greatest one by two levels, of which the higher says which 64 numbers have one in use.
-use Rattle.std.proofs.Common.{◌≡◌, ◌≢◌, ℕ, ◌+◌, ◌*◌, ◌/◌, ◌<◌, Bool, false, Option, Some, None, refl, sym, subst, arith, inl, inr}
-use Rattle.std.proofs.lemmas.Bool.{cases_lt}
-use Rattle.raw_cells.specs.Numbers.{IsFirstIn, IsLastIn, IsNext}
+use Rattle.raw_cells.proofs.Prelude.{◌≡◌, ◌≢◌, ℕ, ◌+◌, ◌*◌, ◌/◌, ◌<◌, Bool, false, Option, Some, None, refl, sym, subst, arith, inl, inr, cases_lt, IsFirstIn, IsLastIn, IsNext}
 
 module _ (low high : ℕ → Bool) (none_in : (g k : ℕ) → high g ≡ false → k / 64 ≡ g → low k ≡ false) where
   module _ (n : ℕ) where

@@ -1,12 +1,5 @@
 -- The summaries of words: with none, with more room, where a bit is set or cleared, and where a number is looked for.
-use Rattle.std.proofs.Common.{◌≡◌, ◌≢◌, ℕ, ◌+◌, ◌*◌, ◌/◌, ◌^◌, ◌≤◌, ◌<◌, Bool, true, false, cond, nat_eq, nat_lt, List, [], length, Option, Some, None, refl, sym, ap, subst, ◌∙◌, arith, eq-eqb, ne_eqb, true≢false, inl, inr, w64}
-use Rattle.std.proofs.lemmas.Bool.{cases_eq, cases_lt}
-use Rattle.std.proofs.lemmas.Bool.Decides.{nat_tests}
-use Rattle.std.proofs.lemmas.Nat.Bits.{bit_at-trailing_zeros}
-use Rattle.std.proofs.Math.ListN.{get_or-eq_default}
-use Rattle.std.specs.Int.{trailing_zeros}
-use Rattle.raw_cells.specs.Numbers.{IsLast}
-use Rattle.raw_cells.specs.Numbers.{IsFirstIn, IsLastIn, IsNext, AreSummed, word_at, uses, has_bits}
+use Rattle.raw_cells.proofs.Prelude.{◌≡◌, ◌≢◌, ℕ, ◌+◌, ◌*◌, ◌/◌, ◌^◌, ◌≤◌, ◌<◌, Bool, true, false, cond, nat_eq, nat_lt, List, [], length, Option, Some, None, refl, sym, ap, subst, ◌∙◌, arith, eq-eqb, ne_eqb, true≢false, inl, inr, w64, cases_eq, cases_lt, nat_tests, bit_at-trailing_zeros, get_or-eq_default, trailing_zeros, IsLast, IsFirstIn, IsLastIn, IsNext, AreSummed, word_at, uses, has_bits}
 use Rattle.raw_cells.proofs.numbers_laws.Lasts.{last_none}
 use Rattle.raw_cells.proofs.numbers_laws.Bits.{lowest_set}
 use Rattle.raw_cells.proofs.numbers_laws.Words.{uses_by, uses_none, uses_same, no_bits}

@@ -1,11 +1,5 @@
 -- Numbers in use as bits of words.
-use Rattle.std.proofs.Common.{◌≡◌, ℕ, ◌+◌, ◌-◌, ◌*◌, ◌/◌, ◌%◌, ◌^◌, ◌≤◌, ◌<◌, Bool, true, false, cond, nat_eq, nat_lt, List, length, slice_set, slice_index_or, Some, None, bit_and, bit_or, refl, sym, ap, ◌∙◌, arith, eq-eqb, ne_eqb, true≢false, inl, inr, get_or-set_same, get_or-set_other, w64}
-use Rattle.std.proofs.lemmas.Bool.{cases_eq, cases_lt}
-use Rattle.std.proofs.Math.ListN.{get_or-eq_default}
-use Rattle.std.proofs.lemmas.Bool.Decides.{nat_tests}
-use Rattle.std.proofs.lemmas.Grind.{get_or_default_zero}
-use Rattle.std.specs.Int.{bit_not}
-use Rattle.raw_cells.specs.Numbers.{IsFirstIn, IsLastIn, is_set, word_at, uses}
+use Rattle.raw_cells.proofs.Prelude.{◌≡◌, ℕ, ◌+◌, ◌-◌, ◌*◌, ◌/◌, ◌%◌, ◌^◌, ◌≤◌, ◌<◌, Bool, true, false, cond, nat_eq, nat_lt, List, length, slice_set, slice_index_or, Some, None, bit_and, bit_or, refl, sym, ap, ◌∙◌, arith, eq-eqb, ne_eqb, true≢false, inl, inr, get_or-set_same, get_or-set_other, w64, cases_eq, cases_lt, get_or-eq_default, nat_tests, get_or_default_zero, bit_not, IsFirstIn, IsLastIn, is_set, word_at, uses}
 use Rattle.raw_cells.proofs.numbers_laws.Bits.{no_bit, no_high, shifted, set_at, clear_at}
 
 -- ---- by word

@@ -1,14 +1,10 @@
 -- Tables to which rows are added at fresh numbers: what a search lists, and the greatest number.
-use Rattle.std.proofs.Common.{◌≡◌, ◌≢◌, ℕ, ◌≤◌, ◌<◌, Bool, true, false, cond, T, List, [], ◌∷◌, ◌++◌, Some, None, refl, sym, ap, ◌∙◌, arith, is_some, true≢false, ◌⊎◌, inl, inr, nat_eq, nat_cmp, is_lt}
-use Rattle.std.proofs.lemmas.Bool.Decides.{nat_tests, eqb_tells}
+use Rattle.shapes.proofs.Prelude.{◌≡◌, ◌≢◌, ℕ, ◌≤◌, ◌<◌, Bool, true, false, cond, T, List, [], ◌∷◌, ◌++◌, Some, None, refl, sym, ap, ◌∙◌, arith, is_some, true≢false, ◌⊎◌, inl, inr, nat_eq, nat_cmp, is_lt, nat_tests, eqb_tells, unsigned_tied, and_left, and_right, nat_eq_itself, Table, all_in, greatest_in}
 use Rattle.std.specs.FinMap.Entries as entries
 use Rattle.std.specs.FinMap.Entries.{find, is_sorted, by_order}
-use Rattle.std.specs.Cmp.{unsigned_tied}
 use Rattle.std.specs.declared.cmp.Ordering.TheVariants.{Greater}
 use Rattle.std.proofs.lemmas.Option.{same_Some}
-use Rattle.euler_operators.proofs.Common.{and_left, and_right, nat_eq_itself}
 use Rattle.euler_operators.specs.Table as table
-use Rattle.euler_operators.specs.Common.{Table, all_in, greatest_in}
 
 -- every number of the rows is below n
 abbrev pub AllBelow : {X : Type 0} → ℕ → List (ℕ × X) → Type 0

@@ -1,11 +1,6 @@
 -- Conditions in lists, conditions by search, and numbers that are left.
-use Rattle.std.proofs.Common.{◌≡◌, ℕ, ◌≤◌, Bool, true, false, not, ◌&&◌, List, [], ◌∷◌, ◌++◌, Option, Some, None, is_some, refl, ap, arith, true≢false, eqb-true, le-leb}
-use Rattle.std.proofs.lemmas.Bool.Decides.{nat_tests, eqb_tells}
-use Rattle.euler_operators.specs.Common.{IsIn, first_where, Model, is_number, Condition, AllHold, first_refusal, is_lone, lists}
-use Rattle.euler_operators.proofs.Common.{tick_other}
-use Rattle.euler_laws.proofs.Common.{all_hold, all_hold-front, none_refuses}
+use Rattle.shapes.proofs.Prelude.{◌≡◌, ℕ, ◌≤◌, Bool, true, false, not, ◌&&◌, List, [], ◌∷◌, ◌++◌, Option, Some, None, is_some, refl, ap, arith, true≢false, eqb-true, le-leb, nat_tests, eqb_tells, IsIn, first_where, Model, is_number, Condition, AllHold, first_refusal, is_lone, lists, tick_other, all_hold, all_hold-front, none_refuses, least_lone, first_such, found, AreLeft, Needed, Taken, numbers_left}
 use Rattle.euler_operators.specs.declared.Refusal.{Refusal}
-use Rattle.shapes.specs.Common.{least_lone, first_such, found, AreLeft, Needed, Taken, numbers_left}
 
 -- the refusal of lists of conditions, one after the other
 pub first_refusal-append : (cs ds : List Condition) → first_refusal cs ≡ None → first_refusal (cs ++ ds) ≡ first_refusal ds

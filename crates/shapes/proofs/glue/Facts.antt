@@ -1,13 +1,8 @@
 -- What it says that a glue isn't refused.
-use Rattle.std.proofs.Common.{◌≡◌, ◌≢◌, ℕ, suc, true, false, not, nat_eq, ◌&&◌, ◌||◌, List, [], ◌∷◌, ◌++◌, length, Some, None, unwrap_or, refl, sym, ap, ◌∙◌, subst, arith, true≢false, ◌⊎◌, inl, inr, map, reverse, eq-eqb, append-nil}
-use Rattle.std.proofs.lemmas.Bool.{not-true, not-false, eqb-false}
-use Rattle.euler_operators.specs.Common.{Point, same_point, origin, moved, cross, count, IsIn, IsApart, head_or, last_or, canonical, IsPath, IsRing, IsRotation, successor, predecessor, rest, mate, Model, cycle, holds, content, face_of, solid_of, outer, tail, point_of, after, rings_of, Sound, Has, HasHalf, IsCycle, AllHold, first_refusal, is_lone, lists, has_rings}
-use Rattle.euler_operators.proofs.Common.{tick_same, canonical_same, canonical-rotates, count-canonical, IsApart-same, IsRotation-same, IsRotation-length, IsRing-same, IsIn_successor, IsIn_predecessor, successor_same, successor-predecessor, predecessor-successor, front_of, apart_at, rotation_at, next_is_successor, reverse-cons, reverse_at, count-reverse, successor-map, successor-reverse, mate-mate, mate_other, zero_first_where, in-holds, loop_number, and_first, first_fails, or_true, no_cons, IsIn-map, same_as}
+use Rattle.shapes.proofs.Prelude.{◌≡◌, ◌≢◌, ℕ, suc, true, false, not, nat_eq, ◌&&◌, ◌||◌, List, [], ◌∷◌, ◌++◌, length, Some, None, unwrap_or, refl, sym, ap, ◌∙◌, subst, arith, true≢false, ◌⊎◌, inl, inr, map, reverse, eq-eqb, append-nil, not-true, not-false, eqb-false, Point, same_point, origin, moved, cross, count, IsIn, IsApart, head_or, last_or, canonical, IsPath, IsRing, IsRotation, successor, predecessor, rest, mate, Model, cycle, holds, content, face_of, solid_of, outer, tail, point_of, after, rings_of, Sound, Has, HasHalf, IsCycle, AllHold, first_refusal, is_lone, lists, has_rings, tick_same, canonical_same, canonical-rotates, count-canonical, IsApart-same, IsRotation-same, IsRotation-length, IsRing-same, IsIn_successor, IsIn_predecessor, successor_same, successor-predecessor, predecessor-successor, front_of, apart_at, rotation_at, next_is_successor, reverse-cons, reverse_at, count-reverse, successor-map, successor-reverse, mate-mate, mate_other, zero_first_where, in-holds, loop_number, and_first, first_fails, or_true, no_cons, IsIn-map, same_as, all_hold, listed_as, IsIn-from_listed, loop_row, face_there, no_rings_means, not_lone_cycle, empty_is, IsLoop, loop_sound, start, finish, boundary, items_in, loops_of, faces_of_both, least_lone, first_such, AreLeft, taken_in, area, normal, is_flat, plane_of, rim, outline, has_repeats, is_rotation, partner, face_conditions, early_glue_conditions, glue_conditions, glue_refusal, fresh_edge}
 use Rattle.euler_operators.specs.Table as table
-use Rattle.euler_laws.proofs.Common.{all_hold, listed_as, IsIn-from_listed, loop_row, face_there, no_rings_means, not_lone_cycle, empty_is, IsLoop, loop_sound}
 use Rattle.shapes.proofs.fresh.Rows.{none_above}
 use Rattle.shapes.proofs.fresh.Tests.{none_found, none_is_lone, none_such, numbers_are_left, number_fits}
-use Rattle.shapes.specs.Common.{start, finish, boundary, items_in, loops_of, faces_of_both, least_lone, first_such, AreLeft, taken_in, area, normal, is_flat, plane_of, rim, outline, has_repeats, is_rotation, partner, face_conditions, early_glue_conditions, glue_conditions, glue_refusal, fresh_edge}
 use Rattle.shapes.proofs.glue.Facing.{Facing}
 use Rattle.shapes.proofs.glue.Points.{same_is, no_points, both_points, once, turned_list, other_list, such_is, there_and_back}
 

@@ -1,12 +1,5 @@
 -- Lists of points: equal ones, none twice, one turned; and where a search finds the only such number.
-use Rattle.std.proofs.Common.{◌≡◌, ℕ, zero, suc, ℤ, pos, ◌+ℤ◌, ◌-ℤ◌, ◌*ℤ◌, Bool, true, false, ◌||◌, List, [], ◌∷◌, ◌++◌, refl, sym, ap, ◌∙◌, arith, true≢false, Some, map, reverse, take, drop, length, append-nil, take-append-drop}
-use Rattle.std.specs.List.{list_any}
-use Rattle.std.proofs.lemmas.Bool.Decides.{eqb_tells}
-use Rattle.std.proofs.lemmas.Bool.{and_parts, or_parts}
-use Rattle.std.proofs.lemmas.List.{map-append, reverse-append, reverse-reverse, take-map, drop-map}
-use Rattle.euler_operators.specs.Common.{Point, same_point, moved, cross, origin, IsIn, IsRotation}
-use Rattle.euler_operators.proofs.Common.{tick_same, tick_other, reverse-cons, dif-parts, difs, same_dif, number, same_vector, or_true, same_as}
-use Rattle.shapes.specs.Common.{first_such, has_repeats, same_points, is_turned, is_rotation}
+use Rattle.shapes.proofs.Prelude.{◌≡◌, ℕ, zero, suc, ℤ, pos, ◌+ℤ◌, ◌-ℤ◌, ◌*ℤ◌, Bool, true, false, ◌||◌, List, [], ◌∷◌, ◌++◌, refl, sym, ap, ◌∙◌, arith, true≢false, Some, map, reverse, take, drop, length, append-nil, take-append-drop, list_any, eqb_tells, and_parts, or_parts, map-append, reverse-append, reverse-reverse, take-map, drop-map, Point, same_point, moved, cross, origin, IsIn, IsRotation, tick_same, tick_other, reverse-cons, dif-parts, difs, same_dif, number, same_vector, or_true, same_as, first_such, has_repeats, same_points, is_turned, is_rotation}
 
 -- ---- equal points
 

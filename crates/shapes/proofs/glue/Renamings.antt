@@ -1,12 +1,7 @@
 -- Renamings by lists of pairs, one pair more; and what they make of a ring.
-use Rattle.std.proofs.Common.{◌≡◌, ◌≢◌, ℕ, ◌+◌, Bool, true, false, cond, nat_eq, List, [], ◌∷◌, ◌++◌, Option, Some, None, is_some, unwrap_or, refl, sym, ap, ◌∙◌, arith, true≢false, ◌⊎◌, inl, inr, map, option_map, ne_eqb}
-use Rattle.std.proofs.lemmas.Bool.Decides.{eqb_tells}
-use Rattle.std.proofs.lemmas.List.{map-append}
-use Rattle.euler_operators.specs.Common.{count, IsIn, IsApart, canonical, rest, Table, Model, LoopContent, LoopRow, EdgeRow, lone, cycle, items_of, tail_in, no_edge, IsCycle, Sound}
-use Rattle.euler_operators.specs.Items.{before, after}
-use Rattle.euler_operators.proofs.Common.{count-append, tick_same, tick_other, split_at, count-before, canonical-rotates, rest_same, rest_parts, canonical_same, nat_eq_turned, nat_eq_itself, remove_turned, get-remove_here, get-remove_other, content_row, IsIn_head, IsIn_rest}
+use Rattle.shapes.proofs.Prelude.{◌≡◌, ◌≢◌, ℕ, ◌+◌, Bool, true, false, cond, nat_eq, List, [], ◌∷◌, ◌++◌, Option, Some, None, is_some, unwrap_or, refl, sym, ap, ◌∙◌, arith, true≢false, ◌⊎◌, inl, inr, map, option_map, ne_eqb, eqb_tells, map-append, count, IsIn, IsApart, canonical, rest, Table, Model, LoopContent, LoopRow, EdgeRow, lone, cycle, items_of, tail_in, no_edge, IsCycle, Sound, before, count-append, tick_same, tick_other, split_at, count-before, canonical-rotates, rest_same, rest_parts, canonical_same, nat_eq_turned, nat_eq_itself, remove_turned, get-remove_here, get-remove_other, content_row, IsIn_head, IsIn_rest, rewritten, rewritten_row, renamed, without_rows, renamed_tails, paired}
+use Rattle.euler_operators.specs.Items.{after}
 use Rattle.euler_operators.specs.Table as table
-use Rattle.shapes.specs.Common.{rewritten, rewritten_row, renamed, without_rows, renamed_tails, paired}
 
 -- ---- renamings
 

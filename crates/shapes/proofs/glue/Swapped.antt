@@ -1,10 +1,6 @@
 -- Rows of loops rewritten by a renaming, and by the same with one item replaced.
-use Rattle.std.proofs.Common.{◌≡◌, ℕ, List, [], ◌∷◌, refl, sym, ap, ◌∙◌, arith, map}
-use Rattle.std.proofs.lemmas.Bool.Decides.{nat_tests}
-use Rattle.euler_operators.specs.Common.{count, IsIn, IsApart, canonical, rest, Table, tables, same_table, LoopContent, LoopRow, lone, cycle, items_of}
-use Rattle.euler_operators.proofs.Common.{count-canonical}
+use Rattle.shapes.proofs.Prelude.{◌≡◌, ℕ, List, [], ◌∷◌, refl, sym, ap, ◌∙◌, arith, map, nat_tests, count, IsIn, IsApart, canonical, rest, Table, tables, same_table, LoopContent, LoopRow, lone, cycle, items_of, count-canonical, rewritten, rewritten_row}
 use Rattle.euler_operators.specs.Table as table
-use Rattle.shapes.specs.Common.{rewritten, rewritten_row}
 use Rattle.shapes.proofs.glue.Renamings.{replaced, replaced_none, replaced_ring, map_agrees}
 
 pub same_cycle : (xs ys : List ℕ) → cycle xs ≡ cycle ys → xs ≡ ys

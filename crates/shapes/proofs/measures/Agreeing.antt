@@ -1,10 +1,5 @@
 -- Faces on which two models agree: they keep their rings and their normals, and what they add to the six volumes.
-use Rattle.std.proofs.Common.{◌≡◌, ℕ, true, List, [], ◌∷◌, refl, sym, ap, ◌∙◌, subst, arith, ◌⊎◌, inl, inr, map, eqb-true, eq-eqb}
-use Rattle.std.proofs.lemmas.Bool.{and_parts}
-use Rattle.euler_operators.specs.Common.{moved, dot, cross, count, IsIn, head_or, canonical, Model, LoopContent, lone, cycle, items_of, content, face_of, outer, point_of, rings_of, IsCycle, Has, lists, strictly_rises}
-use Rattle.euler_operators.proofs.Common.{count-canonical, from_map, face_row, IsIn_head, IsIn_rest, IsIn_first}
-use Rattle.euler_laws.proofs.Common.{first_listed, rest_listed, listed_passes, passes_listed, all_where-rises, loop_row, within}
-use Rattle.shapes.specs.Common.{start, finish, items_in, loops_of, boundary, rewritten, area, normal, anchor, first_vertex}
+use Rattle.shapes.proofs.Prelude.{◌≡◌, ℕ, true, List, [], ◌∷◌, refl, sym, ap, ◌∙◌, subst, arith, ◌⊎◌, inl, inr, map, eqb-true, eq-eqb, and_parts, moved, dot, cross, count, IsIn, head_or, canonical, Model, LoopContent, lone, cycle, items_of, content, face_of, outer, point_of, rings_of, IsCycle, Has, lists, strictly_rises, count-canonical, from_map, face_row, IsIn_head, IsIn_rest, IsIn_first, first_listed, rest_listed, listed_passes, passes_listed, all_where-rises, loop_row, within, start, finish, items_in, loops_of, boundary, rewritten, area, normal, anchor, first_vertex}
 use Rattle.shapes.proofs.Areas.{area-append}
 use Rattle.shapes.proofs.glue.Renamings.{none_replaced}
 use Rattle.shapes.proofs.measures.Sums.{area_same, area_renamed, volume_of}

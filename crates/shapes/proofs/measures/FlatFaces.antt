@@ -1,14 +1,6 @@
 -- What the normal of a flat face is across: all ways between two points of its plane.
-use Rattle.std.proofs.Common.{◌≡◌, ◌≢◌, ℕ, Bool, true, not, ◌&&◌, ℤ, pos, ◌+ℤ◌, neg_ℤ, List, [], ◌∷◌, ◌++◌, map, refl, sym, ap, ◌∙◌, arith, true≢false, inl, inr}
-use Rattle.std.specs.List.{list_all}
-use Rattle.std.specs.Cmp.{signed_Decides}
-use Rattle.std.proofs.lemmas.Int.{ints}
-use Rattle.std.proofs.lemmas.Bool.{and_parts}
-use Rattle.euler_operators.specs.Common.{Point, Plane, origin, moved, dot, cross, same_point, is_on, height, direction, Model, LoopContent, lone, cycle, items_of, tail, content, outer, point_of, Sound, Has, lists}
-use Rattle.euler_laws.proofs.Common.{listed_cases}
-use Rattle.shapes.specs.Common.{start, finish, loops_of, items_in, boundary, vertices_on, vertices_in, corners, area, normal, anchor, first_vertex, plane_through, plane_of, is_plane_of, is_flat, scaled, towards}
+use Rattle.shapes.proofs.Prelude.{◌≡◌, ◌≢◌, ℕ, Bool, true, not, ◌&&◌, ℤ, pos, ◌+ℤ◌, neg_ℤ, List, [], ◌∷◌, ◌++◌, map, refl, sym, ap, ◌∙◌, arith, true≢false, inl, inr, list_all, signed_Decides, ints, and_parts, Point, Plane, origin, moved, dot, cross, same_point, is_on, height, direction, Model, LoopContent, lone, cycle, items_of, tail, content, outer, point_of, Sound, Has, lists, listed_cases, start, finish, loops_of, items_in, boundary, vertices_on, vertices_in, corners, area, normal, anchor, first_vertex, plane_through, plane_of, is_plane_of, is_flat, scaled, towards, dot_turned}
 use Rattle.shapes.proofs.Areas.{area-append}
-use Rattle.euler_operators.proofs.Common.{dot_turned}
 use Rattle.shapes.proofs.measures.Products.{cross_moved, cross_nothing, flat_step, no_way, same_part}
 use Rattle.shapes.proofs.measures.Paths.{begins, IsPathTo, IsClosed, loop_closed}
 

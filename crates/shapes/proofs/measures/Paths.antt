@@ -1,9 +1,5 @@
 -- Paths of half-edges, each of which ends where the next one starts; the loops of a sound model are closed ones.
-use Rattle.std.proofs.Common.{◌≡◌, ℕ, List, [], ◌∷◌, refl, sym, ap, ◌∙◌}
-use Rattle.euler_operators.specs.Common.{Point, origin, IsIn, head_or, IsPath, IsRing, Model, items_of, content, point_of, after, Sound}
-use Rattle.euler_operators.proofs.Common.{in-holds, IsIn_rest, IsIn_head}
-use Rattle.euler_laws.proofs.Common.{light}
-use Rattle.shapes.specs.Common.{start, finish}
+use Rattle.shapes.proofs.Prelude.{◌≡◌, ℕ, List, [], ◌∷◌, refl, sym, ap, ◌∙◌, Point, origin, IsIn, head_or, IsPath, IsRing, Model, items_of, content, point_of, after, Sound, in-holds, IsIn_rest, IsIn_head, light, start, finish}
 
 -- where a path begins that ends at e
 abbrev pub begins : Model → List ℕ → Point → Point

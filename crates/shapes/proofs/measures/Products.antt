@@ -1,9 +1,5 @@
 -- Products along and across: of sums and of products, along a closed path, and of what is across a direction.
-use Rattle.std.proofs.Common.{◌≡◌, ◌≢◌, ◌⊎◌, inl, inr, ℕ, zero, suc, ◌*◌, ℤ, pos, ◌+ℤ◌, ◌-ℤ◌, ◌*ℤ◌, unsigned_abs, refl, sym, ap, ◌∙◌, arith}
-use Rattle.std.proofs.lemmas.Int.{ints, unsigned_abs-mul}
-use Rattle.euler_operators.specs.Common.{Point, origin, moved, dot, cross}
-use Rattle.euler_operators.proofs.Common.{dif-parts, difs, same_dif, number, same_vector}
-use Rattle.shapes.specs.Common.{scaled, towards}
+use Rattle.shapes.proofs.Prelude.{◌≡◌, ◌≢◌, ◌⊎◌, inl, inr, ℕ, zero, suc, ◌*◌, ℤ, pos, ◌+ℤ◌, ◌-ℤ◌, ◌*ℤ◌, unsigned_abs, refl, sym, ap, ◌∙◌, arith, ints, unsigned_abs-mul, Point, origin, moved, dot, cross, dif-parts, difs, same_dif, number, same_vector, scaled, towards}
 
 -- ---- across a sum
 

@@ -1,13 +1,7 @@
 -- The areas of lists of half-edges and the volumes of lists of faces: the order doesn't matter, and the other halves of edges have the opposite area.
-use Rattle.std.proofs.Common.{◌≡◌, ℕ, ◌+◌, true, ℤ, pos, ◌+ℤ◌, ◌-ℤ◌, ◌*ℤ◌, neg_ℤ, List, [], ◌∷◌, ◌++◌, map, reverse, refl, sym, ap, ◌∙◌, arith}
-use Rattle.std.proofs.lemmas.Bool.Decides.{eqb_tells}
-use Rattle.std.proofs.lemmas.Int.{ints}
+use Rattle.shapes.proofs.Prelude.{◌≡◌, ℕ, ◌+◌, true, ℤ, pos, ◌+ℤ◌, ◌-ℤ◌, ◌*ℤ◌, neg_ℤ, List, [], ◌∷◌, ◌++◌, map, reverse, refl, sym, ap, ◌∙◌, arith, eqb_tells, ints, Point, origin, moved, dot, cross, count, tick, IsIn, SameItems, mate, Model, lists, before, tick_same, tick_other, split_at, SameItems-from_permutation, mate-mate, dif-parts, difs, neg-dif, same_dif, same_vector, none_add, add_assoc, add_exchanged, IsIn_rest, count_taken, IsIn_head, listed-from_in, no_items, start, finish, area, normal, anchor, volume_in, negated}
 use Rattle.std.proofs.lemmas.List.Sorted.{IsPermutation-reverse}
-use Rattle.euler_operators.specs.Common.{Point, origin, moved, dot, cross, count, tick, IsIn, SameItems, mate, Model, lists}
-use Rattle.euler_operators.specs.Items.{before, after}
-use Rattle.euler_operators.proofs.Common.{tick_same, tick_other, split_at, SameItems-from_permutation, mate-mate, dif-parts, difs, neg-dif, same_dif, same_vector, none_add, add_assoc, add_exchanged, IsIn_rest, count_taken, IsIn_head}
-use Rattle.euler_laws.proofs.Common.{listed-from_in, no_items}
-use Rattle.shapes.specs.Common.{start, finish, area, normal, anchor, volume_in, negated}
+use Rattle.euler_operators.specs.Items.{after}
 use Rattle.shapes.proofs.Areas.{area-append}
 
 -- ---- opposite vectors

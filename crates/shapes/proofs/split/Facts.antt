@@ -1,13 +1,7 @@
 -- What it says that a split isn't refused.
-use Rattle.std.specs.List.{list_any}
-use Rattle.std.proofs.Common.{◌≡◌, ℕ, ◌+◌, ◌*◌, true, false, not, List, length, None, sym, ◌∙◌, arith}
-use Rattle.std.proofs.lemmas.Bool.{and_parts, not-true, not-false}
-use Rattle.euler_operators.specs.Common.{Plane, IsCutPlane, origin, direction, same_point, cuts_lattice, IsIn, plus, Model, is_number, faces_of, Has, AllHold, first_refusal}
-use Rattle.euler_operators.proofs.Common.{coordinate_within, offset_within}
+use Rattle.shapes.proofs.Prelude.{list_any, ◌≡◌, ℕ, ◌+◌, ◌*◌, true, false, not, List, length, None, sym, ◌∙◌, arith, and_parts, not-true, not-false, Plane, IsCutPlane, origin, direction, same_point, cuts_lattice, IsIn, plus, Model, is_number, faces_of, Has, AllHold, first_refusal, coordinate_within, offset_within, all_hold, AreLeft, Needed, start, finish, least_lone, first_such, taken_in, is_flat, reaches_above, reaches_below, crossing_edges, straddling_faces, is_touched, is_cut_often, is_crossed, pair_count, Drawing, with_drawings, faces_above, below_halves, section_ends, least_branched, section_cycles, has_stray_hole, plane_in_range, early_split_conditions, first_conditions, later_conditions, section_conditions, split_conditions, split_refusal}
 use Rattle.euler_operators.specs.Table as table
-use Rattle.euler_laws.proofs.Common.{all_hold}
 use Rattle.shapes.proofs.fresh.Tests.{first_refusal-append, first_refusal-front, none_found, none_such, numbers_are_left, zero_found}
-use Rattle.shapes.specs.Common.{AreLeft, Needed, start, finish, least_lone, first_such, taken_in, is_flat, reaches_above, reaches_below, crossing_edges, straddling_faces, is_touched, is_cut_often, is_crossed, pair_count, Drawing, with_drawings, faces_above, below_halves, section_ends, least_branched, section_cycles, has_stray_hole, plane_in_range, early_split_conditions, first_conditions, later_conditions, section_conditions, split_conditions, split_refusal}
 
 -- what it takes to cut the edges and draw the faces
 abbrev pub needed_for_rewritings : Model → ℕ → Plane → Needed

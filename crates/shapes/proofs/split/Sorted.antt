@@ -1,7 +1,5 @@
 -- Places in the order of their points are the same places; and in pairs there are half as many.
-use Rattle.std.proofs.Common.{◌≡◌, ℕ, suc, ◌+◌, ◌/◌, List, [], ◌∷◌, length, refl, ap, ◌∙◌, arith}
-use Rattle.euler_operators.specs.Common.{Plane, count, tick, Model}
-use Rattle.shapes.specs.Common.{sorted_in, sorted, in_pairs}
+use Rattle.shapes.proofs.Prelude.{◌≡◌, ℕ, suc, ◌+◌, ◌/◌, List, [], ◌∷◌, length, refl, ap, ◌∙◌, arith, Plane, count, tick, Model, sorted_in, sorted, in_pairs}
 
 module _ (M : Model) (p : Plane) where
   count-sorted_in : (x h : ℕ) (ks : List ℕ) → count x (sorted_in M p h ks) ≡ tick x h + count x ks

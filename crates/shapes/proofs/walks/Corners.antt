@@ -1,9 +1,5 @@
 -- The corners of some loops and of some faces, loop by loop; and the half-edges of a solid.
-use Rattle.std.proofs.Common.{◌≡◌, ℕ, List, [], ◌∷◌, ◌++◌, refl, sym, ap, ◌∙◌, arith, append_assoc}
-use Rattle.std.proofs.lemmas.Bool.Decides.{eqb_tells}
-use Rattle.euler_operators.specs.Common.{IsIn, IsApart, Model, items_of, content, loop_of, solid_of, Sound, HasHalf, face_at}
-use Rattle.euler_operators.proofs.Common.{count-append, tick_same, tick_other, IsIn_or_not, cycle_there, loop_there}
-use Rattle.shapes.specs.Common.{items_in, loops_of, vertices_on, vertices_in, corners, corners_in, loops_in}
+use Rattle.shapes.proofs.Prelude.{◌≡◌, ℕ, List, [], ◌∷◌, ◌++◌, refl, sym, ap, ◌∙◌, arith, append_assoc, eqb_tells, IsIn, IsApart, Model, items_of, content, loop_of, solid_of, Sound, HasHalf, face_at, count-append, tick_same, tick_other, IsIn_or_not, cycle_there, loop_there, items_in, loops_of, vertices_on, vertices_in, corners, corners_in, loops_in}
 use Rattle.shapes.proofs.walks.FaceLoops.{different_items, items_counted, items_there}
 use Rattle.shapes.proofs.walks.SolidFaces.{solid_loops, all_loops_apart, loop_in_solid, solid_has_loop}
 

@@ -1,11 +1,6 @@
 -- The loops of a face, and the half-edges of some loops, are different ones; and the items of loops start at their vertices.
-use Rattle.std.proofs.Common.{◌≡◌, ℕ, ◌≤◌, ◌<◌, Bool, true, false, not, nat_eq, ◌&&◌, List, [], ◌∷◌, ◌++◌, length, Some, is_some, refl, sym, ap, ◌∙◌, arith, true≢false, inl, inr, unwrap_or, append_assoc}
-use Rattle.std.proofs.lemmas.Bool.Decides.{nat_tests, eqb_tells}
-use Rattle.euler_operators.specs.Common.{count, tick, IsIn, IsApart, Model, LoopContent, lone, cycle, LoopRow, no_loop, items_of, content, tail, loop_of, outer, face_of, rings_of, is_ring_of, Sound, HasHalf, lists, strictly_rises}
-use Rattle.euler_operators.proofs.Common.{count-append, tick_same, tick_other, IsIn_or_not, IsIn-map, length_below, in-holds, row_some}
+use Rattle.shapes.proofs.Prelude.{◌≡◌, ℕ, ◌≤◌, ◌<◌, Bool, true, false, not, nat_eq, ◌&&◌, List, [], ◌∷◌, ◌++◌, length, Some, is_some, refl, sym, ap, ◌∙◌, arith, true≢false, inl, inr, unwrap_or, append_assoc, nat_tests, eqb_tells, count, tick, IsIn, IsApart, Model, LoopContent, lone, cycle, LoopRow, no_loop, items_of, content, tail, loop_of, outer, face_of, rings_of, is_ring_of, Sound, HasHalf, lists, strictly_rises, count-append, tick_same, tick_other, IsIn_or_not, IsIn-map, length_below, in-holds, row_some, listed_passes, passes_listed, all_where-rises, ring_there, steps, steps_are, half_below, none_counted, counted_once, up_to, up_to_none, count_up_to, half_in, items_apart, items_in, loops_of, vertices_on, vertices_in}
 use Rattle.euler_operators.specs.Table as table
-use Rattle.euler_laws.proofs.Common.{listed_passes, passes_listed, all_where-rises, ring_there, steps, steps_are, half_below, none_counted, counted_once, up_to, up_to_none, count_up_to, half_in, items_apart}
-use Rattle.shapes.specs.Common.{items_in, loops_of, vertices_on, vertices_in}
 
 -- the outer loop of a face and its rings that don't pass n
 abbrev pub loops_to : Model → ℕ → ℕ → List ℕ

@@ -1,11 +1,6 @@
 -- Of the half-edges at a vertex the one of the least edge leads, and no other.
-use Rattle.std.proofs.Common.{◌≡◌, ℕ, ◌≤◌, ◌<◌, Bool, true, false, nat_eq, ◌||◌, Some, refl, sym, ap, ◌∙◌, arith, ne_eqb, eq-eqb, eqb-true}
-use Rattle.std.proofs.lemmas.Bool.{or_left, or_right, or_cases}
-use Rattle.euler_operators.specs.Common.{edge_of, first_where, Model, EdgeRow, tail, Sound, HasHalf}
+use Rattle.shapes.proofs.Prelude.{◌≡◌, ℕ, ◌≤◌, ◌<◌, Bool, true, false, nat_eq, ◌||◌, Some, refl, sym, ap, ◌∙◌, arith, ne_eqb, eq-eqb, eqb-true, or_left, or_right, or_cases, edge_of, first_where, Model, EdgeRow, tail, Sound, HasHalf, plus_row, minus_row, same_edge, plus_tail_row, minus_tail_row, row_some, halves_of_edge, listed_passes, first_where_least, first_passes, first_edge, leads}
 use Rattle.euler_operators.specs.Table as table
-use Rattle.euler_operators.proofs.Common.{plus_row, minus_row, same_edge, plus_tail_row, minus_tail_row, row_some}
-use Rattle.euler_laws.proofs.Common.{halves_of_edge, listed_passes, first_where_least, first_passes}
-use Rattle.shapes.specs.Common.{first_edge, leads}
 
 -- ---- the edges at a vertex
 

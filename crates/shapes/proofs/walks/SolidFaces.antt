@@ -1,10 +1,5 @@
 -- The faces of a solid, and their loops.
-use Rattle.std.proofs.Common.{◌≡◌, ℕ, ◌≤◌, ◌<◌, true, nat_eq, List, [], ◌∷◌, length, refl, ap, ◌∙◌, arith, inl, inr}
-use Rattle.std.proofs.lemmas.Bool.Decides.{nat_tests, eqb_tells}
-use Rattle.euler_operators.specs.Common.{count, tick, IsIn, IsApart, Model, outer, face_of, rings_of, faces_of, solid_of, Sound, Has, lists, strictly_rises}
-use Rattle.euler_operators.proofs.Common.{count-append, tick_same, IsIn_or_not, length_below}
-use Rattle.euler_laws.proofs.Common.{first_listed, rest_listed, listed_cases, all_where-rises, IsIn-from_listed, listed-from_in, ring_there, outer_or_ring, ring_number, counted_once, up_to, up_to_none, count_up_to, listed_up_to, face_in, in_faces}
-use Rattle.shapes.specs.Common.{loops_of, loops_in}
+use Rattle.shapes.proofs.Prelude.{◌≡◌, ℕ, ◌≤◌, ◌<◌, true, nat_eq, List, [], ◌∷◌, length, refl, ap, ◌∙◌, arith, inl, inr, nat_tests, eqb_tells, count, tick, IsIn, IsApart, Model, outer, face_of, rings_of, faces_of, solid_of, Sound, Has, lists, strictly_rises, count-append, tick_same, IsIn_or_not, length_below, first_listed, rest_listed, listed_cases, all_where-rises, IsIn-from_listed, listed-from_in, ring_there, outer_or_ring, ring_number, counted_once, up_to, up_to_none, count_up_to, listed_up_to, face_in, in_faces, loops_of, loops_in}
 use Rattle.shapes.proofs.walks.FaceLoops.{listed_ring, ring_listed, loops_of_apart}
 
 module _ (M : Model) (sound : Sound M) where

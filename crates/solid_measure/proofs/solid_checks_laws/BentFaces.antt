@@ -1,12 +1,6 @@
 -- The least face that isn't flat, solid by solid.
-use Rattle.std.proofs.Common.{◌≡◌, ℕ, Bool, not, ◌&&◌, ◌||◌, List, Option, sym, ap, ◌∙◌}
-use Rattle.euler_operators.specs.Common.{Model, faces_of, Sound}
-use Rattle.shapes.specs.Common.{faces_of_both, first_such}
-use Rattle.solid_measure.specs.Measure.{is_flat}
+use Rattle.solid_measure.proofs.Prelude.{◌≡◌, ℕ, Bool, not, ◌&&◌, ◌||◌, List, Option, sym, ap, ◌∙◌, Model, faces_of, Sound, faces_of_both, first_such, is_flat, lesser, IsLeast, one_least, least_same, least_either, least_rising, and_or, member_both, faces_rise, both_rise}
 use Rattle.solid_walks.proofs.face_walks_laws.Above.{member}
-use Rattle.solid_walks.specs.Least.{lesser}
-use Rattle.solid_walks.proofs.lone_laws.Searches.{IsLeast, one_least, least_same, least_either, least_rising, and_or}
-use Rattle.solid_walks.proofs.face_walks_laws.FaceWalks.{member_both, faces_rise, both_rise}
 
 module _ (M : Model) where
   abbrev is_bent : ℕ → Bool

@@ -1,12 +1,5 @@
 -- What is counted of the loops of a face, of the half-edges of a loop, and of a solid's rings, and how much that can be.
-use Rattle.std.proofs.Common.{◌≡◌, ℕ, ◌≤◌, List, [], ◌∷◌, length, sym, ap, ◌∙◌, arith, length-append}
-use Rattle.euler_operators.specs.Common.{Model, content, outer, rings_of, faces_of, Sound, Has}
-use Rattle.euler_laws.proofs.Common.{listed-from_in}
-use Rattle.shapes.specs.Common.{loops_of, loops_in}
-use Rattle.shapes.proofs.Common.{loops_of_apart, loops_short, all_loops_apart, loop_in_solid, face_of_loop}
-use Rattle.solid_measure.specs.declared.solid_counts.Met.{Met}
-use Rattle.solid_measure.specs.solid_counts.Counts.{rings_in}
-use Rattle.solid_measure.specs.solid_counts.Sums.{together, nothing, IsFew, loop_met, loops_met}
+use Rattle.solid_measure.proofs.Prelude.{◌≡◌, ℕ, ◌≤◌, List, [], ◌∷◌, length, sym, ap, ◌∙◌, arith, length-append, Model, content, outer, rings_of, faces_of, Sound, Has, listed-from_in, loops_of, loops_in, loops_of_apart, loops_short, all_loops_apart, loop_in_solid, face_of_loop, Met, rings_in, together, nothing, IsFew, loop_met, loops_met}
 use Rattle.solid_measure.proofs.solid_counts_laws.Sums.{together_more, together_nothing, loops_few}
 
 -- a walk has counted so much, next comes this, and then what is left

@@ -1,8 +1,5 @@
 -- How many items of a list pass a test, and lists that have equally many items.
-use Rattle.std.proofs.Common.{◌≡◌, ℕ, ◌+◌, ◌≤◌, Bool, true, false, cond, List, [], ◌∷◌, ◌++◌, length, map, refl, sym, ap, subst, ◌∙◌, arith, inl, inr}
-use Rattle.std.proofs.lemmas.Bool.Decides.{eqb_tells}
-use Rattle.euler_operators.specs.Common.{count, tick, IsIn, IsApart}
-use Rattle.euler_operators.proofs.Common.{tick_same, tick_other, apart_within}
+use Rattle.solid_measure.proofs.Prelude.{◌≡◌, ℕ, ◌+◌, ◌≤◌, Bool, true, false, cond, List, [], ◌∷◌, ◌++◌, length, map, refl, sym, ap, subst, ◌∙◌, arith, inl, inr, eqb_tells, count, tick, IsIn, IsApart, tick_same, tick_other, apart_within}
 
 -- how many items pass a test, and which
 abbrev pub how_many : (ℕ → Bool) → List ℕ → ℕ

@@ -1,16 +1,8 @@
 -- What a walk round a loop counts.
-use Rattle.std.proofs.Common.{◌≡◌, ◌≢◌, ℕ, ◌%◌, ◌≤◌, ◌<◌, nat_eq, Bool, true, false, cond, List, [], ◌∷◌, length, refl, sym, ap, ◌∙◌, arith}
+use Rattle.solid_measure.proofs.Prelude.{◌≡◌, ◌≢◌, ℕ, ◌%◌, ◌≤◌, ◌<◌, nat_eq, Bool, true, false, cond, List, [], ◌∷◌, length, refl, sym, ap, ◌∙◌, arith, count, IsIn, rotate_to, is_first, HalfEdge, Model, LoopContent, lone, cycle, items_of, cycle_of, after, Sound, HasHalf, count-append, split_at, rotate_to-rotates, count-rotate_to, Tells, seen, to_come, item_in, item_there, cycle_apart, start_seen, comes_back, goes_on, Met, leads, IsFew, together, nothing, half_met, halves_met, loop_met, AreHalves}
 use mir.Val.{bool_byte}
-use Rattle.euler_operators.specs.Common.{count, IsIn, rotate_to, is_first, HalfEdge, Model, LoopContent, lone, cycle, items_of, cycle_of, after, Sound, HasHalf}
 use Rattle.euler_operators.specs.Items.{before, after as rest_after}
-use Rattle.euler_operators.proofs.Common.{count-append, split_at, rotate_to-rotates, count-rotate_to}
 use Rattle.euler_operators.specs.declared.Content.TheVariants as Content
-use Rattle.solid_walks.specs.Store.{Tells}
-use Rattle.solid_walks.proofs.face_walks_laws.CycleWalks.{seen, to_come, item_in, item_there, cycle_apart, start_seen, comes_back, goes_on}
-use Rattle.solid_measure.specs.declared.solid_counts.Met.{Met}
-use Rattle.shapes.specs.Common.{leads}
-use Rattle.solid_measure.specs.solid_counts.Sums.{IsFew, together, nothing, half_met, halves_met, loop_met}
-use Rattle.shapes.proofs.Common.{AreHalves}
 use Rattle.solid_measure.proofs.solid_counts_laws.Sums.{nothing_together, together_nothing, halves_push, halves_turned, halves_few}
 
 -- the walk from `first` has come to h: with h it has counted what it has seen

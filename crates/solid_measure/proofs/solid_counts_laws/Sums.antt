@@ -1,11 +1,6 @@
 -- What walks have counted: joined, turned, and how much it can be.
-use Rattle.std.proofs.Common.{◌≡◌, ℕ, ◌+◌, ◌≤◌, Bool, true, false, cond, List, [], ◌∷◌, ◌++◌, refl, sym, ap, ◌∙◌, arith}
-use Rattle.euler_operators.specs.Common.{IsIn, IsApart, IsRotation, is_first, Model, LoopContent, lone, cycle, items_of, content, Sound, Has, is_lone}
-use Rattle.shapes.specs.Common.{items_in, leads}
-use Rattle.solid_measure.specs.declared.solid_counts.Met.{Met}
-use Rattle.solid_measure.specs.solid_counts.Sums.{together, nothing, IsFew, half_met, halves_met, loop_met, loops_met}
+use Rattle.solid_measure.proofs.Prelude.{◌≡◌, ℕ, ◌+◌, ◌≤◌, Bool, true, false, cond, List, [], ◌∷◌, ◌++◌, refl, sym, ap, ◌∙◌, arith, IsIn, IsApart, IsRotation, is_first, Model, LoopContent, lone, cycle, items_of, content, Sound, Has, is_lone, items_in, leads, Met, together, nothing, IsFew, half_met, halves_met, loop_met, loops_met, AreHalves, halves_short, different_items, loops_short}
 use Rattle.solid_measure.proofs.solid_counts_laws.HowMany.{how_many, how_many-append, how_many_short}
-use Rattle.shapes.proofs.Common.{AreHalves, halves_short, different_items, loops_short}
 
 same_met : (a b : Met) → a.vertices ≡ b.vertices → a.edges ≡ b.edges → a ≡ b
 same_met a b v e = λ i. record { vertices = v i; edges = e i }

@@ -1,23 +1,13 @@
 -- What walks over all loops of a solid count are its vertices and its edges.
-use Rattle.std.proofs.Common.{◌≡◌, ℕ, ◌+◌, ◌≤◌, Bool, true, nat_eq, List, ◌++◌, length, map, is_some, refl, sym, ap, subst, ◌∙◌, arith, inl, inr, ℤ, pos, ◌-ℤ◌, FitsSigned, eq-eqb, eqb-true, length-append}
-use Rattle.std.proofs.lemmas.Int.{ints, to_z-of_z, fits_signed_from_abs}
+use Rattle.solid_measure.proofs.Prelude.{◌≡◌, ℕ, ◌+◌, ◌≤◌, Bool, true, nat_eq, List, ◌++◌, length, map, is_some, refl, sym, ap, subst, ◌∙◌, arith, inl, inr, ℤ, pos, ◌-ℤ◌, FitsSigned, eq-eqb, eqb-true, length-append, ints, to_z-of_z, fits_signed_from_abs, difference_within, count-append, tick_same, tick_other, IsIn_or_not, plus_row, first_is_plus, cycle_there, loop_there, IsIn-map, IsApart-images, row_some, eqb_tells, count, IsIn, IsApart, edge_of, is_first, plus, Model, LoopContent, lone, cycle, items_of, tail, content, loop_of, solid_of, faces_of, Sound, Has, HasHalf, IsLoneAt, lists, is_lone, lone_vertex, face_at, lone_is, one_solid_round, listed_passes, passes_listed, all_where-rises, IsIn-from_listed, listed-from_in, counted_once, items_in, vertices_on, corners_in, vertices_of, edges_of, leads, rings_in, counts, Met, IsFew, loops_met, solid_loops, all_loops_apart, loop_in_solid, solid_has_loop, faces_short, one_leads, only_leads, corners_are, on_one, in_some, on_some, halves_apart, half_solid, solid_half}
 use mir.Syntax.{w64}
 use mir.Val.{to_z, of_z}
-use Rattle.euler_operators.proofs.Common.{difference_within, count-append, tick_same, tick_other, IsIn_or_not, plus_row, first_is_plus, cycle_there, loop_there, IsIn-map, IsApart-images, row_some}
-use Rattle.std.proofs.lemmas.Bool.Decides.{eqb_tells}
 use Rattle.std.proofs.lemmas.List.{length-map}
-use Rattle.euler_operators.specs.Common.{count, IsIn, IsApart, edge_of, is_first, plus, Model, LoopContent, lone, cycle, items_of, tail, content, loop_of, solid_of, faces_of, Sound, Has, HasHalf, IsLoneAt, lists, is_lone, lone_vertex, face_at}
 use Rattle.euler_operators.specs.Table as table
-use Rattle.euler_laws.proofs.Common.{lone_is, one_solid_round, listed_passes, passes_listed, all_where-rises, IsIn-from_listed, listed-from_in, counted_once}
-use Rattle.shapes.specs.Common.{items_in, vertices_on, corners_in, vertices_of, edges_of, leads}
-use Rattle.solid_measure.specs.solid_counts.Counts.{rings_in, counts}
-use Rattle.solid_measure.specs.declared.solid_counts.Met.{Met}
 use Rattle.solid_measure.specs.declared.solid_counts.Tally.{Tally}
-use Rattle.solid_measure.specs.solid_counts.Sums.{IsFew, loops_met}
 use Rattle.solid_measure.proofs.solid_counts_laws.HowMany.{passing, passing_are, passing_apart, of_passing, in_passing, of_map, equally_many}
 use Rattle.solid_measure.proofs.solid_counts_laws.Sums.{is_lone_loop, loops_are, loops_few}
 use Rattle.solid_measure.proofs.solid_counts_laws.FaceSums.{rings_few}
-use Rattle.shapes.proofs.Common.{solid_loops, all_loops_apart, loop_in_solid, solid_has_loop, faces_short, one_leads, only_leads, corners_are, on_one, in_some, on_some, halves_apart, half_solid, solid_half}
 
 -- what the code holds of counts and of their difference
 count_held : (z : ℤ) (n : ℕ) → z ≡ pos n → n ≤ 5000001 → to_z w64 (of_z w64 z) ≡ pos n

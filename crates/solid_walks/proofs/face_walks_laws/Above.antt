@@ -1,9 +1,5 @@
 -- Rising lists of numbers, and what of them stands above a number.
-use Rattle.std.proofs.Common.{◌≡◌, ℕ, ◌<◌, ◌≤◌, Bool, true, false, ◌||◌, nat_eq, List, [], ◌∷◌, refl, sym, ap, arith, true≢false}
-use Rattle.std.proofs.lemmas.Bool.Decides.{nat_tests}
-use Rattle.std.proofs.lemmas.Bool.{or_right}
-use Rattle.euler_operators.specs.Common.{lists}
-use Rattle.euler_operators.proofs.Common.{nat_eq_turned}
+use Rattle.solid_walks.proofs.Prelude.{◌≡◌, ℕ, ◌<◌, ◌≤◌, Bool, true, false, ◌||◌, nat_eq, List, [], ◌∷◌, refl, sym, ap, arith, true≢false, nat_tests, or_right, lists, nat_eq_turned}
 pub use Rattle.solid_walks.specs.Left.{above}
 
 -- whether k stands in the list

@@ -1,11 +1,8 @@
 -- A walk round a ring, from an item on until it is met again.
-use Rattle.std.proofs.Common.{◌≡◌, ◌≢◌, ℕ, ◌≤◌, min, List, [], ◌∷◌, ◌++◌, refl, sym, ap, ◌∙◌, arith, append_assoc, is_some, ne_eqb}
-use Rattle.euler_operators.specs.Common.{count, IsIn, IsApart, head_or, least, rotate_to, canonical, successor, rest, Model, content, loop_of, cycle_of, Sound, HasHalf, StandsIn}
+use Rattle.solid_walks.proofs.Prelude.{◌≡◌, ◌≢◌, ℕ, ◌≤◌, min, List, [], ◌∷◌, ◌++◌, refl, sym, ap, ◌∙◌, arith, append_assoc, is_some, ne_eqb, count, IsIn, IsApart, head_or, least, rotate_to, canonical, successor, rest, Model, content, loop_of, cycle_of, Sound, HasHalf, StandsIn, count-append, tick_same, split_at, count-before, before_of, after_of, least_le, least_in, rotate_to-rotates, IsApart-rotate_to, count-rotate_to, rotate_to_is, successor_at, successor_same, IsIn_successor, in-holds, held_row, cycle_there, cycle_sound, number_real, items_left}
 use Rattle.euler_operators.specs.Items.{before, after}
-use Rattle.euler_operators.proofs.Common.{count-append, tick_same, split_at, count-before, before_of, after_of, least_le, least_in, rotate_to-rotates, IsApart-rotate_to, count-rotate_to, rotate_to_is, successor_at, successor_same, IsIn_successor, in-holds, held_row, cycle_there, cycle_sound, number_real}
 use Rattle.euler_operators.specs.Model as model
 use Rattle.euler_conditions.proofs.Coded.{code_real}
-use Rattle.solid_walks.specs.Left.{items_left}
 pub use Rattle.solid_walks.specs.Left.{to_come}
 
 -- the items of a walk from h that has come to x, x among them

@@ -1,11 +1,5 @@
 -- What an arena answers as a walk goes from a face of a solid to the next.
-use Rattle.std.proofs.Common.{◌≡◌, ℕ, ◌<◌, Bool, true, ◌&&◌, ◌||◌, nat_eq, [], ◌∷◌, Option, Some, None, is_some, unwrap_or, refl, sym, ◌∙◌}
-use Rattle.euler_operators.specs.Common.{get, has, Model, FaceRow, no_face, solid_of, faces_of, Sound, Has, IsIn}
-use Rattle.euler_operators.proofs.Common.{and_first, one_or_more}
-use Rattle.euler_conditions.specs.Store.{IsNextFace, is_face_of}
-use Rattle.euler_laws.proofs.Common.{listed-from_in}
-use Rattle.shapes.specs.Common.{faces_of_both, loops_of}
-use Rattle.shapes.proofs.Common.{listed_face, face_of_loop}
+use Rattle.solid_walks.proofs.Prelude.{◌≡◌, ℕ, ◌<◌, Bool, true, ◌&&◌, ◌||◌, nat_eq, [], ◌∷◌, Option, Some, None, is_some, unwrap_or, refl, sym, ◌∙◌, get, has, Model, FaceRow, no_face, solid_of, faces_of, Sound, Has, IsIn, and_first, one_or_more, IsNextFace, is_face_of, listed-from_in, faces_of_both, loops_of, listed_face, face_of_loop}
 use Rattle.solid_walks.proofs.face_walks_laws.Above.{above, member, AllAbove, Rising, all_above, next_above, none_above, all_above_members}
 use Rattle.solid_walks.proofs.face_walks_laws.TableWalks.{passes, rising_passing, member_passing}
 

@@ -1,10 +1,6 @@
 -- Half-edges, their codes, and the test for equal ones.
-use Rattle.std.proofs.Common.{◌≡◌, ◌≢◌, ℕ, true, false, ◌&&◌, nat_eq, ap, sym, ◌∙◌, arith, refl}
+use Rattle.solid_walks.proofs.Prelude.{◌≡◌, ◌≢◌, ℕ, true, false, ◌&&◌, nat_eq, ap, sym, ◌∙◌, arith, refl, nat_tests, and_parts, HalfEdge, code, mate, plus, minus, has, Model, HasHalf, edge_of-code, code-mate, same_code, beq_itself, beq_true}
 use mathlib.Core.Bool.{beq}
-use Rattle.std.proofs.lemmas.Bool.Decides.{nat_tests}
-use Rattle.std.proofs.lemmas.Bool.{and_parts}
-use Rattle.euler_operators.specs.Common.{HalfEdge, code, mate, plus, minus, has, Model, HasHalf}
-use Rattle.euler_operators.proofs.Common.{edge_of-code, code-mate, same_code, beq_itself, beq_true}
 pub use Rattle.euler_conditions.proofs.Coded.{edge_fits, coded}
 
 pub code_plus : (e : ℕ) → code (record { edge = e; first = true }) ≡ plus e

@@ -1,8 +1,5 @@
 -- What an arena answers as a walk goes from a ring of a face to the next.
-use Rattle.std.proofs.Common.{◌≡◌, ℕ, Bool, true, false, not, ◌&&◌, nat_eq, [], ◌∷◌, Option, Some, None, is_some, unwrap_or, refl, sym, ◌∙◌}
-use Rattle.euler_operators.specs.Common.{get, has, Model, LoopRow, no_loop, face_of, outer, rings_of, is_ring_of, Sound}
-use Rattle.euler_operators.proofs.Common.{one_or_more}
-use Rattle.euler_conditions.specs.Store.{IsNextRing}
+use Rattle.solid_walks.proofs.Prelude.{◌≡◌, ℕ, Bool, true, false, not, ◌&&◌, nat_eq, [], ◌∷◌, Option, Some, None, is_some, unwrap_or, refl, sym, ◌∙◌, get, has, Model, LoopRow, no_loop, face_of, outer, rings_of, is_ring_of, Sound, one_or_more, IsNextRing}
 use Rattle.solid_walks.proofs.face_walks_laws.Above.{above, member, all_above, next_above, none_above, all_above_members}
 use Rattle.solid_walks.proofs.face_walks_laws.TableWalks.{passes, rising_passing, member_passing}
 

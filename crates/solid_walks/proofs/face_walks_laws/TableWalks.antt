@@ -1,8 +1,5 @@
 -- The numbers of a table, as a walk from each to the next meets them.
-use Rattle.std.proofs.Common.{◌≡◌, ℕ, Bool, true, false, List, [], ◌∷◌, map, Option, Some, None, is_some, refl, sym, ap, subst, ◌∙◌, true≢false}
-use Rattle.euler_operators.specs.Common.{Table, get, has, numbers, all_in, all_where, lists, strictly_rises}
-use Rattle.euler_operators.proofs.Common.{same_truth}
-use Rattle.euler_laws.proofs.Common.{all_where-rises, listed_as, listed_passes, rises_apart, rises_on}
+use Rattle.solid_walks.proofs.Prelude.{◌≡◌, ℕ, Bool, true, false, List, [], ◌∷◌, map, Option, Some, None, is_some, refl, sym, ap, subst, ◌∙◌, true≢false, Table, get, has, numbers, all_in, all_where, lists, strictly_rises, same_truth, all_where-rises, listed_as, listed_passes, rises_apart, rises_on}
 use Rattle.solid_walks.proofs.face_walks_laws.Above.{member, lists_member, Rising, all_above_members}
 
 -- whether the row is there and passes a test

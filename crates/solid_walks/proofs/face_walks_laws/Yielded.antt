@@ -1,9 +1,7 @@
 -- What an iterator that is seen as the list of what is to come yields stands in that list.
-use Rattle.std.proofs.Common.{◌≡◌, ℕ, List, [], ◌∷◌, length, Some, refl, sym, ap, subst, ◌∙◌, arith}
+use Rattle.solid_walks.proofs.Prelude.{◌≡◌, ℕ, List, [], ◌∷◌, length, Some, refl, sym, ap, subst, ◌∙◌, arith, count, IsIn, tick_same}
 use Rattle.std.specs.Iterator.{Yields, YieldsFirstBy, CallableAtEachTurn, MakesProgress, item_count}
 use Rattle.std.proofs.lemmas.Fn.{serves_by}
-use Rattle.euler_operators.specs.Common.{count, IsIn}
-use Rattle.euler_operators.proofs.Common.{tick_same}
 
 module _ {A : Type 0} (code : A → ℕ) where
   pub yielded_in : (xs : List A) (s t u : List ℕ) (x : A) → Yields (YieldsFirstBy code (λ left. left)) s xs t → t ≡ code x ∷ u → IsIn (code x) s

@@ -1,13 +1,7 @@
 -- The least lone loop of a face, of some faces, of two solids.
-use Rattle.std.proofs.Common.{◌≡◌, ℕ, Bool, true, ◌&&◌, ◌||◌, nat_eq, List, [], ◌∷◌, Option, Some, None, is_some, unwrap_or, refl, sym, ap, ◌∙◌, arith, inl, inr, length, eqb-true}
-use Rattle.euler_operators.specs.Common.{get, has, all_where, Model, LoopRow, no_loop, face_of, outer, content, rings_of, faces_of, Sound, Has, lists, is_lone}
-use Rattle.euler_operators.proofs.Common.{and_false, and_first, and_second, nat_eq_itself, one_or_more, or_false, same_truth}
-use Rattle.euler_laws.proofs.Common.{first_listed, rest_listed, outer_or_ring}
-use Rattle.shapes.specs.Common.{loops_of, least_lone, faces_of_both}
-use Rattle.shapes.proofs.Common.{face_of_loop, ring_listed}
+use Rattle.solid_walks.proofs.Prelude.{◌≡◌, ℕ, Bool, true, ◌&&◌, ◌||◌, nat_eq, List, [], ◌∷◌, Option, Some, None, is_some, unwrap_or, refl, sym, ap, ◌∙◌, arith, inl, inr, length, eqb-true, get, has, all_where, Model, LoopRow, no_loop, face_of, outer, content, rings_of, faces_of, Sound, Has, lists, is_lone, and_false, and_first, and_second, nat_eq_itself, one_or_more, or_false, same_truth, first_listed, rest_listed, outer_or_ring, loops_of, least_lone, faces_of_both, face_of_loop, ring_listed, lesser, least_such, only}
 use Rattle.solid_walks.proofs.face_walks_laws.Above.{member, lists_member, AllAbove, all_above_members}
 use Rattle.solid_walks.proofs.face_walks_laws.TableWalks.{passes, member_passing}
-use Rattle.solid_walks.specs.Least.{lesser, least_such, only}
 use Rattle.solid_walks.proofs.lone_laws.Searches.{IsLeast, and_or, one_least, least_same, least_either, least_listed, least_row, lesser_none}
 use Rattle.solid_walks.proofs.face_walks_laws.FaceWalks.{member_both}
 

@@ -1,13 +1,7 @@
 -- The least number that passes a test.
-use Rattle.std.proofs.Common.{◌≡◌, ℕ, ◌<◌, Bool, true, false, cond, ◌&&◌, ◌||◌, nat_eq, nat_le, List, [], ◌∷◌, Option, Some, None, refl, sym, ap, ◌∙◌, arith, true≢false, inl, inr, subst, fold, find}
-use Rattle.std.proofs.lemmas.Bool.Decides.{nat_tests, eqb_tells}
-use Rattle.std.proofs.lemmas.Bool.{or_left, or_right}
-use Rattle.euler_operators.specs.Common.{Table, get, first_in, first_where, all_in, all_where}
-use Rattle.euler_operators.proofs.Common.{and_false}
-use Rattle.shapes.specs.Common.{first_such, found}
+use Rattle.solid_walks.proofs.Prelude.{◌≡◌, ℕ, ◌<◌, Bool, true, false, cond, ◌&&◌, ◌||◌, nat_eq, nat_le, List, [], ◌∷◌, Option, Some, None, refl, sym, ap, ◌∙◌, arith, true≢false, inl, inr, subst, fold, find, nat_tests, eqb_tells, or_left, or_right, Table, get, first_in, first_where, all_in, all_where, and_false, first_such, found, only, lesser, least_such}
 use Rattle.solid_walks.proofs.face_walks_laws.Above.{member, AllAbove, Rising, not_member}
 use Rattle.solid_walks.proofs.face_walks_laws.TableWalks.{passes, rising_passing, member_passing}
-use Rattle.solid_walks.specs.Least.{only, lesser, least_such}
 
 abbrev pub IsLeast : (ℕ → Bool) → Option ℕ → Type 0
 IsLeast p None = (k : ℕ) → p k ≡ false

@@ -1,15 +1,7 @@
 -- The conditions with which a split begins, part by part.
-use Rattle.std.specs.List.{list_any}
-use Rattle.std.proofs.Common.{◌≡◌, ℕ, ◌+◌, true, false, cond, ◌&&◌, nat_le, List, [], ◌∷◌, ◌++◌, length, Option, Some, None, Result, Ok, Err, IfOk, IfErr, IfSome, OnErr, refl, sym, ap, subst, ◌∙◌, arith, min}
-use Rattle.std.proofs.lemmas.Bool.Decides.{nat_tests}
-use Rattle.euler_operators.specs.Common.{Plane, IsCutPlane, Model, faces_of, Condition, need, first_refusal, verdict}
+use Rattle.split_checks.proofs.Prelude.{list_any, ◌≡◌, ℕ, ◌+◌, true, false, cond, ◌&&◌, nat_le, List, [], ◌∷◌, ◌++◌, length, Option, Some, None, Result, Ok, Err, IfOk, IfErr, IfSome, OnErr, refl, sym, ap, subst, ◌∙◌, arith, min, nat_tests, Plane, IsCutPlane, Model, faces_of, Condition, need, first_refusal, verdict, Refusal, all_hold, verdict_passed, verdict_failed, first_refusal-append, first_refusal-front, first_refusal-refused, Taken, taken_in, numbers_left, no_such, first_such, is_touched, is_cut_often, is_crossed, pair_count, reaches_above, reaches_below, straddling_faces, crossing_edges, number_conditions, plane_in_range, faces_are_flat, early_split_conditions, straddling_conditions, cut_conditions, sectioning_conditions, first_conditions, early_refusal, HasFlatFaces, is_off}
 use Rattle.euler_operators.specs.declared.Why.TheVariants.{PlaneMisses, NotLattice, NumbersSpent, TouchedFace, CutOften, CutCrossed}
-use Rattle.euler_operators.specs.declared.Refusal.{Refusal}
-use Rattle.euler_laws.proofs.Common.{all_hold, verdict_passed, verdict_failed}
-use Rattle.shapes.proofs.Common.{first_refusal-append, first_refusal-front, first_refusal-refused}
 use Rattle.shapes.proofs.split.Facts.{plane_within}
-use Rattle.shapes.specs.Common.{Taken, taken_in, numbers_left, no_such, first_such, is_touched, is_cut_often, is_crossed, pair_count, reaches_above, reaches_below, straddling_faces, crossing_edges, number_conditions, plane_in_range, faces_are_flat, early_split_conditions, straddling_conditions, cut_conditions, sectioning_conditions, first_conditions}
-use Rattle.split_checks.specs.Common.{early_refusal, HasFlatFaces, is_off}
 
 -- what holds of the value of a result, and of its error
 pub at_ok : {X E : Type 0} (r : Result X E) (x : X) (P : X → Type 0) → r ≡ Ok x → IfOk r P → P x

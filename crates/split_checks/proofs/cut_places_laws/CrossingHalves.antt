@@ -1,9 +1,5 @@
 -- The two halves of an edge that crosses a plane.
-use Rattle.std.proofs.Common.{◌≡◌, ℕ, true, sym, ap, ◌∙◌, arith}
-use Rattle.euler_operators.specs.Common.{Plane, height, are_opposite, cut_between, edge_of, plus, minus, Model}
-use Rattle.euler_operators.proofs.Common.{mate_plus, mate_minus, opposite_turned, cut_back}
-use Rattle.euler_laws.proofs.Common.{halves_of_edge}
-use Rattle.shapes.specs.Common.{start, finish, crosses}
+use Rattle.split_checks.proofs.Prelude.{◌≡◌, ℕ, true, sym, ap, ◌∙◌, arith, Plane, height, are_opposite, cut_between, edge_of, plus, minus, Model, mate_plus, mate_minus, opposite_turned, cut_back, halves_of_edge, start, finish, crosses}
 
 module _ (M : Model) (p : Plane) where
   minus_crosses : (e : ℕ) → crosses M p (minus e) ≡ crosses M p (plus e)

@@ -1,6 +1,5 @@
 -- Where a plane meets a segment, as it is told.
-use Rattle.std.proofs.Common.{◌≡◌, Bool, not, Option, Some, is_some, true≢false, arith}
-use Rattle.euler_operators.specs.Common.{Point, Plane, cuts_lattice, cut_between, cut_point}
+use Rattle.split_checks.proofs.Prelude.{◌≡◌, Bool, not, Option, Some, is_some, true≢false, arith, Point, Plane, cuts_lattice, cut_between, cut_point}
 
 pub told_off : (s : Plane) (p q : Point) (found : Option Point) (off : Bool) → found ≡ cut_point s p q → is_some found ≡ not off → off ≡ not (cuts_lattice s p q)
 told_off s p q found off is e = grind arith

@@ -1,20 +1,10 @@
 -- The edges that a walk over the faces of a solid meets as crossing a plane are those of the solid that do.
-use Rattle.std.proofs.Common.{◌≡◌, ℕ, Bool, true, ◌&&◌, nat_eq, List, [], ◌∷◌, length, map, is_some, refl, sym, ap, subst, ◌∙◌, arith, inl, inr, filter, eq-eqb, eqb-true}
-use Rattle.std.proofs.lemmas.Bool.{and_parts}
-use Rattle.std.proofs.lemmas.List.{map-append}
-use Rattle.std.proofs.lemmas.List.Elements.{filter-append}
-use Rattle.euler_operators.specs.Common.{Plane, IsIn, IsApart, edge_of, is_first, mate, plus, Model, loop_of, solid_of, faces_of, Sound, Has, HasHalf, face_at}
-use Rattle.euler_operators.proofs.Common.{tick_same, plus_row, mate_minus, first_is_plus, IsIn-map, IsApart-images, IsIn-filter, row_some}
+use Rattle.split_checks.proofs.Prelude.{◌≡◌, ℕ, Bool, true, ◌&&◌, nat_eq, List, [], ◌∷◌, length, map, is_some, refl, sym, ap, subst, ◌∙◌, arith, inl, inr, filter, eq-eqb, eqb-true, and_parts, map-append, filter-append, Plane, IsIn, IsApart, edge_of, is_first, mate, plus, Model, loop_of, solid_of, faces_of, Sound, Has, HasHalf, face_at, tick_same, plus_row, mate_minus, first_is_plus, IsIn-map, IsApart-images, IsIn-filter, row_some, halves_of_edge, listed_passes, passes_listed, all_where-rises, IsIn-from_listed, listed-from_in, counted_once, items_in, loops_of, boundary, edges_of, crosses, straddles, straddling_faces, crossing_edges, loops_in, leads_across, crossings_met, IsCrossing, AreCrossing, IsFaceAlong, AreFacesAlong, Rising, items_counted, items_there, items_joined, halves_apart, half_solid, solid_half, solid_loops, face_of_loop, listed_face}
 use Rattle.euler_operators.specs.Table as table
-use Rattle.euler_laws.proofs.Common.{halves_of_edge, listed_passes, passes_listed, all_where-rises, IsIn-from_listed, listed-from_in, counted_once}
 use Rattle.solid_measure.proofs.face_walks_laws.TableWalks.{rising_passing}
-use Rattle.shapes.specs.Common.{items_in, loops_of, boundary, edges_of, crosses, straddles, straddling_faces, crossing_edges, loops_in}
 use Rattle.solid_measure.proofs.solid_counts_laws.HowMany.{of_map, equally_many}
-use Rattle.split_checks.specs.Common.{leads_across, crossings_met, IsCrossing, AreCrossing, IsFaceAlong, AreFacesAlong}
 use Rattle.split_checks.proofs.cut_places_laws.CrossingHalves.{plus_crosses}
 use Rattle.split_checks.proofs.cut_places_laws.Lists.{of_picked, picked_apart, picked_rise}
-use Rattle.solid_measure.proofs.face_walks_laws.Above.{Rising}
-use Rattle.shapes.proofs.Common.{items_counted, items_there, items_joined, halves_apart, half_solid, solid_half, solid_loops, face_of_loop, listed_face}
 
 all_crossing : (M : Model) (p : Plane) (es : List ℕ) → ((e : ℕ) → IsIn e es → IsCrossing M p e) → AreCrossing M p es
 all_crossing M p [] each = tt

@@ -1,9 +1,6 @@
 -- The height of a point over a plane along which points are cut, in 64 bits.
-use Rattle.std.proofs.Common.{◌≡◌, ℕ, ◌≤◌, true, ℤ, refl, sym, subst, arith, ◌+ℤ◌, ◌*ℤ◌, FitsSigned}
-use Rattle.std.proofs.lemmas.Int.{to_z-of_z, fits_signed_from_abs}
+use Rattle.split_checks.proofs.Prelude.{◌≡◌, ℕ, ◌≤◌, true, ℤ, refl, sym, subst, arith, ◌+ℤ◌, ◌*ℤ◌, FitsSigned, to_z-of_z, fits_signed_from_abs, Point, Plane, IsInRange, is_coordinate, IsWithin, IsCutPlane, height, coordinates, coordinate_is, coordinate_within, fits, held, held_is, held_short, product_within, sum_within}
 use mir.Syntax.{w64}
-use Rattle.euler_operators.specs.Common.{Point, Plane, IsInRange, is_coordinate, IsWithin, IsCutPlane, height}
-use Rattle.euler_operators.proofs.Common.{coordinates, coordinate_is, coordinate_within, fits, held, held_is, held_short, product_within, sum_within}
 
 -- what the code makes fits 64 bits, and is exact
 pub record Short (z y : ℤ) : Type 0 where

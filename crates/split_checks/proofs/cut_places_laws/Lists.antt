@@ -1,10 +1,5 @@
 -- Lists that a walk takes apart.
-use Rattle.std.proofs.Common.{◌≡◌, ◌∙◌, ℕ, ◌-◌, ◌≤◌, Bool, true, false, cond, ◌||◌, List, [], ◌∷◌, ◌++◌, map, length, slice_index_or, refl, sym, ap, arith, take, drop, filter}
-use Rattle.std.specs.List.{list_any}
-use Rattle.std.proofs.lemmas.List.{take_rest, map-append}
-use Rattle.euler_operators.specs.Common.{HalfEdge, code, IsIn, IsApart}
-use Rattle.euler_operators.proofs.Common.{count-filter, filter_passes}
-use Rattle.solid_measure.proofs.face_walks_laws.Above.{AllAbove, Rising}
+use Rattle.split_checks.proofs.Prelude.{◌≡◌, ◌∙◌, ℕ, ◌-◌, ◌≤◌, Bool, true, false, cond, ◌||◌, List, [], ◌∷◌, ◌++◌, map, length, slice_index_or, refl, sym, ap, arith, take, drop, filter, list_any, take_rest, map-append, HalfEdge, code, IsIn, IsApart, count-filter, filter_passes, AllAbove, Rising}
 
 -- the first of a list, and the others
 abbrev pub others : {A : Type 0} → List A → List A

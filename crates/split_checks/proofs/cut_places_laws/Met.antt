@@ -1,19 +1,6 @@
 -- What a plane meets of corners, added up.
-use Rattle.std.specs.List.{list_any}
-use Rattle.std.proofs.Common.{◌≡◌, ℕ, ◌+◌, ◌-◌, ◌≤◌, nat_lt, vec_len, arith, Bool, true, false, cond, not, ◌&&◌, ◌||◌, List, [], ◌∷◌, ◌++◌, map, length, refl, sym, ap, ◌∙◌, subst, append_assoc, take, filter, append-nil, length-append, take_at}
-use Rattle.std.proofs.lemmas.List.{map-append, length-map, take-map}
-use Rattle.std.proofs.lemmas.Bool.Decides.{nat_tests}
-use Rattle.std.proofs.lemmas.List.Elements.{filter-append}
-use Rattle.std.proofs.lemmas.List.Folds.{list_any-append}
-use Rattle.euler_operators.specs.Common.{Plane, Sign, Below, On, Above, HalfEdge, code, edge_of, height, sign_of, is_on, are_opposite, Point, Model, LoopContent, items_of, content, outer, rings_of, tail, point_of, before}
-use Rattle.euler_operators.specs.declared.Content.TheVariants.{Lone}
-use Rattle.euler_conditions.specs.Store.{Tells}
-use Rattle.euler_operators.proofs.Common.{edge_of-code, is_first-code, and_false, or_false}
-use Rattle.shapes.specs.Common.{start, finish, boundary, corners, loops_of, items_in, vertices_on, vertices_in, is_place, is_touched, is_cut_often, places, crosses, reaches_above, reaches_below, straddles}
-use Rattle.shapes.proofs.Common.{items_joined, vertices_joined}
-use Rattle.split_checks.specs.Common.{leads_across, crossings_in, crossings_met, IsMet, IsRound, IsFaceMet, IsMeeting, unmarked, with_side, face_met, all_places, touches, same_sign, opposite_signs, lies, some_lie}
-use Rattle.split_checks.specs.declared.cut_places.found.Looked.{Looked}
-use Rattle.split_checks.specs.declared.cut_places.found.Met.{Met}
+use Rattle.split_checks.proofs.Prelude.{list_any, ◌≡◌, ℕ, ◌+◌, ◌-◌, ◌≤◌, nat_lt, vec_len, arith, Bool, true, false, cond, not, ◌&&◌, ◌||◌, List, [], ◌∷◌, ◌++◌, map, length, refl, sym, ap, ◌∙◌, subst, append_assoc, take, filter, append-nil, length-append, take_at, map-append, length-map, take-map, nat_tests, filter-append, list_any-append, Plane, Sign, Below, On, Above, HalfEdge, code, edge_of, height, sign_of, is_on, are_opposite, Point, Model, LoopContent, items_of, content, outer, rings_of, tail, point_of, before, Lone, Tells, edge_of-code, is_first-code, and_false, or_false, start, finish, boundary, corners, loops_of, items_in, vertices_on, vertices_in, is_place, is_touched, is_cut_often, places, crosses, reaches_above, reaches_below, straddles, items_joined, vertices_joined, leads_across, crossings_met, IsFaceMet, IsMeeting, with_side, face_met, all_places, touches, Looked, Met}
+use Rattle.split_checks.specs.Common.{crossings_in, IsMet, IsRound, unmarked, same_sign, opposite_signs, lies, some_lie}
 use Rattle.split_checks.proofs.cut_places_laws.PlaceWalks.{crossings_both}
 use Rattle.split_checks.proofs.cut_places_laws.Signs.{sign_lies, signs_opposite}
 

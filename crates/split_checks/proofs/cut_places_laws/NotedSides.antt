@@ -1,13 +1,7 @@
 -- Sides that are noted, and the side that corners reach.
-use Rattle.std.proofs.Common.{◌≡◌, ◌≢◌, ℕ, zero, suc, Bool, true, false, List, [], ◌∷◌, slice_index_or, slice_set, sym, ap, ◌∙◌, true≢false, arith}
-use Rattle.euler_operators.specs.Common.{Plane, Sign, Below, Above, height, sign_of, Model, LoopContent, lone, cycle, is_number, point_of, Sound, Has}
-use Rattle.euler_operators.specs.declared.Content.TheVariants.{Lone}
+use Rattle.split_checks.proofs.Prelude.{◌≡◌, ◌≢◌, ℕ, zero, suc, Bool, true, false, List, [], ◌∷◌, slice_index_or, slice_set, sym, ap, ◌∙◌, true≢false, arith, Plane, Sign, Below, Above, height, sign_of, Model, LoopContent, lone, cycle, is_number, point_of, Sound, Has, Lone, or_false, Tells, vertices_on, Noted, IsSide, AreNoted}
 use Rattle.euler_operators.specs.Table as table
-use Rattle.euler_operators.proofs.Common.{or_false}
-use Rattle.euler_conditions.specs.Store.{Tells}
-use Rattle.shapes.specs.Common.{vertices_on}
-use Rattle.split_checks.specs.declared.cut_places.noted.Noted.{Noted}
-use Rattle.split_checks.specs.Common.{IsSide, AreNoted, same_sign, side_reached, some_lie}
+use Rattle.split_checks.specs.Common.{same_sign, side_reached, some_lie}
 use Rattle.split_checks.proofs.cut_places_laws.Signs.{sign_lies}
 
 -- ---- what is noted

@@ -1,13 +1,7 @@
 -- The half-edges of a loop, taken one by one as a walk round it meets them.
-use Rattle.std.proofs.Common.{◌≡◌, ◌≢◌, ℕ, Bool, true, false, List, [], ◌∷◌, ◌++◌, map, sym, ap, ◌∙◌, append_assoc, filter, append-nil, arith}
-use Rattle.std.proofs.lemmas.List.{map-append}
-use Rattle.std.proofs.lemmas.List.Elements.{filter-append}
-use Rattle.euler_operators.specs.Common.{Plane, HalfEdge, code, edge_of, IsIn, Model, cycle_of, loop_of, point_of, Sound, HasHalf}
+use Rattle.split_checks.proofs.Prelude.{◌≡◌, ◌≢◌, ℕ, Bool, true, false, List, [], ◌∷◌, ◌++◌, map, sym, ap, ◌∙◌, append_assoc, filter, append-nil, arith, map-append, filter-append, Plane, HalfEdge, code, edge_of, IsIn, Model, cycle_of, loop_of, point_of, Sound, HasHalf, in_a_loop, start, finish, crossings_in, item_there}
 use Rattle.euler_operators.specs.Model as model
-use Rattle.euler_conditions.proofs.Known.{in_a_loop}
-use Rattle.shapes.specs.Common.{start, finish}
-use Rattle.split_checks.specs.cut_places.Crossings.{crossings_in, leads_across}
-use Rattle.solid_measure.proofs.face_walks_laws.CycleWalks.{item_there}
+use Rattle.split_checks.specs.cut_places.Crossings.{leads_across}
 
 -- one half-edge is looked at: it is taken where it passes
 module _ (p : ℕ → Bool) (had now : List HalfEdge) (x : HalfEdge) (rest : List ℕ) where

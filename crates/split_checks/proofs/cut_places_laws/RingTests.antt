@@ -1,12 +1,7 @@
 -- A test of the half-edges of a loop, walked from one of them on.
-use Rattle.std.proofs.Common.{◌≡◌, ◌≢◌, ℕ, Bool, true, false, ◌||◌, ◌∷◌, sym, ap, ◌∙◌}
-use Rattle.std.specs.List.{list_any}
-use Rattle.std.proofs.lemmas.List.Sorted.{list_any-IsPermutation}
-use Rattle.euler_operators.specs.Common.{IsIn, rotate_to, Model, cycle_of, loop_of, Sound, HasHalf}
-use Rattle.euler_operators.proofs.Common.{rotate_to-rotates, IsRotation-permutation, or_false}
+use Rattle.split_checks.proofs.Prelude.{◌≡◌, ◌≢◌, ℕ, Bool, true, false, ◌||◌, ◌∷◌, sym, ap, ◌∙◌, list_any, list_any-IsPermutation, IsIn, rotate_to, Model, cycle_of, loop_of, Sound, HasHalf, rotate_to-rotates, IsRotation-permutation, or_false, to_come, cycle_apart, item_in, start_is, goes_on, comes_back}
 use Rattle.euler_operators.specs.Model as model
 use Rattle.split_checks.proofs.cut_places_laws.Met.{or_joined}
-use Rattle.solid_measure.proofs.face_walks_laws.CycleWalks.{to_come, cycle_apart, item_in, start_is, goes_on, comes_back}
 
 module _ (M : Model) (sound : Sound M) (h : ℕ) (there : HasHalf M h) (p : ℕ → Bool) where
   -- whether one of those passes that are to be tested from x on

@@ -1,12 +1,5 @@
 -- A face walked over its outer loop, and then over its rings.
-use Rattle.std.proofs.Common.{◌≡◌, ℕ, false, ◌||◌, List, [], ◌++◌, Some, None, sym, ap, ◌∙◌}
-use Rattle.std.proofs.lemmas.List.Folds.{list_any-append}
-use Rattle.euler_operators.specs.Common.{Plane, Sign, Model, content, items_of, outer, point_of, rings_of, Sound}
-use Rattle.euler_conditions.specs.Store.{IsNextRing}
-use Rattle.shapes.specs.Common.{boundary, corners, items_in, loops_of, vertices_in, vertices_on}
-use Rattle.solid_measure.proofs.face_walks_laws.Above.{above}
-use Rattle.solid_measure.proofs.face_walks_laws.RingWalks.{next_ring, no_ring, rings_from_zero}
-use Rattle.split_checks.specs.cut_places.Sides.{lies, some_lie}
+use Rattle.split_checks.proofs.Prelude.{◌≡◌, ℕ, false, ◌||◌, List, [], ◌++◌, Some, None, sym, ap, ◌∙◌, list_any-append, Plane, Sign, Model, content, items_of, outer, point_of, rings_of, Sound, IsNextRing, boundary, corners, items_in, loops_of, vertices_in, vertices_on, above, next_ring, no_ring, rings_from_zero, lies, some_lie}
 
 module _ (M : Model) (f : ℕ) where
   -- the half-edges: those of the outer loop, and then those of the rings

@@ -1,9 +1,5 @@
 -- A search in a rising list tells whether a number stands in it.
-use Rattle.std.proofs.Common.{◌≡◌, ◌≢◌, ℕ, ◌≤◌, ◌<◌, true, List, length, get_or, Result, Ok, Err, sym, ap, ◌∙◌, arith, true≢false, is_ok, nat_cmp}
-use Rattle.std.specs.List.Sorted.{IsBinarySearchResult}
-use Rattle.std.proofs.lemmas.List.Sorted.{searched}
-use Rattle.euler_operators.specs.Common.{lists, strictly_rises}
-use Rattle.euler_laws.proofs.Common.{rising, listed_at, not_found}
+use Rattle.split_checks.proofs.Prelude.{◌≡◌, ◌≢◌, ℕ, ◌≤◌, ◌<◌, true, List, length, get_or, Result, Ok, Err, sym, ap, ◌∙◌, arith, true≢false, is_ok, nat_cmp, IsBinarySearchResult, searched, lists, strictly_rises, rising, listed_at, not_found}
 
 less : (a b : ℕ) → a ≤ b → a ≢ b → a < b
 less a b l ne = grind arith

@@ -1,8 +1,6 @@
 -- The signs of numbers tell on which side of a plane points lie.
-use Rattle.std.proofs.Common.{◌≡◌, ℤ, pos, negsuc, Bool, false, cond, not, ◌&&◌, refl, ap, true≢false, int_lt, int_eq, arith}
+use Rattle.split_checks.proofs.Prelude.{◌≡◌, ℤ, pos, negsuc, Bool, false, cond, not, ◌&&◌, refl, ap, true≢false, int_lt, int_eq, arith, Point, Plane, Sign, Below, On, Above, height, sign_of, opposite, same_sign, opposite_signs, lies}
 use lib.Dec.{leb-suc-zero}
-use Rattle.euler_operators.specs.Common.{Point, Plane, Sign, Below, On, Above, height, sign_of, opposite}
-use Rattle.split_checks.specs.cut_places.Sides.{same_sign, opposite_signs, lies}
 
 told_below : (a b : Bool) → same_sign (cond a Below (cond b Above On)) Below ≡ a
 told_below a b = grind arith

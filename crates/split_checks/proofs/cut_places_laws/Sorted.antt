@@ -1,12 +1,5 @@
 -- The edges of a solid that cross a plane, sorted after a walk over its faces has met them.
-use Rattle.std.proofs.Common.{◌≡◌, ℕ, suc, true, ◌&&◌, List, [], ◌∷◌, refl, ap, ◌∙◌, arith, inl, inr, IsPermutation, IsSorted, nat_cmp, lt-ltb}
-use Rattle.std.specs.List.Sorted.{IsNonDecreasing}
-use Rattle.std.proofs.lemmas.List.Sorted.{length_permutation, IsNonDecreasingBy-from_sort}
-use Rattle.euler_operators.specs.Common.{Plane, tick, IsApart, Model, faces_of, Sound, strictly_rises}
-use Rattle.euler_operators.proofs.Common.{tick_same, less_or_same, SameItems-from_permutation}
-use Rattle.euler_laws.proofs.Common.{within, IsIn-from_listed, listed-from_in}
-use Rattle.solid_measure.proofs.face_walks_laws.Above.{Rising}
-use Rattle.shapes.specs.Common.{crossing_edges}
+use Rattle.split_checks.proofs.Prelude.{◌≡◌, ℕ, suc, true, ◌&&◌, List, [], ◌∷◌, refl, ap, ◌∙◌, arith, inl, inr, IsPermutation, IsSorted, nat_cmp, lt-ltb, IsNonDecreasing, length_permutation, IsNonDecreasingBy-from_sort, Plane, tick, IsApart, Model, faces_of, Sound, strictly_rises, tick_same, less_or_same, SameItems-from_permutation, within, IsIn-from_listed, listed-from_in, Rising, crossing_edges}
 use Rattle.split_checks.specs.cut_places.Crossings.{crossings_met}
 use Rattle.split_checks.proofs.cut_places_laws.Edges.{as_many, met_apart, met_crosses, rising}
 

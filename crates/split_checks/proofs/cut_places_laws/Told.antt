@@ -1,13 +1,7 @@
 -- What is told of faces that were looked at.
-use Rattle.std.proofs.Common.{◌≡◌, ℕ, ◌≤◌, false, List, [], ◌∷◌, map, length, refl, sym, ap, ◌∙◌, arith, take, drop, take_at, drop_at, length-append}
-use Rattle.std.proofs.lemmas.List.{take-map, drop-map, length-map}
-use Rattle.euler_operators.specs.Common.{Plane, HalfEdge, code, Model}
-use Rattle.shapes.specs.Common.{first_such, places, straddling_faces}
-use Rattle.split_checks.specs.Common.{has_flaw, shows, first_showing, face_met, faces_in, all_places, AreTold, IsSolidMet}
+use Rattle.split_checks.proofs.Prelude.{◌≡◌, ℕ, ◌≤◌, false, List, [], ◌∷◌, map, length, refl, sym, ap, ◌∙◌, arith, take, drop, take_at, drop_at, length-append, take-map, drop-map, length-map, Plane, HalfEdge, code, Model, first_such, places, straddling_faces, has_flaw, shows, face_met, faces_in, all_places, AreTold, IsSolidMet, Touched, CutOften, FaceMet, Met}
+use Rattle.split_checks.specs.Common.{first_showing}
 use Rattle.split_checks.specs.declared.begin_checks.flaws.Flaw.{Flaw}
-use Rattle.split_checks.specs.declared.begin_checks.flaws.Flaw.TheVariants.{Touched, CutOften}
-use Rattle.split_checks.specs.declared.cut_places.found.FaceMet.{FaceMet}
-use Rattle.split_checks.specs.declared.cut_places.found.Met.{Met}
 
 -- what a slice has past its end
 abbrev pub no_met : FaceMet

@@ -1,12 +1,6 @@
 -- What stands in loops and faces that are there is there.
-use Rattle.std.proofs.Common.{◌≡◌, ℕ, true, List, [], ◌∷◌, map, refl, ap, arith}
-use Rattle.euler_operators.specs.Common.{IsIn, HalfEdge, Ring, code, Table, Model, LoopContent, lone, cycle, items_of, content, loop_of, tail, Sound, Has, HasHalf, StandsIn, lists}
-use Rattle.euler_operators.proofs.Common.{tick_same, in-holds}
-use Rattle.euler_operators.specs.declared.Content.TheVariants.{Lone}
-use Rattle.euler_conditions.specs.Store.{Tells}
-use Rattle.euler_laws.proofs.Common.{first_listed, rest_listed}
+use Rattle.split_checks.proofs.Prelude.{◌≡◌, ℕ, true, List, [], ◌∷◌, map, refl, ap, arith, IsIn, HalfEdge, Ring, code, Table, Model, LoopContent, lone, cycle, items_of, content, loop_of, tail, Sound, Has, HasHalf, StandsIn, lists, tick_same, in-holds, Lone, Tells, first_listed, rest_listed, vertices_on}
 use Rattle.euler_conditions.proofs.Borders.{ring_has}
-use Rattle.shapes.specs.Common.{vertices_on}
 use Rattle.split_checks.specs.cut_places.Walks.{AreThere, AreIn}
 
 -- each of some numbers is in use, and the edge of each of some half-edges is there

@@ -1,11 +1,6 @@
 -- How many pairs the cut places of faces make.
-use Rattle.std.proofs.Common.{◌≡◌, ℕ, ◌+◌, ◌/◌, List, [], ◌∷◌, map, length, refl, sym, ap, ◌∙◌, length-append}
-use Rattle.std.proofs.lemmas.List.{length-map}
-use Rattle.euler_operators.specs.Common.{Plane, Model}
-use Rattle.shapes.specs.Common.{places, place_pairs, sorted, sorted_pairs, up_first, pair_count}
-use Rattle.shapes.proofs.Common.{length-sorted, length-in_pairs}
+use Rattle.split_checks.proofs.Prelude.{◌≡◌, ℕ, ◌+◌, ◌/◌, List, [], ◌∷◌, map, length, refl, sym, ap, ◌∙◌, length-append, length-map, Plane, Model, places, place_pairs, sorted, sorted_pairs, up_first, pair_count, length-sorted, length-in_pairs, Pair}
 use Rattle.split_checks.specs.Cuts.{all_pairs, codes}
-use Rattle.split_checks.specs.declared.cuts.Pair.{Pair}
 
 module _ (M : Model) (p : Plane) where
   pub pairs_of_places : (f : ℕ) → length (place_pairs M p f) ≡ length (places M p f) / 2

@@ -1,9 +1,5 @@
 -- What cut places say once they are in order.
-use Rattle.std.proofs.Common.{◌≡◌, ℕ, Bool, true, false, cond, not, ◌||◌, List, [], ◌∷◌, map, refl, sym, ap, arith}
-use Rattle.std.specs.List.{list_all}
-use Rattle.euler_operators.specs.Common.{Plane, Model, same_point, lex_less, differ}
-use Rattle.shapes.specs.Common.{place_point, goes_up, places, some_meet, sorted, in_pairs, sorted_pairs, is_up_and_down, up_first, is_crossed, place_pairs}
-use Rattle.split_checks.specs.place_order.Order.{are_crossed}
+use Rattle.split_checks.proofs.Prelude.{◌≡◌, ℕ, Bool, true, false, cond, not, ◌||◌, List, [], ◌∷◌, map, refl, sym, ap, arith, list_all, Plane, Model, same_point, lex_less, differ, place_point, goes_up, places, some_meet, sorted, in_pairs, sorted_pairs, is_up_and_down, up_first, is_crossed, place_pairs, are_crossed}
 
 module _ (M : Model) (p : Plane) where
   pub crossed_by : (hs : List ℕ) → some_meet M p hs ≡ true → true ≡ are_crossed M p hs

@@ -1,9 +1,5 @@
 -- Places that are taken two by two.
-use Rattle.std.proofs.Common.{◌≡◌, ℕ, ◌<◌, Bool, not, List, [], ◌∷◌, ◌++◌, map, length, refl, sym, ap, ◌∙◌, arith, true, false, true≢false, subst, append-nil}
-use Rattle.std.specs.List.{list_all}
-use Rattle.euler_operators.specs.Common.{Plane, HalfEdge, code, Model, has_half}
-use Rattle.shapes.specs.Common.{in_pairs, is_up_and_down, up_first}
-use Rattle.split_checks.specs.Common.{AreThere, Key, places_of}
+use Rattle.split_checks.proofs.Prelude.{◌≡◌, ℕ, ◌<◌, Bool, not, List, [], ◌∷◌, ◌++◌, map, length, refl, sym, ap, ◌∙◌, arith, true, false, true≢false, subst, append-nil, list_all, Plane, HalfEdge, code, Model, has_half, in_pairs, is_up_and_down, up_first, AreThere, Key, places_of}
 
 -- a place that is left alone makes no pair
 pub last_alone : (M : Model) (p : Plane) (made all : List (ℕ × ℕ)) (es more : List (Key × HalfEdge)) (e : Key × HalfEdge) → es ≡ e ∷ more → more ≡ []

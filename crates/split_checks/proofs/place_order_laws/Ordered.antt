@@ -1,10 +1,5 @@
 -- What it says of cut places that they are in order.
-use Rattle.std.proofs.Common.{◌≡◌, ℕ, true, List, [], ◌∷◌, Option, Some, None, MatchOption, refl, sym, ap, ◌∙◌, subst, arith}
-use Rattle.euler_operators.specs.Common.{Plane, IsIn, HalfEdge, Model, Sound, HasHalf}
-use Rattle.euler_operators.proofs.Common.{code-half}
-use Rattle.shapes.specs.Common.{boundary, loops_of, is_place, places, sorted_in, sorted}
-use Rattle.shapes.proofs.Common.{items_there}
-use Rattle.split_checks.specs.Common.{IsFaceAlong, AreThere, Key, ArePlacesAlong, entries_of, places_of}
+use Rattle.split_checks.proofs.Prelude.{◌≡◌, ℕ, true, List, [], ◌∷◌, Option, Some, None, MatchOption, refl, sym, ap, ◌∙◌, subst, arith, Plane, IsIn, HalfEdge, Model, Sound, HasHalf, code-half, boundary, loops_of, is_place, places, sorted_in, sorted, items_there, IsFaceAlong, AreThere, Key, ArePlacesAlong, entries_of, places_of}
 use Rattle.split_checks.proofs.cut_places_laws.Lists.{of_picked}
 use Rattle.split_checks.proofs.cut_places_laws.Walks.{all_there}
 

@@ -1,10 +1,5 @@
 -- The point of a cut place is where its half-edge starts, or where this crosses the plane.
-use Rattle.std.proofs.Common.{◌≡◌, ℕ, ◌<◌, true, false, cond, List, map, length, slice_index_or, sym, ap, ◌∙◌, true≢false, get_or, arith}
-use Rattle.std.proofs.lemmas.List.{get_or-map}
-use Rattle.euler_operators.specs.Common.{Plane, is_on, cut_between, HalfEdge, code, plus, Model}
-use Rattle.euler_operators.proofs.Common.{edge_of-code}
-use Rattle.shapes.specs.Common.{start, finish, crosses, is_place, place_point}
-use Rattle.split_checks.specs.declared.cuts.CutEdge.{CutEdge}
+use Rattle.split_checks.proofs.Prelude.{◌≡◌, ℕ, ◌<◌, true, false, cond, List, map, length, slice_index_or, sym, ap, ◌∙◌, true≢false, get_or, arith, get_or-map, Plane, is_on, cut_between, HalfEdge, code, plus, Model, edge_of-code, start, finish, crosses, is_place, place_point, CutEdge}
 use Rattle.split_checks.specs.Cuts.{cut_at}
 use Rattle.split_checks.proofs.cut_places_laws.CrossingHalves.{one_cut}
 

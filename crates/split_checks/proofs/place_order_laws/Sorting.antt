@@ -1,14 +1,8 @@
 -- Places put one by one into a map under their points stand there in the order of `sorted`.
-use Rattle.std.proofs.Common.{◌≡◌, ℕ, Bool, true, false, cond, ◌&&◌, ◌||◌, int_cmp, Ordering, Less, Equal, Greater, List, [], ◌∷◌, ◌++◌, is_some, Option, refl, sym, ap, ◌∙◌, arith, true≢false, subst, append_assoc, is_eq, is_gt}
+use Rattle.split_checks.proofs.Prelude.{◌≡◌, ℕ, Bool, true, false, cond, ◌&&◌, ◌||◌, int_cmp, Ordering, Less, Equal, Greater, List, [], ◌∷◌, ◌++◌, is_some, Option, refl, sym, ap, ◌∙◌, arith, true≢false, subst, append_assoc, is_eq, is_gt, insert_entry, list_any, or_parts, Point, Plane, same_point, lex_less, IsIn, HalfEdge, half, Model, count-append, tick_same, after_greater, after_equal, turned_greater, turned_equal, equal_is, place_point, some_meet, sorted_in, sorted, key}
 use Rattle.std.specs.Ordering.{ordering_then, match_ordering}
-use Rattle.std.specs.BTreeMap.{insert_entry}
 use Rattle.std.specs.Map.{lookup}
-use Rattle.std.specs.List.{list_any}
-use Rattle.std.proofs.lemmas.Bool.{or_parts}
-use Rattle.euler_operators.specs.Common.{Point, Plane, same_point, lex_less, IsIn, HalfEdge, half, Model}
-use Rattle.euler_operators.proofs.Common.{count-append, tick_same, after_greater, after_equal, turned_greater, turned_equal, equal_is}
-use Rattle.shapes.specs.Common.{place_point, some_meet, sorted_in, sorted}
-use Rattle.split_checks.specs.place_order.Order.{Key, key, entries_of}
+use Rattle.split_checks.specs.place_order.Order.{Key, entries_of}
 
 -- the order of keys
 abbrev pub key_cmp : Key → Key → Ordering

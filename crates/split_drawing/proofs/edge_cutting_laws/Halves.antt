@@ -1,13 +1,5 @@
 -- The operator that cuts an edge, as the code has it.
-use Rattle.std.proofs.Common.{◌≡◌, ℕ, ◌+◌, sym, ap, subst, ◌∙◌, arith}
-use Rattle.euler_operators.specs.Common.{HalfEdge, At, code, half, edge_of, plus, minus, Model, after, Has}
-use Rattle.euler_operators.proofs.Common.{half-code, code-half, edge_of-code, minus_row}
-use Rattle.euler_operators.specs.declared.Op.TheVariants.{Mev}
-use Rattle.shapes.specs.Common.{taken_in}
-use Rattle.solid_walks.specs.Counters.{taken_of}
-use Rattle.solid_walks.specs.declared.numbers.Counters.{Counters}
-use Rattle.split_checks.specs.declared.cuts.CutEdge.{CutEdge}
-use Rattle.split_drawing.specs.edge_cutting.Begins.{cut_op}
+use Rattle.split_drawing.proofs.Prelude.{◌≡◌, ℕ, ◌+◌, sym, ap, subst, ◌∙◌, arith, HalfEdge, At, code, half, edge_of, plus, minus, Model, after, Has, half-code, code-half, edge_of-code, minus_row, Mev, taken_in, taken_of, Counters, CutEdge, cut_op}
 
 pub second_edge : (X M : Model) → X ≡ M → (e : ℕ) (h : HalfEdge) → h ≡ half (minus e) → Has M.edges e → Has X.edges h.edge
 second_edge X M x e h is there = subst (λ (Y : Model). Has Y.edges h.edge) (sym x) (subst (Has M.edges) (sym (sym (edge_of-code h) ∙ ap edge_of (ap code is ∙ code-half (minus e)) ∙ (minus_row e).0)) there)

@@ -1,21 +1,12 @@
 -- Edges that are still to be cut.
-use Rattle.std.proofs.Common.{◌≡◌, ℕ, ◌+◌, ◌≤◌, List, [], ◌∷◌, length, map, slice_index_or, None, refl, sym, ap, ◌∙◌, subst, arith}
-use Rattle.euler_operators.specs.Common.{Point, Plane, At, IsCutPlane, are_opposite, cut_between, count, half, plus, minus, Model, after, no_point, Sound, first_false, effect}
-use Rattle.euler_operators.specs.declared.Op.TheVariants.{Mev}
-use Rattle.euler_operators.proofs.Common.{tick_same, mate_plus, plus_there, minus_there}
-use Rattle.shapes.specs.Common.{start, finish, Taken, taken_in, Growing, growing, crossing_edges, next_cut, cut_edge}
+use Rattle.split_drawing.proofs.Prelude.{◌≡◌, ℕ, ◌+◌, ◌≤◌, List, [], ◌∷◌, length, map, slice_index_or, None, refl, sym, ap, ◌∙◌, subst, arith, Point, Plane, At, IsCutPlane, are_opposite, cut_between, count, half, plus, minus, Model, after, no_point, Sound, first_false, effect, Mev, tick_same, mate_plus, plus_there, minus_there, start, finish, Taken, taken_in, Growing, growing, crossing_edges, next_cut, cut_edge, crossing_ops, taken_of, Counters, CutEdge, others, parts, CanBeCut}
 use Rattle.shapes.proofs.split.Facts.{split_begins}
-use Rattle.split_drawing_laws.specs.crossings.CrossingOps.{ops_from, crossing_ops}
+use Rattle.split_drawing_laws.specs.crossings.CrossingOps.{ops_from}
 use Rattle.split_drawing_laws.proofs.crossings.Steps.{CutGoes, cut_accepted}
 use Rattle.split_drawing_laws.proofs.crossings.Runs.{cut_at, Crossing, Going, kept_start, goes_now, next_model, going_on}
 use Rattle.split_drawing_laws.proofs.crossings.Whole as whole
-use Rattle.solid_walks.specs.Counters.{taken_of}
-use Rattle.solid_walks.specs.declared.numbers.Counters.{Counters}
-use Rattle.split_checks.specs.declared.cuts.CutEdge.{CutEdge}
 use Rattle.split_checks.specs.Cuts as cuts
 use Rattle.split_checks.specs.cut_places.Crossings.{IsCrossing}
-use Rattle.split_checks.proofs.cut_places_laws.Lists.{others, parts}
-use Rattle.split_drawing.specs.edge_cutting.Begins.{CanBeCut}
 
 -- N is M with some of its edges cut, and those of rs are still to be cut
 pub record Cutting (M : Model) (p : Plane) (N : Model) (rs : List ℕ) : Type 0 where

@@ -1,12 +1,6 @@
 -- Rings of a face: whether they stop its drawing, and rings given one after the other.
-use Rattle.std.proofs.Common.{◌≡◌, ℕ, ◌≤◌, ◌<◌, true, false, ◌&&◌, List, [], ◌∷◌, length, slice_index_or, None, not, nat_lt, sym, ap, subst, arith}
+use Rattle.split_drawing.proofs.Prelude.{◌≡◌, ℕ, ◌≤◌, ◌<◌, true, false, ◌&&◌, List, [], ◌∷◌, length, slice_index_or, None, not, nat_lt, sym, ap, subst, arith, Model, rings_of, first_false, has_rings, is_empty, effect, RingIn, and_false, AreAccepted, ring_ops, others, parts}
 use Rattle.std.proofs.lemmas.Bool.Decides.{nat_tests}
-use Rattle.euler_operators.specs.Common.{Model, rings_of, first_false, has_rings, is_empty, effect}
-use Rattle.euler_operators.specs.declared.Op.TheVariants.{RingIn}
-use Rattle.euler_operators.proofs.Common.{and_false}
-use Rattle.euler_laws.specs.Laws.{AreAccepted}
-use Rattle.split_drawing_laws.specs.drawings.DrawingOps.{ring_ops}
-use Rattle.split_checks.proofs.cut_places_laws.Lists.{others, parts}
 
 -- with more than one pair a face that has a ring can't be drawn
 module _ (M : Model) (f n : ℕ) where

@@ -1,14 +1,6 @@
 -- Operators on pairs as the code writes them.
-use Rattle.std.proofs.Common.{◌≡◌, ℕ, ◌+◌, true, false, cond, sym, ap, ◌∙◌}
-use Rattle.euler_operators.specs.Common.{At, code, half, plus, Model, loop_of, is_ring_of, face_at}
-use Rattle.euler_operators.proofs.Common.{half-code}
-use Rattle.euler_operators.specs.declared.Op.TheVariants.{Mef, Mekr}
+use Rattle.split_drawing.proofs.Prelude.{◌≡◌, ℕ, ◌+◌, true, false, cond, sym, ap, ◌∙◌, At, code, half, plus, Model, loop_of, is_ring_of, face_at, half-code, Mef, Mekr, Pair, Counters, codes, taken_of, join_edge, join_pair, draw_pair}
 use Rattle.solid_walks.proofs.face_walks_laws.HalfCodes.{code_plus}
-use Rattle.split_checks.specs.declared.cuts.Pair.{Pair}
-use Rattle.solid_walks.specs.declared.numbers.Counters.{Counters}
-use Rattle.split_checks.specs.Cuts.{codes}
-use Rattle.solid_walks.specs.Counters.{taken_of}
-use Rattle.shapes.specs.Common.{join_edge, join_pair, draw_pair}
 
 made : (e : ℕ) → record { edge = e; first = true } ≡ half (plus e)
 made e = sym (half-code (record { edge = e; first = true })) ∙ ap half (code_plus e)

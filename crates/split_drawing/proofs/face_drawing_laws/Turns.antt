@@ -1,21 +1,6 @@
 -- One pair more in each of the two passes, the next of a list as the code opens it.
-use Rattle.std.proofs.Common.{◌≡◌, ℕ, ◌+◌, ◌≤◌, Bool, true, false, cond, List, [], ◌∷◌, ◌++◌, length, map, slice_index_or, None, sym, ap, ◌∙◌, subst, fold}
-use Rattle.euler_operators.specs.Common.{Model, first_false, effect}
-use Rattle.shapes.specs.Common.{Drawing, in_one_loop, join_next, draw_next, join_pair, draw_pair}
-use Rattle.split_checks.proofs.cut_places_laws.Lists.{others, parts}
-use Rattle.split_checks.specs.declared.cuts.Pair.{Pair}
-use Rattle.solid_walks.specs.declared.numbers.Counters.{Counters}
-use Rattle.split_checks.specs.declared.progress.Progress.{Progress}
-use Rattle.split_checks.specs.Cuts.{codes}
-use Rattle.split_drawing.specs.face_drawing.Stuck.{stuck_at}
-use Rattle.solid_walks.specs.Counters.{taken_of}
-use Rattle.split_checks.specs.Progress.{drawing_of}
-use Rattle.split_drawing.specs.face_drawing.Passes.{CanJoin, CanDraw}
-use Rattle.split_drawing_laws.specs.drawings.DrawingOps.{join_ops, draw_ops}
-use Rattle.split_drawing_laws.specs.drawings.Passing.{Joining, Going}
-use Rattle.split_drawing_laws.proofs.drawings.Drawn.{draw_accepted as can_accepted}
+use Rattle.split_drawing.proofs.Prelude.{◌≡◌, ℕ, ◌+◌, ◌≤◌, Bool, true, false, cond, List, [], ◌∷◌, ◌++◌, length, map, slice_index_or, None, sym, ap, ◌∙◌, subst, fold, Model, first_false, effect, Drawing, in_one_loop, join_next, draw_next, join_pair, draw_pair, others, parts, Pair, Counters, Progress, codes, stuck_at, taken_of, drawing_of, CanJoin, CanDraw, join_ops, draw_ops, Joining, Going, draw_accepted as can_accepted, join_next_one, join_next_two, join_one, draw_next_one, draw_next_two, draw_one, can_now, edge_free, edge_fits_now}
 use Rattle.split_drawing_laws.proofs.drawings.Pairs.{pair_leads}
-use Rattle.split_drawing_laws.proofs.drawings.Passes.{join_next_one, join_next_two, join_one, draw_next_one, draw_next_two, draw_one, can_now, edge_free, edge_fits_now}
 
 -- the first of some pairs
 abbrev pub first_pair : List Pair → Pair

@@ -1,16 +1,5 @@
 -- The next of some faces as the code opens it.
-use Rattle.std.proofs.Common.{◌≡◌, ◌≤◌, ◌+◌, List, ◌∷◌, ◌++◌, length, map, sym, ap, ◌∙◌, [], subst, arith, take, drop, length-drop}
-use Rattle.std.proofs.lemmas.List.{take-map, drop-map}
-use Rattle.euler_operators.specs.Common.{Plane, Model}
-use Rattle.euler_operators.specs.declared.Op.{Op}
-use Rattle.shapes.specs.Common.{drawn_between, next_drawn, faces_drawn}
-use Rattle.split_drawing_laws.specs.drawings.DrawingOps.{face_ops, ops_from}
-use Rattle.split_checks.specs.declared.cuts.Pair.{Pair}
-use Rattle.split_checks.specs.declared.cuts.PairedFace.{PairedFace}
-use Rattle.split_checks.specs.declared.progress.Progress.{Progress}
-use Rattle.split_checks.specs.Cuts.{codes, how_many_pairs, paired}
-use Rattle.split_checks.specs.Progress.{drawing_of}
-use Rattle.split_drawing.specs.solid_drawing.Drawn.{put_aside, CanDrawFace, CanDrawFaces}
+use Rattle.split_drawing.proofs.Prelude.{◌≡◌, ◌≤◌, ◌+◌, List, ◌∷◌, ◌++◌, length, map, sym, ap, ◌∙◌, [], subst, arith, take, drop, length-drop, take-map, drop-map, Plane, Model, Op, drawn_between, next_drawn, faces_drawn, face_ops, ops_from, Pair, PairedFace, Progress, codes, how_many_pairs, paired, drawing_of, put_aside, CanDrawFace, CanDrawFaces}
 use Rattle.split_drawing.proofs.solid_drawing_laws.Faces.{aside, ops_aside, opened}
 
 -- what a slice has past its end

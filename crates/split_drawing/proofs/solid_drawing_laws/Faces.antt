@@ -1,13 +1,5 @@
 -- Faces drawn between their pairs, one after the other.
-use Rattle.std.proofs.Common.{◌≡◌, ℕ, List, [], ◌∷◌, map, refl, subst, arith}
-use Rattle.euler_operators.specs.Common.{Plane, Table, Has}
-use Rattle.shapes.specs.Common.{Drawing, FacePairs, drawn_between, next_drawn, faces_drawn}
-use Rattle.split_drawing_laws.specs.drawings.DrawingOps.{ops_from}
-use Rattle.split_drawing_laws.specs.drawings.Passing.{Ready, Drawable}
-use Rattle.split_drawing_laws.proofs.drawings.Faces.{face_goes}
-use Rattle.split_drawing_laws.proofs.drawings.Whole.{next_is, ready, drawable_on}
-use Rattle.split_checks.specs.cut_places.Walks.{AreIn}
-use Rattle.split_drawing.specs.solid_drawing.Drawn.{put_aside, CanDrawFace, CanDrawFaces}
+use Rattle.split_drawing.proofs.Prelude.{◌≡◌, ℕ, List, [], ◌∷◌, map, refl, subst, arith, Plane, Table, Has, Drawing, FacePairs, drawn_between, next_drawn, faces_drawn, ops_from, Ready, Drawable, face_goes, next_is, ready, drawable_on, AreIn, put_aside, CanDrawFace, CanDrawFaces}
 
 -- the pairs of a face that are put aside don't change what comes then
 pub aside : (p : Plane) (fs : List FacePairs) (d : Drawing) → put_aside (faces_drawn p (put_aside d) fs) ≡ put_aside (faces_drawn p d fs)

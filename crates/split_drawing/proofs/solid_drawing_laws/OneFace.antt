@@ -1,29 +1,9 @@
 -- One face drawn between its pairs, step by step as the code does it.
-use Rattle.std.proofs.Common.{◌≡◌, ℕ, ◌+◌, Bool, true, false, cond, ◌&&◌, nat_eq, nat_lt, None, List, [], ◌∷◌, ◌++◌, length, map, ◌≢◌, refl, sym, ap, ◌∙◌, subst, ne_eqb, eq-eqb, fold, arith, append_assoc, append-nil, slice_index_or}
-use Rattle.std.proofs.lemmas.List.{length-map}
-use Rattle.euler_operators.specs.Common.{Plane, Model, content, Has, has_rings, first_false, effect}
+use Rattle.split_drawing.proofs.Prelude.{◌≡◌, ℕ, ◌+◌, Bool, true, false, cond, ◌&&◌, nat_eq, nat_lt, None, List, [], ◌∷◌, ◌++◌, length, map, ◌≢◌, refl, sym, ap, ◌∙◌, subst, ne_eqb, eq-eqb, fold, arith, append_assoc, append-nil, slice_index_or, length-map, Plane, Model, content, Has, has_rings, first_false, effect, Op, AreAccepted, vertices_on, some_above, Drawing, join_pair, join_next, draw_pair, draw_next, all_joined, ring_free, all_drawn, rings_above, with_rings, rings_shared, drawn_between, join_ops, draw_ops, ring_ops, share_ops, face_ops, begun_joining, joins, going, going_on, fitting_on, last, newer_face, AreNoted, noted_still, Noted, Pair, Progress, codes, Counters, taken_of, join_next_one, stuck_at, drawing_of, CanJoin, CanDraw, CanDrawFace, put_aside}
 use Rattle.euler_operators.specs.Table as table
-use Rattle.euler_operators.specs.declared.Op.{Op}
-use Rattle.euler_laws.specs.Laws.{AreAccepted}
-use Rattle.shapes.specs.Common.{vertices_on, some_above, Drawing, join_pair, join_next, draw_pair, draw_next, all_joined, ring_free, all_drawn, rings_above, with_rings, rings_shared, drawn_between}
 use Rattle.shapes.specs.split.Drawing as drawing
-use Rattle.split_drawing_laws.specs.drawings.DrawingOps.{join_ops, draw_ops, ring_ops, share_ops, face_ops}
-use Rattle.split_drawing_laws.proofs.drawings.Faces.{begun_joining, joins, going, going_on, fitting_on, last, newer_face}
 use Rattle.split_drawing_laws.proofs.drawings.Rings.{Moved, rings_move, rings_are, rings_apart}
-use Rattle.split_checks.specs.cut_places.Noted.{AreNoted}
-use Rattle.split_checks.proofs.cut_places_laws.NotedSides.{noted_still}
-use Rattle.split_checks.specs.declared.cut_places.noted.Noted.{Noted}
-use Rattle.split_checks.specs.declared.cuts.Pair.{Pair}
-use Rattle.split_checks.specs.declared.progress.Progress.{Progress}
-use Rattle.split_checks.specs.Cuts.{codes}
-use Rattle.solid_walks.specs.declared.numbers.Counters.{Counters}
-use Rattle.solid_walks.specs.Counters.{taken_of}
-use Rattle.split_drawing_laws.proofs.drawings.Passes.{join_next_one}
 use Rattle.split_drawing.proofs.face_drawing_laws.Turns.{draw_accepted, drew}
-use Rattle.split_drawing.specs.face_drawing.Stuck.{stuck_at}
-use Rattle.split_checks.specs.Progress.{drawing_of}
-use Rattle.split_drawing.specs.face_drawing.Passes.{CanJoin, CanDraw}
-use Rattle.split_drawing.specs.solid_drawing.Drawn.{CanDrawFace, put_aside}
 
 -- looked at between the two passes
 module _ (f : ℕ) (c : Progress) (N : Model) (L : List (ℕ × ℕ)) where

@@ -1,11 +1,6 @@
 -- Rings of a face given to a new one.
-use Rattle.std.proofs.Common.{◌≡◌, ℕ, List, [], ◌∷◌, Some, refl, arith}
-use Rattle.euler_operators.specs.Common.{Model, Has, effect}
-use Rattle.euler_operators.specs.declared.Op.TheVariants.{RingIn}
-use Rattle.euler_laws.specs.Laws.{effects}
+use Rattle.split_drawing.proofs.Prelude.{◌≡◌, ℕ, List, [], ◌∷◌, Some, refl, arith, Model, Has, effect, RingIn, effects, with_rings, ring_ops}
 use Rattle.euler_conditions.specs.Store.{IsNextRing}
-use Rattle.shapes.specs.Common.{with_rings}
-use Rattle.split_drawing_laws.specs.drawings.DrawingOps.{ring_ops}
 
 -- a ring that an arena finds is there
 pub ring_there : (M : Model) (f n l : ℕ) → IsNextRing M f n (Some l) → Has M.loops l

@@ -1,15 +1,8 @@
 -- The cut places of the faces that straddle, in pairs, once the edges that cross the plane are cut.
-use Rattle.std.proofs.Common.{◌≡◌, ℕ, ◌+◌, Bool, true, false, cond, List, [], ◌∷◌, ◌++◌, length, map, refl, sym, ap, ◌∙◌, arith, length-append, take_at, drop_at}
-use Rattle.std.proofs.lemmas.List.{length-map, map-append}
-use Rattle.euler_operators.specs.Common.{Plane, IsIn, Model, Sound, HasHalf}
-use Rattle.euler_operators.proofs.Common.{tick_same}
+use Rattle.split_drawing.proofs.Prelude.{◌≡◌, ℕ, ◌+◌, Bool, true, false, cond, List, [], ◌∷◌, ◌++◌, length, map, refl, sym, ap, ◌∙◌, arith, length-append, take_at, drop_at, length-map, map-append, Plane, IsIn, Model, Sound, HasHalf, tick_same, loops_of, boundary, is_place, places, goes_up, sorted, in_pairs, sorted_pairs, up_first, place_pairs, FacePairs, drawn_pairs, Kept, of_picked, how_many_pairs, paired, paired_face, PairsThere, pair_started, pairs_started}
 use Rattle.shapes.proofs.Common.{items_there, count-sorted}
-use Rattle.shapes.specs.Common.{loops_of, boundary, is_place, places, goes_up, sorted, in_pairs, sorted_pairs, up_first, place_pairs, FacePairs, drawn_pairs, all_pairs}
-use Rattle.split_drawing_laws.specs.crossings.Kept.{Kept}
-use Rattle.split_checks.proofs.cut_places_laws.Lists.{of_picked}
+use Rattle.shapes.specs.Common.{all_pairs}
 use Rattle.split_checks.specs.Cuts as split_checks
-use Rattle.split_checks.specs.Cuts.{how_many_pairs, paired, paired_face}
-use Rattle.split_drawing.specs.solid_drawing.Starts.{PairsThere, pair_started, pairs_started}
 
 module _ (M N : Model) (p : Plane) where
   -- what starts at the pairs of a face's cut places are the pairs between which edges are drawn

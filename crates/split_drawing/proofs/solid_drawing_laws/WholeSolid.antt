@@ -1,31 +1,10 @@
 -- A solid drawn, from its edges cut to its last face.
-use Rattle.std.proofs.Common.{◌≡◌, ◌≤◌, ℕ, [], is_some, length, map, refl, sym, ap, ◌∙◌, subst, arith, nat_eq, List}
-use Rattle.std.proofs.lemmas.List.{length-map}
-use Rattle.euler_operators.specs.Common.{Plane, IsIn, Model, faces_of, Sound, Has}
-use Rattle.shapes.specs.Common.{taken_in, straddles, straddling_faces, with_crossings, Drawing, faces_drawn, undrawn, straddling_pairs, with_drawings}
-use Rattle.split_drawing_laws.specs.crossings.Kept.{Kept}
-use Rattle.split_drawing_laws.specs.drawings.DrawingOps.{drawing_ops, ops_from}
+use Rattle.split_drawing.proofs.Prelude.{◌≡◌, ◌≤◌, ℕ, [], is_some, length, map, refl, sym, ap, ◌∙◌, subst, arith, nat_eq, List, length-map, Plane, IsIn, Model, faces_of, Sound, Has, taken_in, straddles, straddling_faces, with_crossings, Drawing, faces_drawn, undrawn, straddling_pairs, with_drawings, Kept, drawing_ops, ops_from, crossings_keep, crossings_counted, drawable, of_picked, AreNoted, Noted, noted_still, AreIn, CanBeCut, Counters, taken_of, drawing_of, AreCuts, all_pairs, codes, how_many_pairs, paired, Pair, PairedFace, PairsThere, pairs_started, put_aside, CanDrawFaces}
 use Rattle.euler_laws.proofs.Common.{all_where_has, IsIn-from_listed}
-use Rattle.split_drawing_laws.proofs.crossings.Whole.{crossings_keep, crossings_counted}
 use Rattle.split_drawing_laws.proofs.drawings.Counted.{faces_are as faces_same}
-use Rattle.split_drawing_laws.proofs.drawings.Whole.{drawable}
 use Rattle.split_drawing_laws.proofs.pairs.Whole.{can_be_drawn}
-use Rattle.split_checks.proofs.cut_places_laws.Lists.{of_picked}
-use Rattle.split_checks.specs.cut_places.Noted.{AreNoted}
-use Rattle.split_checks.specs.declared.cut_places.noted.Noted.{Noted}
-use Rattle.split_checks.proofs.cut_places_laws.NotedSides.{noted_still}
-use Rattle.split_checks.specs.cut_places.Walks.{AreIn}
 use Rattle.split_checks.proofs.cut_places_laws.Walks.{all_in}
-use Rattle.split_drawing.specs.edge_cutting.Begins.{CanBeCut}
-use Rattle.solid_walks.specs.declared.numbers.Counters.{Counters}
-use Rattle.solid_walks.specs.Counters.{taken_of}
-use Rattle.split_checks.specs.Progress.{drawing_of}
-use Rattle.split_checks.specs.Cuts.{AreCuts, all_pairs, codes, how_many_pairs, paired}
 use Rattle.split_checks.specs.declared.cuts.Cuts.{Cuts}
-use Rattle.split_checks.specs.declared.cuts.Pair.{Pair}
-use Rattle.split_checks.specs.declared.cuts.PairedFace.{PairedFace}
-use Rattle.split_drawing.specs.solid_drawing.Starts.{PairsThere, pairs_started}
-use Rattle.split_drawing.specs.solid_drawing.Drawn.{put_aside, CanDrawFaces}
 use Rattle.split_drawing.proofs.solid_drawing_laws.Starts.{started_are, all_there, many_pairs}
 
 module _ (M : Model) (s : ℕ) (p : Plane) (sound : Sound M) (can : CanBeCut M s p) where

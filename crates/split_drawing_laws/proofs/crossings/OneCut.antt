@@ -1,14 +1,8 @@
 -- The rows of an edge that is cut: what mev puts before an item and what is put after its neighbour.
 use Rattle.std.specs.FinMap.Entries.{find}
-use Rattle.std.proofs.Common.{◌≡◌, ℕ, ◌+◌, ◌≤◌, false, cond, nat_eq, List, [], ◌∷◌, ◌++◌, refl, sym, ap, ◌∙◌, arith, ◌≢◌, suc, ◌*◌, true, length, Some, None, is_some, true≢false, flat_map, nat_cmp}
-use Rattle.std.proofs.lemmas.Bool.Decides.{nat_tests}
+use Rattle.split_drawing_laws.proofs.Prelude.{◌≡◌, ℕ, ◌+◌, ◌≤◌, false, cond, nat_eq, List, [], ◌∷◌, ◌++◌, refl, sym, ap, ◌∙◌, arith, ◌≢◌, suc, ◌*◌, true, length, Some, None, is_some, true≢false, flat_map, nat_cmp, nat_tests, count, tick, IsIn, IsApart, rotate_to, canonical, rest, successor, insert_before, insert_after, plus, minus, edge_of, At, half, Point, Table, Model, LoopContent, lone, cycle, LoopRow, EdgeRow, items_of, holds, tail, loop_of, content, face_of, cycle_of, after, arc, Sound, Has, HasHalf, effect, mev_at, with_before, with_tails, edge_row, Mev, insert_before-rotates, insert_after-rotates, count-insert_before, count-insert_after, apart_front, rotation_at, IsIn_successor, nat_eq_turned, canonical_same, IsRotation-trans, rotate_to_same, rotate_to_head, count-canonical, tick_same, tick_other, map_one, put_turned, row_some, content_row, row_of, not_held, other_loop, in-holds, holds-none, none-holds, cycle_there, cycle_sound, minus_tail_row, plus_there, minus_there, plus_row, minus_row, mate_plus, code-half, map_alike, where_held_none, where_held_there, edge_row_plus, map_twice, none_else, rewritten, rewritten_row}
 use Rattle.std.proofs.lemmas.Option.{same_Some}
-use Rattle.euler_operators.specs.Common.{count, tick, IsIn, IsApart, rotate_to, canonical, rest, successor, insert_before, insert_after, plus, minus, edge_of, At, half, Point, Table, Model, LoopContent, lone, cycle, LoopRow, EdgeRow, items_of, holds, tail, loop_of, content, face_of, cycle_of, after, arc, Sound, Has, HasHalf, effect, mev_at, with_before, with_tails, edge_row}
 use Rattle.euler_operators.specs.Table as table
-use Rattle.euler_operators.specs.declared.Op.TheVariants.{Mev}
-use Rattle.euler_operators.proofs.Common.{insert_before-rotates, insert_after-rotates, count-insert_before, count-insert_after, apart_front, rotation_at, IsIn_successor, nat_eq_turned, canonical_same, IsRotation-trans, rotate_to_same, rotate_to_head, count-canonical, tick_same, tick_other, map_one, put_turned, row_some, content_row, row_of, not_held, other_loop, in-holds, holds-none, none-holds, cycle_there, cycle_sound, minus_tail_row, plus_there, minus_there, plus_row, minus_row, mate_plus, code-half, map_alike}
-use Rattle.euler_laws.proofs.Common.{where_held_none, where_held_there, edge_row_plus, map_twice, none_else}
-use Rattle.shapes.specs.Common.{rewritten, rewritten_row}
 
 -- edge e cut at the new vertex v, which has point q: the new edge k leads from e's start to v, and e goes on from there
 abbrev pub edge_cut : Model → ℕ → ℕ → ℕ → Point → Model

@@ -1,15 +1,6 @@
 -- Lists that tests pick from, and the items and corners of faces.
-use Rattle.std.specs.List.{list_any, list_all}
-use Rattle.std.proofs.Common.{◌≡◌, ℕ, ◌+◌, ◌≤◌, Bool, true, false, cond, not, nat_eq, ◌&&◌, ◌||◌, List, [], ◌∷◌, refl, sym, ap, ◌∙◌, subst, arith, inl, inr, ◌≢◌, ℤ, pos, is_some, ◌⊎◌, true≢false, filter, int_lt, eq-eqb, eqb-true}
-use Rattle.std.proofs.lemmas.Bool.Decides.{eqb_tells}
-use Rattle.std.proofs.lemmas.Bool.{or_right}
-use Rattle.euler_operators.specs.Common.{count, tick, IsIn, Model, items_of, content, tail, face_of, loop_of, solid_of, before, faces_of, Has, Sound, HasHalf, StandsIn, Plane, IsInRange, height, opposite, are_opposite, is_on, same_point, cut_between, plus, minus, face_at}
-use Rattle.euler_operators.proofs.Common.{count-append, tick_same, tick_other, mate_plus, mate_minus, held_row, cycle_there, plus_there, minus_there, solid_row, IsIn-filter, count-filter, filter_passes, same_as, cut_back, opposite_back, not_level, level_is, cut_fits, row_some}
-use Rattle.euler_laws.proofs.Common.{not_false, no_zero, loop_row, face_there, point_row, all_where_in, all_where_has}
-use Rattle.shapes.specs.Common.{loops_of, items_in, boundary, corners, start, finish, edges_of, crosses, straddles, straddling_faces, crossing_edges, is_place, place_point, places, some_meet, is_crossed, is_up_and_down, sorted_pairs}
+use Rattle.split_drawing_laws.proofs.Prelude.{list_any, list_all, ◌≡◌, ℕ, ◌+◌, ◌≤◌, Bool, true, false, cond, not, nat_eq, ◌&&◌, ◌||◌, List, [], ◌∷◌, refl, sym, ap, ◌∙◌, subst, arith, inl, inr, ◌≢◌, ℤ, pos, is_some, ◌⊎◌, true≢false, filter, int_lt, eq-eqb, eqb-true, eqb_tells, or_right, count, tick, IsIn, Model, items_of, content, tail, face_of, loop_of, solid_of, before, faces_of, Has, Sound, HasHalf, StandsIn, Plane, IsInRange, height, opposite, are_opposite, is_on, same_point, cut_between, plus, minus, face_at, count-append, tick_same, tick_other, mate_plus, mate_minus, held_row, cycle_there, plus_there, minus_there, solid_row, IsIn-filter, count-filter, filter_passes, same_as, cut_back, opposite_back, not_level, level_is, cut_fits, row_some, not_false, no_zero, loop_row, face_there, point_row, all_where_in, all_where_has, loops_of, items_in, boundary, corners, start, finish, edges_of, crosses, straddles, straddling_faces, crossing_edges, is_place, place_point, places, some_meet, is_crossed, is_up_and_down, sorted_pairs, Cuttable, cut_on}
 use Rattle.shapes.proofs.Common.{tail_in}
-use Rattle.shapes.proofs.split.Facts.{Cuttable}
-use Rattle.solid_measure_laws.proofs.Cuts.{cut_on}
 use Rattle.split_drawing_laws.proofs.crossings.Runs.{Crossing}
 
 -- ---- lists

@@ -1,14 +1,7 @@
 -- Edges cut one after the other.
-use Rattle.std.proofs.Common.{◌≡◌, ◌≢◌, ℕ, ◌+◌, ◌≤◌, ◌<◌, true, false, pos, List, [], ◌∷◌, length, is_some, unwrap_or, refl, sym, ap, ◌∙◌, subst, arith, ◌⊎◌, inl, inr}
-use Rattle.std.proofs.lemmas.Bool.Decides.{eqb_tells}
-use Rattle.euler_operators.specs.Common.{Point, Plane, IsInRange, height, cut_between, count, tick, IsIn, mate, edge_of, plus, minus, Model, tail, loop_of, point_of, no_point, Sound, Has, HasHalf}
-use Rattle.euler_operators.proofs.Common.{tick_same, tick_other, plus_row, minus_row, edge_of-mate, mate_plus, plus_there, minus_there, plus_edge, level_first, level_second}
+use Rattle.split_drawing_laws.proofs.Prelude.{◌≡◌, ◌≢◌, ℕ, ◌+◌, ◌≤◌, ◌<◌, true, false, pos, List, [], ◌∷◌, length, is_some, unwrap_or, refl, sym, ap, ◌∙◌, subst, arith, ◌⊎◌, inl, inr, eqb_tells, Point, Plane, IsInRange, height, cut_between, count, tick, IsIn, mate, edge_of, plus, minus, Model, tail, loop_of, point_of, no_point, Sound, Has, HasHalf, tick_same, tick_other, plus_row, minus_row, edge_of-mate, mate_plus, plus_there, minus_there, plus_edge, level_first, level_second, AreAccepted, effects, none_above, number_fits, AreLeft, Needed, start, finish, taken_in, Growing, crosses, next_cut, all_cut, Kept}
 use Rattle.euler_operators.specs.Table as table
-use Rattle.euler_laws.specs.Laws.{AreAccepted, effects}
-use Rattle.shapes.proofs.Common.{none_above, number_fits}
-use Rattle.shapes.specs.Common.{AreLeft, Needed, start, finish, taken_in, Growing, crosses, next_cut, all_cut}
 use Rattle.split_drawing_laws.specs.crossings.CrossingOps.{ops_from}
-use Rattle.split_drawing_laws.specs.crossings.Kept.{Kept}
 use Rattle.split_drawing_laws.proofs.crossings.Steps.{CutGoes, cut_accepted, cut_sound, cut_keeps, edge_other, point_new, tail_old, tail_new, tail_other, taken_then}
 use Rattle.split_drawing_laws.proofs.crossings.OneCut.{edge_cut}
 

@@ -1,15 +1,6 @@
 -- One edge cut: the operator that does it, and what stays.
-use Rattle.std.proofs.Common.{◌≡◌, ◌≢◌, ℕ, ◌≤◌, true, List, [], ◌∷◌, Some, None, is_some, unwrap_or, IsTrue, refl, sym, ap, ◌∙◌, arith, inl, inr, true≢false, ◌<◌, flat_map}
-use Rattle.std.proofs.lemmas.Bool.Decides.{eqb_tells}
-use Rattle.euler_operators.specs.Common.{Point, IsInRange, count, IsIn, rotate_to, canonical, At, edge_of, is_first, plus, minus, half, Model, LoopContent, items_of, holds, tail, tail_in, loop_of, content, after, point_of, no_point, is_number, Sound, Has, HasHalf, first_false, Table}
+use Rattle.split_drawing_laws.proofs.Prelude.{◌≡◌, ◌≢◌, ℕ, ◌≤◌, true, List, [], ◌∷◌, Some, None, is_some, unwrap_or, IsTrue, refl, sym, ap, ◌∙◌, arith, inl, inr, true≢false, ◌<◌, flat_map, eqb_tells, Point, IsInRange, count, IsIn, rotate_to, canonical, At, edge_of, is_first, plus, minus, half, Model, LoopContent, items_of, holds, tail, tail_in, loop_of, content, after, point_of, no_point, is_number, Sound, Has, HasHalf, first_false, Table, Op, Mev, count-append, tick_same, tick_other, count-canonical, plus_row, code-half, mate_minus, in-holds, holds_in, plus_tail_row, minus_tail_row, plus_there, minus_there, get-put_here, get-put_other, greatest-map, put_turned, Rewritten, content-new, face-same, loop-same, MevGoes, mev_accepted, effect_keeps_sound, rewritten, rewritten_row, taken_in, greatest-put_last, greatest_is, greatest_used, free_above, at_most_greatest, Kept}
 use Rattle.euler_operators.specs.Table as table
-use Rattle.euler_operators.specs.declared.Op.{Op}
-use Rattle.euler_operators.specs.declared.Op.TheVariants.{Mev}
-use Rattle.euler_operators.proofs.Common.{count-append, tick_same, tick_other, count-canonical, plus_row, code-half, mate_minus, in-holds, holds_in, plus_tail_row, minus_tail_row, plus_there, minus_there, get-put_here, get-put_other, greatest-map, put_turned}
-use Rattle.euler_laws.proofs.Common.{Rewritten, content-new, face-same, loop-same, MevGoes, mev_accepted, effect_keeps_sound}
-use Rattle.shapes.specs.Common.{rewritten, rewritten_row, taken_in}
-use Rattle.shapes.proofs.Common.{greatest-put_last, greatest_is, greatest_used, free_above, at_most_greatest}
-use Rattle.split_drawing_laws.specs.crossings.Kept.{Kept}
 use Rattle.split_drawing_laws.proofs.crossings.OneCut.{tick_is, CanCut, cut_rows, next_half, doubled, edge_cut}
 
 -- an item stands in the list where e's halves are doubled as often, or more

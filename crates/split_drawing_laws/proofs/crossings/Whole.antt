@@ -1,17 +1,6 @@
 -- All edges of a solid that cross a plane cut: from the first conditions of a split to the model.
-use Rattle.std.proofs.Common.{◌≡◌, ℕ, Bool, true, false, nat_eq, [], None, is_some, unwrap_or, refl, sym, ap, ◌∙◌, arith, inl, inr, cond, ◌&&◌, ◌||◌, subst, eqb-true}
-use Rattle.std.proofs.lemmas.Bool.{false_from_ne_true, and_parts}
-use Rattle.euler_operators.specs.Common.{Plane, are_opposite, height, is_on, cut_between, count, IsIn, plus, minus, edge_of, Model, tail, loop_of, face_of, solid_of, no_face, after, before, point_of, Sound, Has, HasHalf, first_refusal, face_at, lists}
+use Rattle.split_drawing_laws.proofs.Prelude.{◌≡◌, ℕ, Bool, true, false, nat_eq, [], None, is_some, unwrap_or, refl, sym, ap, ◌∙◌, arith, inl, inr, cond, ◌&&◌, ◌||◌, subst, eqb-true, false_from_ne_true, and_parts, Plane, are_opposite, height, is_on, cut_between, count, IsIn, plus, minus, edge_of, Model, tail, loop_of, face_of, solid_of, no_face, after, before, point_of, Sound, Has, HasHalf, first_refusal, face_at, lists, mate_plus, mate_minus, IsIn-filter, count-filter, filter_passes, plus_there, minus_there, IsIn_or_not, opposite_turned, level_on, not_level, AreAccepted, effects, all_where-rises, IsIn-from_listed, listed-from_in, counted_once, none_counted, all_where_has, halves_of_edge, half_after, loop_after, start, edges_of, finish, loops_of, boundary, taken_in, growing, crosses, crossing_edges, straddling_faces, with_crossings, first_conditions, is_place, place_point, places, from_place, face_of_loop, items_counted, items_there, Cuttable, split_begins, crossing_ops, Kept, AtPlace}
 use Rattle.euler_operators.specs.Table as table
-use Rattle.euler_operators.proofs.Common.{mate_plus, mate_minus, IsIn-filter, count-filter, filter_passes, plus_there, minus_there, IsIn_or_not, opposite_turned, level_on, not_level}
-use Rattle.euler_laws.specs.Laws.{AreAccepted, effects}
-use Rattle.euler_laws.proofs.Common.{all_where-rises, IsIn-from_listed, listed-from_in, counted_once, none_counted, all_where_has, halves_of_edge, half_after, loop_after}
-use Rattle.shapes.specs.Common.{start, edges_of, finish, loops_of, boundary, taken_in, growing, crosses, crossing_edges, straddling_faces, with_crossings, first_conditions, is_place, place_point, places, from_place}
-use Rattle.shapes.proofs.Common.{face_of_loop, items_counted, items_there}
-use Rattle.shapes.proofs.split.Facts.{Cuttable, split_begins}
-use Rattle.split_drawing_laws.specs.crossings.CrossingOps.{crossing_ops}
-use Rattle.split_drawing_laws.specs.crossings.Kept.{Kept}
-use Rattle.split_drawing_laws.specs.crossings.AtPlace.{AtPlace}
 use Rattle.split_drawing_laws.proofs.crossings.Premises.{picked_none, crossing_here, crossing_point, one_point, minus_crosses, face_facts, edge_listed}
 use Rattle.split_drawing_laws.proofs.crossings.Runs.{AreCut, Going, Gone, all_gone, all_made, none_cut, kept_start}
 

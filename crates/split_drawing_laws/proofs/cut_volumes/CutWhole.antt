@@ -1,20 +1,10 @@
 -- Edges cut at points between their ends: the areas of loops, the normals and planes of faces and the volumes of solids stay.
-use Rattle.std.proofs.Common.{◌≡◌, ◌≢◌, ℕ, true, not, nat_eq, ◌&&◌, List, [], ◌∷◌, unwrap_or, refl, sym, ap, ◌∙◌, ◌⊎◌, inl, inr, subst, arith, ◌+◌, None, flat_map}
-use Rattle.std.proofs.lemmas.Bool.Decides.{eqb_tells}
-use Rattle.euler_operators.specs.Common.{Point, Plane, origin, moved, cross, is_on, are_opposite, cuts_lattice, IsIn, count, canonical, mate, edge_of, plus, minus, Model, LoopContent, lone, cycle, no_face, items_of, tail, content, outer, point_of, rings_of, loop_of, face_of, solid_of, faces_of, HasHalf, Has, Sound, face_at, first_refusal, lists}
+use Rattle.split_drawing_laws.proofs.Prelude.{◌≡◌, ◌≢◌, ℕ, true, not, nat_eq, ◌&&◌, List, [], ◌∷◌, unwrap_or, refl, sym, ap, ◌∙◌, ◌⊎◌, inl, inr, subst, arith, ◌+◌, None, flat_map, eqb_tells, Point, Plane, origin, moved, cross, is_on, are_opposite, cuts_lattice, IsIn, count, canonical, mate, edge_of, plus, minus, Model, LoopContent, lone, cycle, no_face, items_of, tail, content, outer, point_of, rings_of, loop_of, face_of, solid_of, faces_of, HasHalf, Has, Sound, face_at, first_refusal, lists, count-canonical, IsIn_head, plus_row, same_edge, edge_of-mate, mate_plus, mate_minus, IsIn_rest, IsIn_one, all_mapped, item_there, item_loop, mate_there, plus_there, minus_there, count-append, tick_other, IsIn_or_not, moved_none, content-new, IsIn-from_listed, start, finish, loops_of, items_in, boundary, vertices_on, vertices_in, corners, rewritten, area, normal, anchor, first_vertex, plane_of, is_plane_of, is_flat, six_volume, negated, next_cut, all_cut, with_crossings, Growing, growing, crossing_edges, first_conditions, area-append, moved_turned, area_same, cross_back, moved_back, are_on, none_such, split_begins, Kept, and_parts, not-false, cut_on_each, cut_keeps_area}
 use Rattle.euler_operators.specs.Table as table
-use Rattle.euler_operators.proofs.Common.{count-canonical, IsIn_head, plus_row, same_edge, edge_of-mate, mate_plus, mate_minus, IsIn_rest, IsIn_one, all_mapped, item_there, item_loop, mate_there, plus_there, minus_there, count-append, tick_other, IsIn_or_not, moved_none}
-use Rattle.euler_laws.proofs.Common.{content-new, IsIn-from_listed}
-use Rattle.shapes.specs.Common.{start, finish, loops_of, items_in, boundary, vertices_on, vertices_in, corners, rewritten, area, normal, anchor, first_vertex, plane_of, is_plane_of, is_flat, six_volume, negated, next_cut, all_cut, with_crossings, Growing, growing, crossing_edges, first_conditions}
-use Rattle.shapes.proofs.Common.{area-append, moved_turned, area_same, cross_back, moved_back, are_on, none_such}
-use Rattle.shapes.proofs.split.Facts.{split_begins}
-use Rattle.split_drawing_laws.specs.crossings.Kept.{Kept}
 use Rattle.split_drawing_laws.proofs.crossings.OneCut.{doubled_none, doubled, edge_cut}
 use Rattle.split_drawing_laws.proofs.crossings.Steps.{CutGoes, cut_sound, rewrites, cut_keeps, point_new, tail_old, tail_new, tail_other}
 use Rattle.split_drawing_laws.proofs.crossings.Runs.{kept_point, cut_at, Crossing, same_start, same_finish, Going, crossing_now, uncut_now, goes_now, next_model, going_on}
 use Rattle.split_drawing_laws.proofs.cut_volumes.Told.{same_rings, loop_on, loops_on, item_on, item_ends_on, Measured, measured_none, measured_on, solid_stays, same_plane, flat_still, all_volumes}
-use Rattle.std.proofs.lemmas.Bool.{and_parts, not-false}
-use Rattle.solid_measure_laws.proofs.Cuts.{cut_on_each, cut_keeps_area}
 use Rattle.split_drawing_laws.proofs.crossings.Premises.{edge_facts, solid_facts, in_solid}
 use Rattle.split_drawing_laws.proofs.crossings.Whole.{can_cut, begins, crossings_sound}
 

@@ -1,15 +1,7 @@
 -- The faces of a solid, and sums over them.
-use Rattle.std.proofs.Common.{◌≡◌, ◌≢◌, ℕ, ◌≤◌, ℤ, ◌+ℤ◌, nat_eq, List, [], ◌∷◌, sym, ap, ◌∙◌, arith, inl, inr, true, ◌&&◌, refl, subst, neg_ℤ, not, unwrap_or}
-use Rattle.std.proofs.lemmas.Int.{ints}
+use Rattle.split_drawing_laws.proofs.Prelude.{◌≡◌, ◌≢◌, ℕ, ◌≤◌, ℤ, ◌+ℤ◌, nat_eq, List, [], ◌∷◌, sym, ap, ◌∙◌, arith, inl, inr, true, ◌&&◌, refl, subst, neg_ℤ, not, unwrap_or, ints, eqb_tells, and_parts, count, tick, IsIn, Model, solid_of, faces_of, LoopContent, items_of, content, point_of, is_ring_of, rings_of, after, no_face, Has, Sound, Plane, is_on, origin, dot, same_point, direction, tick_same, tick_other, IsIn_or_not, IsIn_rest, each_mapped, IsIn_head, same_solid, item_there, add_assoc, dot_turned, all_where-rises, IsIn-from_listed, counted_once, next_in, six_volume, normal, anchor, plane_through, plane_of, is_flat, volume_in, start, finish, vertices_on, vertices_in, corners, total, volume_of, volume_is, unchanged, same_volumes, list_parts, are_on, anchor_on, plane_told, listed_ring, ring_listed, rings_rise, rising_one}
 use Rattle.std.proofs.lemmas.List.Folds.{list_all-append}
-use Rattle.std.proofs.lemmas.Bool.Decides.{eqb_tells}
-use Rattle.std.proofs.lemmas.Bool.{and_parts}
-use Rattle.euler_operators.specs.Common.{count, tick, IsIn, Model, solid_of, faces_of, LoopContent, items_of, content, point_of, is_ring_of, rings_of, after, no_face, Has, Sound, Plane, is_on, origin, dot, same_point, direction}
 use Rattle.euler_operators.specs.Table as table
-use Rattle.euler_operators.proofs.Common.{tick_same, tick_other, IsIn_or_not, IsIn_rest, each_mapped, IsIn_head, same_solid, item_there, add_assoc, dot_turned}
-use Rattle.euler_laws.proofs.Common.{all_where-rises, IsIn-from_listed, counted_once, next_in}
-use Rattle.shapes.specs.Common.{six_volume, normal, anchor, plane_through, plane_of, is_flat, volume_in, start, finish, vertices_on, vertices_in, corners}
-use Rattle.shapes.proofs.Common.{total, volume_of, volume_is, unchanged, same_volumes, list_parts, are_on, anchor_on, plane_told, listed_ring, ring_listed, rings_rise, rising_one}
 use Rattle.split_drawing_laws.proofs.crossings.Premises.{solid_facts, in_solid}
 
 -- ---- the faces of a solid

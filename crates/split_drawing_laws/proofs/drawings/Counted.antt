@@ -1,12 +1,5 @@
 -- What is asked of a drawing: fresh numbers, how many pairs there are, and that no face is drawn twice.
-use Rattle.std.proofs.Common.{◌≡◌, ℕ, ◌+◌, ◌/◌, nat_eq, List, [], ◌∷◌, length, refl, ap, arith, map}
-use Rattle.std.proofs.lemmas.List.{length-map}
-use Rattle.euler_operators.specs.Common.{Plane, IsIn, IsApart, Model, faces_of}
-use Rattle.euler_operators.proofs.Common.{count-filter, tick_same}
-use Rattle.euler_laws.proofs.Common.{all_where-rises, counted_once}
-use Rattle.shapes.proofs.Common.{none_above, length-sorted, length-in_pairs}
-use Rattle.shapes.specs.Common.{AreFree, FacePairs, taken_in, straddles, straddling_faces, places, sorted_pairs, place_pairs, pair_count, drawn_pairs, all_pairs}
-use Rattle.split_drawing_laws.specs.drawings.Pairs.{AllOf, pairs_in}
+use Rattle.split_drawing_laws.proofs.Prelude.{◌≡◌, ℕ, ◌+◌, ◌/◌, nat_eq, List, [], ◌∷◌, length, refl, ap, arith, map, length-map, Plane, IsIn, IsApart, Model, faces_of, count-filter, tick_same, all_where-rises, counted_once, none_above, length-sorted, length-in_pairs, AreFree, FacePairs, taken_in, straddles, straddling_faces, places, sorted_pairs, place_pairs, pair_count, drawn_pairs, all_pairs, AllOf, pairs_in}
 
 -- above the greatest numbers in use all are free
 pub fresh_taken : (M : Model) → AreFree M (taken_in M)

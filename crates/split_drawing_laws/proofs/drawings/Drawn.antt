@@ -1,12 +1,6 @@
 -- An edge drawn in a face, two loops joined, rings moved: none of the operators is refused, and what rows they make.
-use Rattle.std.proofs.Common.{◌≡◌, ◌≢◌, ℕ, List, [], ◌∷◌, fold, Some, None, is_some, IsTrue, refl, sym, ap, ◌∙◌, subst, arith}
-use Rattle.std.proofs.lemmas.Bool.Decides.{nat_tests}
-use Rattle.euler_operators.specs.Common.{rotate_to, mef_old, mef_new, mekr_ring, At, plus, minus, half, Table, tables, same_table, Model, LoopRow, cycle, tail, loop_of, cycle_of, solid_of, outer, is_number, Sound, HasHalf, first_false, face_at, loop_to_face, effect, mef, mekr, ring_in}
+use Rattle.split_drawing_laws.proofs.Prelude.{◌≡◌, ◌≢◌, ℕ, List, [], ◌∷◌, fold, Some, None, is_some, IsTrue, refl, sym, ap, ◌∙◌, subst, arith, nat_tests, rotate_to, mef_old, mef_new, mekr_ring, At, plus, minus, half, Table, tables, same_table, Model, LoopRow, cycle, tail, loop_of, cycle_of, solid_of, outer, is_number, Sound, HasHalf, first_false, face_at, loop_to_face, effect, mef, mekr, ring_in, plus_row, code-half, edge_of-code, mate_plus, row_of, get-put_here, get-put_other, RingIn, of_half, edge_row_plus, loops-mef, mef_accepted, CornerAt, MekrGoes, mekr_accepted, effect_keeps_sound, with_rings, draw_edge, join_edge}
 use Rattle.euler_operators.specs.Table as table
-use Rattle.euler_operators.proofs.Common.{plus_row, code-half, edge_of-code, mate_plus, row_of, get-put_here, get-put_other}
-use Rattle.euler_operators.specs.declared.Op.TheVariants.{RingIn}
-use Rattle.euler_laws.proofs.Common.{of_half, edge_row_plus, loops-mef, mef_accepted, CornerAt, MekrGoes, mekr_accepted, effect_keeps_sound}
-use Rattle.shapes.specs.Common.{with_rings, draw_edge, join_edge}
 
 -- an edge drawn from u to k cuts off the new face f, and an edge from c to d joins their loops
 abbrev pub face_drawn : Model → ℕ → ℕ → ℕ → ℕ → ℕ → Model

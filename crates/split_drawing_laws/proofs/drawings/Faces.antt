@@ -1,17 +1,9 @@
 -- Whole faces drawn, one after the other.
-use Rattle.std.proofs.Common.{◌≡◌, ℕ, ◌+◌, Bool, true, false, cond, nat_eq, nat_lt, ◌&&◌, List, [], ◌∷◌, length, refl, sym, ap, ◌∙◌, subst, arith, eqb-true}
-use Rattle.euler_operators.specs.Common.{Plane, IsApart, Model, content, has_rings, face_at, ring_in}
-use Rattle.euler_operators.specs.declared.Op.{Op}
-use Rattle.shapes.specs.Common.{vertices_on, some_above, Drawing, stuck_at, all_joined, ring_free, all_drawn, rings_above, with_rings, drawn_between}
-use Rattle.split_drawing_laws.specs.drawings.DrawingOps.{draw_ops, ring_ops, share_ops, drawn_ops, join_ops, face_ops}
-use Rattle.split_drawing_laws.specs.drawings.DrawnIn.{DrawnIn, AreFreeForPairs, AreLeftForPairs}
-use Rattle.split_drawing_laws.specs.drawings.Pairs.{Fits, AllFit}
+use Rattle.split_drawing_laws.proofs.Prelude.{◌≡◌, ℕ, ◌+◌, Bool, true, false, cond, nat_eq, nat_lt, ◌&&◌, List, [], ◌∷◌, length, refl, sym, ap, ◌∙◌, subst, arith, eqb-true, Plane, IsApart, Model, content, has_rings, face_at, ring_in, Op, vertices_on, some_above, Drawing, stuck_at, all_joined, ring_free, all_drawn, rings_above, with_rings, drawn_between, draw_ops, ring_ops, share_ops, drawn_ops, join_ops, face_ops, DrawnIn, AreFreeForPairs, AreLeftForPairs, Fits, AllFit, Ready, Joining, Going, Leads, leads_none, leads_on}
 use Rattle.split_drawing_laws.proofs.drawings.Drawn.{CanDraw, CanJoin, face_drawn, loops_joined}
 use Rattle.split_drawing_laws.proofs.drawings.Pairs.{none_joined, drawn_newer}
-use Rattle.split_drawing_laws.specs.drawings.Passing.{Ready, Joining, Going}
 use Rattle.split_drawing_laws.proofs.drawings.Passes.{either_now, Joins, joins_go, joins_keep, join_next_one, can_now, draws_keep, Draws, draws_go, draw_next_one, cut_off, room_as}
 use Rattle.split_drawing_laws.proofs.drawings.Rings.{RingOf, Newer, AreRings, rings_keep, rings_move, rings_are, rings_apart}
-use Rattle.euler_laws.proofs.Common.{Leads, leads_none, leads_on}
 
 -- being stuck changes nothing else
 pub going_on : (M : Model) (f n : ℕ) (b : Bool) (d : Drawing) → Going M f d d.left n → Going M f (cond b (stuck_at f d) d) (cond b (stuck_at f d) d).left n

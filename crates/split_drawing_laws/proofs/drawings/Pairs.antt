@@ -1,15 +1,6 @@
 -- A pair joined, and a pair between which an edge is drawn.
-use Rattle.std.proofs.Common.{◌≡◌, ◌≢◌, ℕ, ◌<◌, Bool, true, false, cond, not, nat_eq, ◌&&◌, [], ◌∷◌, None, IsTrue, refl, sym, ap, ◌∙◌, arith, ◌⊎◌, inl, inr, true≢false}
-use Rattle.std.proofs.lemmas.Bool.Decides.{nat_tests, eqb_tells}
-use Rattle.std.proofs.lemmas.Bool.{eqb-false}
+use Rattle.split_drawing_laws.proofs.Prelude.{◌≡◌, ◌≢◌, ℕ, ◌<◌, Bool, true, false, cond, not, nat_eq, ◌&&◌, [], ◌∷◌, None, IsTrue, refl, sym, ap, ◌∙◌, arith, ◌⊎◌, inl, inr, true≢false, nat_tests, eqb_tells, eqb-false, Model, loop_of, face_of, is_number, is_ring_of, Sound, HasHalf, face_at, effect, row_of, no_row, row_elsewhere, Op, half_face, ring_is, Leads, leads_one, Taken, in_one_loop, join_pair, join_edge, draw_edge, JoinedIn, Stays, DrawnIn, AreFreeForPairs, Fits}
 use Rattle.euler_operators.specs.Table as table
-use Rattle.euler_operators.specs.Common.{Model, loop_of, face_of, is_number, is_ring_of, Sound, HasHalf, face_at, effect}
-use Rattle.euler_operators.proofs.Common.{row_of, no_row, row_elsewhere}
-use Rattle.euler_operators.specs.declared.Op.{Op}
-use Rattle.euler_laws.proofs.Common.{half_face, ring_is, Leads, leads_one}
-use Rattle.shapes.specs.Common.{Taken, in_one_loop, join_pair, join_edge, draw_edge}
-use Rattle.split_drawing_laws.specs.drawings.DrawnIn.{JoinedIn, Stays, DrawnIn, AreFreeForPairs}
-use Rattle.split_drawing_laws.specs.drawings.Pairs.{Fits}
 use Rattle.split_drawing_laws.proofs.drawings.Drawn.{CanDraw, draw_accepted, draw_sound, CanJoin, join_accepted, join_sound, face_drawn, loops_joined}
 use Rattle.split_drawing_laws.proofs.drawings.Stays.{draw_stays, draw_beside, draw_within, draw_solid, draw_has, join_stays, join_beside, join_faces, join_free, stays_on}
 use Rattle.split_drawing_laws.proofs.drawings.Rings.{Newer}

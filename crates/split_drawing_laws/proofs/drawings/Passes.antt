@@ -1,17 +1,9 @@
 -- The two passes over the pairs of a face.
-use Rattle.std.proofs.Common.{◌≡◌, ◌≢◌, ℕ, suc, ◌+◌, ◌<◌, Bool, true, false, cond, List, [], ◌∷◌, ◌++◌, length, None, refl, sym, ap, ◌∙◌, subst, arith, IsTrue, fold, eqb-true, length-append}
+use Rattle.split_drawing_laws.proofs.Prelude.{◌≡◌, ◌≢◌, ℕ, suc, ◌+◌, ◌<◌, Bool, true, false, cond, List, [], ◌∷◌, ◌++◌, length, None, refl, sym, ap, ◌∙◌, subst, arith, IsTrue, fold, eqb-true, length-append, Model, loop_of, is_number, Sound, face_at, effect, number_fits, Taken, Drawing, in_one_loop, join_next, draw_next, stuck_at, join_pair, draw_pair, join_ops, draw_ops, AreLeftForPairs, Fits, AllOf, AllFit, Joining, Going, Leads, leads_none, leads_on}
 use Rattle.euler_operators.specs.Table as table
-use Rattle.euler_operators.specs.Common.{Model, loop_of, is_number, Sound, face_at, effect}
-use Rattle.shapes.proofs.Common.{number_fits}
-use Rattle.shapes.specs.Common.{Taken, Drawing, in_one_loop, join_next, draw_next, stuck_at, join_pair, draw_pair}
-use Rattle.split_drawing_laws.specs.drawings.DrawingOps.{join_ops, draw_ops}
-use Rattle.split_drawing_laws.specs.drawings.DrawnIn.{AreLeftForPairs}
-use Rattle.split_drawing_laws.specs.drawings.Pairs.{Fits, AllOf, AllFit}
-use Rattle.split_drawing_laws.specs.drawings.Passing.{Joining, Going}
 use Rattle.split_drawing_laws.proofs.drawings.Drawn.{CanDraw, CanJoin, face_drawn, loops_joined}
 use Rattle.split_drawing_laws.proofs.drawings.Stays.{draw_free}
 use Rattle.split_drawing_laws.proofs.drawings.Pairs.{pair_leads, joined_either, pair_joined, pair_fresh, draw_leads, pair_drawn}
-use Rattle.euler_laws.proofs.Common.{Leads, leads_none, leads_on}
 
 -- and of each of the list with one more, of which it holds too
 pub all_of_last : {X : Type 0} (P : X → Type 0) (xs : List X) (x : X) → AllOf P xs → P x → AllOf P (xs ++ x ∷ [])

@@ -1,17 +1,7 @@
 -- Rings of a face given to a new one.
-use Rattle.std.proofs.Common.{◌≡◌, ◌≢◌, ℕ, Bool, not, nat_eq, ◌&&◌, List, [], ◌∷◌, None, is_some, refl, sym, ap, ◌∙◌, subst, arith, inl, inr, filter, eqb-true}
-use Rattle.std.proofs.lemmas.Bool.Decides.{eqb_tells}
-use Rattle.std.proofs.lemmas.Bool.{eqb-false, and_parts, not-true}
-use Rattle.euler_operators.specs.Common.{successor, tick, IsIn, IsApart, edge_of, Model, holds, tail, items_of, content, loop_of, face_of, solid_of, outer, after, rings_of, Sound, Has, HasHalf, face_at, first_false, effect, ring_in}
-use Rattle.euler_operators.proofs.Common.{tick_same, face_row, count-filter, no_row, row_elsewhere}
+use Rattle.split_drawing_laws.proofs.Prelude.{◌≡◌, ◌≢◌, ℕ, Bool, not, nat_eq, ◌&&◌, List, [], ◌∷◌, None, is_some, refl, sym, ap, ◌∙◌, subst, arith, inl, inr, filter, eqb-true, eqb_tells, eqb-false, and_parts, not-true, successor, tick, IsIn, IsApart, edge_of, Model, holds, tail, items_of, content, loop_of, face_of, solid_of, outer, after, rings_of, Sound, Has, HasHalf, face_at, first_false, effect, ring_in, tick_same, face_row, count-filter, no_row, row_elsewhere, RingIn, taken, SameWalks, listed_passes, all_where-rises, listed-from_in, RingGoes, ring_in_accepted, sound-ring_in, counted_once, Leads, leads_none, leads_one, leads_on, Taken, with_rings, none_above, Stays, DrawnIn, AreFreeForPairs, ring_ops}
 use Rattle.euler_operators.specs.Table as table
-use Rattle.euler_operators.specs.declared.Op.TheVariants.{RingIn}
-use Rattle.euler_laws.proofs.Common.{taken, SameWalks, listed_passes, all_where-rises, listed-from_in, RingGoes, ring_in_accepted, sound-ring_in, counted_once, Leads, leads_none, leads_one, leads_on}
 use Rattle.euler_laws.proofs.faces.RingIn as moved
-use Rattle.shapes.specs.Common.{Taken, with_rings}
-use Rattle.shapes.proofs.Common.{none_above}
-use Rattle.split_drawing_laws.specs.drawings.DrawnIn.{Stays, DrawnIn, AreFreeForPairs}
-use Rattle.split_drawing_laws.specs.drawings.DrawingOps.{ring_ops}
 use Rattle.split_drawing_laws.proofs.drawings.Stays.{stays_on}
 
 -- l is a ring of face f

@@ -1,13 +1,6 @@
 -- What stays as an edge is drawn, as two loops are joined, and as a ring is moved.
-use Rattle.std.proofs.Common.{◌≡◌, ◌≢◌, ℕ, ◌+◌, ◌≤◌, ◌<◌, List, ◌∷◌, ◌++◌, Some, None, is_some, unwrap_or, refl, sym, ap, ◌∙◌, subst, arith, ◌⊎◌, inl, inr}
-use Rattle.std.proofs.lemmas.Bool.Decides.{eqb_tells}
-use Rattle.euler_operators.specs.Common.{count, IsIn, rotate_to, mef_old, mef_new, mekr_ring, edge_of, is_first, plus, minus, Model, cycle, no_edge, items_of, holds, tail, tail_in, loop_of, content, face_of, solid_of, cycle_of, point_of, no_point, Sound, Has, HasHalf, face_at, effect, mef, mekr}
-use Rattle.euler_operators.proofs.Common.{count-append, IsIn_or_not, count-canonical, count-rotate_to, plus_there, minus_there, content_row, face_row, plus_tail_row, minus_tail_row, in-holds, cycle_there, same_content, same_face, loop_there, row_elsewhere, get-put_here, get-put_other, get-remove_here, get-remove_other}
+use Rattle.split_drawing_laws.proofs.Prelude.{◌≡◌, ◌≢◌, ℕ, ◌+◌, ◌≤◌, ◌<◌, List, ◌∷◌, ◌++◌, Some, None, is_some, unwrap_or, refl, sym, ap, ◌∙◌, subst, arith, ◌⊎◌, inl, inr, eqb_tells, count, IsIn, rotate_to, mef_old, mef_new, mekr_ring, edge_of, is_first, plus, minus, Model, cycle, no_edge, items_of, holds, tail, tail_in, loop_of, content, face_of, solid_of, cycle_of, point_of, no_point, Sound, Has, HasHalf, face_at, effect, mef, mekr, count-append, IsIn_or_not, count-canonical, count-rotate_to, plus_there, minus_there, content_row, face_row, plus_tail_row, minus_tail_row, in-holds, cycle_there, same_content, same_face, loop_there, row_elsewhere, get-put_here, get-put_other, get-remove_here, get-remove_other, count-halves, half_face, count-mef_old, count-mef_new, Taken, start, none_above, Stays, AreFreeForPairs}
 use Rattle.euler_operators.specs.Table as table
-use Rattle.euler_laws.proofs.Common.{count-halves, half_face, count-mef_old, count-mef_new}
-use Rattle.shapes.specs.Common.{Taken, start}
-use Rattle.shapes.proofs.Common.{none_above}
-use Rattle.split_drawing_laws.specs.drawings.DrawnIn.{Stays, AreFreeForPairs}
 use Rattle.split_drawing_laws.proofs.drawings.Drawn.{CanDraw, draw_rows, draw_sound, CanJoin, join_rows, join_sound, face_drawn_new, face_drawn_else, loops_joined_faces, face_drawn, loops_joined}
 
 -- a half-edge stands where the content says so

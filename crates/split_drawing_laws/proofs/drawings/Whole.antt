@@ -1,17 +1,6 @@
 -- The drawing of some faces, from its first operator to its model.
-use Rattle.std.proofs.Common.{◌≡◌, ◌≢◌, ℕ, ◌+◌, List, [], ◌∷◌, map, refl, sym, ap, ◌∙◌, subst, arith, fold}
-use Rattle.euler_operators.specs.Common.{Plane, count, tick, Model, loop_of, Sound, HasHalf, face_at}
-use Rattle.euler_operators.proofs.Common.{tick_same}
-use Rattle.euler_operators.specs.declared.Op.{Op}
-use Rattle.euler_laws.specs.Laws.{AreAccepted, effects}
-use Rattle.euler_laws.proofs.Common.{Leads, leads_none, leads_on}
-use Rattle.shapes.specs.Common.{Growing, Drawing, FacePairs, drawn_between, next_drawn, faces_drawn, undrawn}
-use Rattle.split_drawing_laws.specs.drawings.DrawingOps.{face_ops, ops_from, drawing_ops}
-use Rattle.split_drawing_laws.specs.drawings.DrawnIn.{Stays, DrawnIn, AreFreeForPairs, AreLeftForPairs}
-use Rattle.split_drawing_laws.specs.drawings.Pairs.{AllFit, LoneInOneLoop, FacesFit, pairs_in}
-use Rattle.split_drawing_laws.specs.drawings.Laws.{CanBeDrawn}
+use Rattle.split_drawing_laws.proofs.Prelude.{◌≡◌, ◌≢◌, ℕ, ◌+◌, List, [], ◌∷◌, map, refl, sym, ap, ◌∙◌, subst, arith, fold, Plane, count, tick, Model, loop_of, Sound, HasHalf, face_at, tick_same, Op, AreAccepted, effects, Leads, leads_none, leads_on, Growing, Drawing, FacePairs, drawn_between, next_drawn, faces_drawn, undrawn, face_ops, ops_from, drawing_ops, Stays, DrawnIn, AreFreeForPairs, AreLeftForPairs, AllFit, LoneInOneLoop, FacesFit, pairs_in, CanBeDrawn, Drawable, Ready}
 use Rattle.split_drawing_laws.proofs.drawings.Passes.{room_as}
-use Rattle.split_drawing_laws.specs.drawings.Passing.{Drawable, Ready}
 use Rattle.split_drawing_laws.proofs.drawings.Faces.{Gone, face_goes}
 use Rattle.split_drawing_laws.proofs.drawings.Stays.{stays_on}
 

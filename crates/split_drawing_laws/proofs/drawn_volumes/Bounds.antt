@@ -1,14 +1,6 @@
 -- Faces by their half-edges: which half-edges bound a face, and when all corners of a face lie on a plane.
-use Rattle.std.proofs.Common.{◌≡◌, ◌≢◌, ℕ, true, ◌&&◌, List, [], ◌∷◌, is_some, unwrap_or, refl, sym, ap, ◌∙◌, subst, arith, inl, inr, ◌⊎◌, ◌+◌, ◌++◌, true≢false}
-use Rattle.std.proofs.lemmas.Bool.{and_parts}
-use Rattle.std.proofs.lemmas.Bool.Decides.{eqb_tells}
-use Rattle.euler_operators.specs.Common.{Plane, moved, cross, is_on, count, IsIn, SameItems, tick, mate, plus, minus, Model, LoopContent, lone, cycle, items_of, tail, content, outer, point_of, loop_of, face_of, no_face, solid_of, cycle_of, Sound, Has, HasHalf, face_at, Point, rotate_to}
+use Rattle.split_drawing_laws.proofs.Prelude.{◌≡◌, ◌≢◌, ℕ, true, ◌&&◌, List, [], ◌∷◌, is_some, unwrap_or, refl, sym, ap, ◌∙◌, subst, arith, inl, inr, ◌⊎◌, ◌+◌, ◌++◌, true≢false, and_parts, eqb_tells, Plane, moved, cross, is_on, count, IsIn, SameItems, tick, mate, plus, minus, Model, LoopContent, lone, cycle, items_of, tail, content, outer, point_of, loop_of, face_of, no_face, solid_of, cycle_of, Sound, Has, HasHalf, face_at, Point, rotate_to, IsIn_or_not, tick_same, tick_other, count-append, cycle_there, loop_there, lone_there, item_there, item_loop, never_lone, mate_there, content_row, face_row, same_content, same_face, same_outer, all_mapped, IsIn_head, count-canonical, mate_plus, plus_other, row_elsewhere, moved_twice, none_moved, listed-from_in, count-mef_old, count-mef_new, half_face, start, finish, loops_of, boundary, vertices_on, corners, area, anchor, first_vertex, normal, are_on, face_of_loop, AreHalves, different_items, loops_of_apart, area-append, area_kept, area_same, halves_cancel, Stays}
 use Rattle.euler_operators.specs.Table as table
-use Rattle.euler_operators.proofs.Common.{IsIn_or_not, tick_same, tick_other, count-append, cycle_there, loop_there, lone_there, item_there, item_loop, never_lone, mate_there, content_row, face_row, same_content, same_face, same_outer, all_mapped, IsIn_head, count-canonical, mate_plus, plus_other, row_elsewhere, moved_twice, none_moved}
-use Rattle.euler_laws.proofs.Common.{listed-from_in, count-mef_old, count-mef_new, half_face}
-use Rattle.shapes.specs.Common.{start, finish, loops_of, boundary, vertices_on, corners, area, anchor, first_vertex, normal}
-use Rattle.shapes.proofs.Common.{are_on, face_of_loop, AreHalves, different_items, loops_of_apart, area-append, area_kept, area_same, halves_cancel}
-use Rattle.split_drawing_laws.specs.drawings.DrawnIn.{Stays}
 use Rattle.split_drawing_laws.proofs.crossings.Premises.{loop_in_face, item_in_face}
 use Rattle.split_drawing_laws.proofs.crossings.Whole.{item_face}
 use Rattle.split_drawing_laws.proofs.cut_volumes.Told.{loop_on, loops_on, item_on}

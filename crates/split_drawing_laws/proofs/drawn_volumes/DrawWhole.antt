@@ -1,15 +1,6 @@
 -- Faces drawn: volumes stay, and each face of the solid lies on the planes of one that was there before.
-use Rattle.std.proofs.Common.{◌≡◌, ◌≢◌, ℕ, None, is_some, refl, sym, ap, ◌∙◌, subst, ◌⊎◌, inl, inr, ◌+◌, Bool, true, false, List, [], ◌∷◌, arith, ◌&&◌, fold, map}
-use Rattle.std.proofs.lemmas.Bool.Decides.{eqb_tells}
-use Rattle.euler_operators.specs.Common.{Plane, Model, solid_of, faces_of, Sound, Has, face_at, first_refusal, lists, ring_in, IsIn}
+use Rattle.split_drawing_laws.proofs.Prelude.{◌≡◌, ◌≢◌, ℕ, None, is_some, refl, sym, ap, ◌∙◌, subst, ◌⊎◌, inl, inr, ◌+◌, Bool, true, false, List, [], ◌∷◌, arith, ◌&&◌, fold, map, eqb_tells, Plane, Model, solid_of, faces_of, Sound, Has, face_at, first_refusal, lists, ring_in, IsIn, same_solid, tick_same, no_row, half_face, IsIn-from_listed, listed-from_in, Drawing, drawn_between, FacePairs, next_drawn, faces_drawn, undrawn, straddling_pairs, with_drawings, six_volume, plane_of, straddling_faces, with_crossings, first_conditions, DrawnIn, pairs_in, Ready, Drawable, CanBeDrawn}
 use Rattle.euler_operators.specs.Table as table
-use Rattle.euler_operators.proofs.Common.{same_solid, tick_same, no_row}
-use Rattle.euler_laws.proofs.Common.{half_face, IsIn-from_listed, listed-from_in}
-use Rattle.shapes.specs.Common.{Drawing, drawn_between, FacePairs, next_drawn, faces_drawn, undrawn, straddling_pairs, with_drawings, six_volume, plane_of, straddling_faces, with_crossings, first_conditions}
-use Rattle.split_drawing_laws.specs.drawings.DrawnIn.{DrawnIn}
-use Rattle.split_drawing_laws.specs.drawings.Pairs.{pairs_in}
-use Rattle.split_drawing_laws.specs.drawings.Passing.{Ready, Drawable}
-use Rattle.split_drawing_laws.specs.drawings.Laws.{CanBeDrawn}
 use Rattle.split_drawing_laws.specs.drawn_volumes.Laws.{LiesOnOld}
 use Rattle.split_drawing_laws.proofs.drawings.Drawn.{CanDraw, CanJoin, face_drawn, loops_joined, face_drawn_else, loops_joined_faces}
 use Rattle.split_drawing_laws.proofs.drawings.Rings.{RingOf, Newer, ring_faces}

@@ -1,16 +1,9 @@
 -- A ring given to another face; and each solid keeps its six volumes where an edge is drawn, two loops are joined or a ring is moved.
-use Rattle.std.proofs.Common.{◌≡◌, ◌≢◌, ℕ, ◌++◌, sym, ap, ◌∙◌, arith, inl, inr, ℤ, ◌+ℤ◌, ◌-ℤ◌, true, not, cond, nat_eq, ◌&&◌, ◌∷◌, refl, subst, ne_eqb, eq-eqb}
-use Rattle.std.proofs.lemmas.Bool.Decides.{eqb_tells}
-use Rattle.euler_operators.specs.Common.{Plane, moved, is_on, origin, dot, same_point, direction, count, SameItems, Model, loop_of, face_of, outer, solid_of, faces_of, Sound, Has, HasHalf, face_at, ring_in, Point}
-use Rattle.euler_operators.proofs.Common.{count-append, tick_same, tick_other, dot_sum}
+use Rattle.split_drawing_laws.proofs.Prelude.{◌≡◌, ◌≢◌, ℕ, ◌++◌, sym, ap, ◌∙◌, arith, inl, inr, ℤ, ◌+ℤ◌, ◌-ℤ◌, true, not, cond, nat_eq, ◌&&◌, ◌∷◌, refl, subst, ne_eqb, eq-eqb, eqb_tells, Plane, moved, is_on, origin, dot, same_point, direction, count, SameItems, Model, loop_of, face_of, outer, solid_of, faces_of, Sound, Has, HasHalf, face_at, ring_in, Point, count-append, tick_same, tick_other, dot_sum, RingGoes, boundary, normal, anchor, six_volume, area-append, area_same, total, volume_of, unchanged, total_same, anchor_on, told_anywhere, ints}
 use Rattle.euler_laws.proofs.faces.RingIn as moving
-use Rattle.euler_laws.proofs.Common.{RingGoes}
-use Rattle.shapes.specs.Common.{boundary, normal, anchor, six_volume}
-use Rattle.shapes.proofs.Common.{area-append, area_same, total, volume_of, unchanged, total_same, anchor_on, told_anywhere}
 use Rattle.split_drawing_laws.proofs.drawn_volumes.Bounds.{OnFace, anchor_still, bound_one, bound_none, half_there, area_after, one_count, no_count, normal_kept, normal_is, face_on}
 use Rattle.split_drawing_laws.proofs.drawings.Stays.{point_stays, start_stays, draw_has}
 use Rattle.split_drawing_laws.proofs.drawings.Rings.{ring_sound, same_walks, ring_stays, ring_back, place_is, face_else, face_kept, ring_faces}
-use Rattle.std.proofs.lemmas.Int.{ints}
 use Rattle.euler_operators.specs.Table as table
 use Rattle.split_drawing_laws.proofs.drawings.Drawn.{CanDraw, CanJoin, face_drawn, loops_joined, face_drawn_else, loops_joined_faces}
 use Rattle.split_drawing_laws.proofs.drawn_volumes.Bounds as draws

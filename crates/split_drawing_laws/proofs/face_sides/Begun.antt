@@ -1,29 +1,15 @@
 -- The loops of a solid whose faces straddle a plane: each holds a half-edge, which tells its side, so that once the faces are drawn each lies on one side.
-use Rattle.std.proofs.Common.{◌≡◌, ℕ, Bool, true, false, ◌&&◌, ◌||◌, List, [], ◌∷◌, is_some, refl, sym, ap, ◌∙◌, subst, arith, inl, inr, map, not, nat_eq, eqb-true, eq-eqb}
-use Rattle.std.proofs.lemmas.Bool.{false_from_ne_true}
-use Rattle.euler_operators.proofs.Common.{first_fails, and_false, tick_other, count-append, tick_same, IsIn_or_not, in-holds, content_cycle, cycle_there, lone_there, same_outer, never_lone, same_solid as solid_same, zero_first_where, IsIn-map, IsIn-filter, IsIn_some_head, from_map}
-use Rattle.euler_operators.specs.Common.{Plane, is_above, is_below, count, IsIn, head_or, Model, cycle, items_of, content, tail, loop_of, face_of, solid_of, outer, after, cycle_of, point_of, faces_of, LoopContent, has_half, Sound, Has, HasHalf, face_at, is_lone, lists}
+use Rattle.split_drawing_laws.proofs.Prelude.{◌≡◌, ℕ, Bool, true, false, ◌&&◌, ◌||◌, List, [], ◌∷◌, is_some, refl, sym, ap, ◌∙◌, subst, arith, inl, inr, map, not, nat_eq, eqb-true, eq-eqb, false_from_ne_true, first_fails, and_false, tick_other, count-append, tick_same, IsIn_or_not, in-holds, content_cycle, cycle_there, lone_there, same_outer, never_lone, same_solid as solid_same, zero_first_where, IsIn-map, IsIn-filter, IsIn_some_head, from_map, Plane, is_above, is_below, count, IsIn, head_or, Model, cycle, items_of, content, tail, loop_of, face_of, solid_of, outer, after, cycle_of, point_of, faces_of, LoopContent, has_half, Sound, Has, HasHalf, face_at, is_lone, lists, half_after, loop_after, half_face, no_zero, loop_row, not_lone_cycle, IsIn-from_listed, listed-from_in, none_counted, none_is_lone, split_begins, start, finish, boundary, vertices_on, loops_of, vertices_in, corners, some_above, reaches_above, straddling_faces, straddles, reaches_below, is_place, places, with_crossings, from_place, drawn_pairs, all_pairs, faces_drawn, undrawn, straddling_pairs, with_drawings, Kept, CanBegin, AllFit, ends, LiesOn, Parted, half_is_above, side_of, is_own, CanBeDrawn, TakeSides}
 use Rattle.euler_operators.specs.Table as table
-use Rattle.euler_laws.proofs.Common.{half_after, loop_after, half_face, no_zero, loop_row, not_lone_cycle, IsIn-from_listed, listed-from_in, none_counted}
-use Rattle.shapes.proofs.Common.{none_is_lone}
-use Rattle.shapes.proofs.split.Facts.{split_begins}
-use Rattle.shapes.specs.Common.{start, finish, boundary, vertices_on, loops_of, vertices_in, corners, some_above, reaches_above, straddling_faces, straddles, reaches_below, is_place, places, with_crossings, from_place, drawn_pairs, all_pairs, faces_drawn, undrawn, straddling_pairs, with_drawings}
-use Rattle.split_drawing_laws.specs.crossings.Kept.{Kept}
-use Rattle.split_drawing_laws.specs.crossings.Laws.{CanBegin}
 use Rattle.split_drawing_laws.proofs.crossings.Premises.{item_in_face, face_facts, in_solid, faces_not_zero, loop_in_face, solid_facts}
 use Rattle.split_drawing_laws.proofs.crossings.Whole.{can_cut, crossings_keep, crossings_sound, same_solid}
 use Rattle.split_drawing_laws.proofs.pairs.LoopPlaces.{none_passes}
 use Rattle.split_drawing_laws.proofs.pairs.Whole.{place_now, pairs_fit, lone_pair, can_be_drawn, outer_cut}
-use Rattle.split_drawing_laws.specs.drawings.Pairs.{AllFit}
-use Rattle.split_drawing_laws.specs.loop_sides.Parted.{ends, LiesOn, Parted}
-use Rattle.split_drawing_laws.specs.half_sides.HalfSides.{half_is_above, side_of, is_own}
 use Rattle.split_drawing_laws.proofs.half_sides.PlaceEnds.{side_within, place_in_ends, pairs_up, side_beside, take_sides}
 use Rattle.split_drawing_laws.proofs.face_sides.Beside.{HoldsOld}
 use Rattle.split_drawing_laws.proofs.face_sides.OneFace.{IsSided, PairsOf, AllOld, Stage, all_done}
 use Rattle.split_drawing_laws.proofs.face_sides.Shared.{any_from, HeldOn, none_from}
-use Rattle.split_drawing_laws.specs.drawings.Laws.{CanBeDrawn}
 use Rattle.split_drawing_laws.proofs.drawings.Whole.{drawable, drawing_sound}
-use Rattle.split_drawing_laws.specs.loop_sides.Laws.{TakeSides}
 use Rattle.split_drawing_laws.proofs.loop_sides.Parting.{loop_on_one_side}
 use Rattle.split_drawing_laws.proofs.loop_sides.SidesWhole.{all_drawn_parted, loops_on_one_side}
 use Rattle.split_drawing_laws.specs.face_sides.Lone.{NoLoopIsLone}

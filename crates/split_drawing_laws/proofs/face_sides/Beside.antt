@@ -1,12 +1,7 @@
 -- What stays beside a face in which edges are drawn: the rows of other faces and of their loops.
-use Rattle.std.proofs.Common.{◌≡◌, ◌≢◌, ℕ, true, false, cond, List, [], ◌∷◌, Option, Some, None, is_some, refl, sym, ap, ◌∙◌, subst, arith, ◌⊎◌, inl, inr, true≢false, ◌++◌, fold, option_map}
-use Rattle.std.proofs.lemmas.Bool.Decides.{eqb_tells}
+use Rattle.split_drawing_laws.proofs.Prelude.{◌≡◌, ◌≢◌, ℕ, true, false, cond, List, [], ◌∷◌, Option, Some, None, is_some, refl, sym, ap, ◌∙◌, subst, arith, ◌⊎◌, inl, inr, true≢false, ◌++◌, fold, option_map, eqb_tells, Table, Model, LoopRow, loop_of, face_of, content, tail, outer, cycle_of, Has, HasHalf, face_at, lists, loop_to_face, IsIn, rotate_to, upto, onward, mef_old, mef_new, plus, minus, face_row, same_face, content_row, cycle_there, outer_row, same_outer, loop_there, count-append, tick_same, from_is, rotate_to_is, count-rotate_to, count-canonical, row_elsewhere, content_either, half_face, with_rings, Stays}
 use Rattle.euler_operators.specs.Table as table
-use Rattle.euler_operators.specs.Common.{Table, get-map_rows, Model, LoopRow, loop_of, face_of, content, tail, outer, cycle_of, Has, HasHalf, face_at, lists, loop_to_face, IsIn, rotate_to, upto, onward, mef_old, mef_new, plus, minus}
-use Rattle.euler_operators.proofs.Common.{face_row, same_face, content_row, cycle_there, outer_row, same_outer, loop_there, count-append, tick_same, from_is, rotate_to_is, count-rotate_to, count-canonical, row_elsewhere}
-use Rattle.euler_laws.proofs.Common.{content_either, half_face}
-use Rattle.shapes.specs.Common.{with_rings}
-use Rattle.split_drawing_laws.specs.drawings.DrawnIn.{Stays}
+use Rattle.euler_operators.specs.Common.{get-map_rows}
 use Rattle.split_drawing_laws.proofs.drawings.Drawn.{CanDraw, CanJoin, face_drawn_else, loops_joined_faces, draw_sound, ring_rows, face_drawn_new, face_drawn, loops_joined}
 use Rattle.split_drawing_laws.proofs.drawings.Stays.{second_in, row_old, row_new, row_else, row_joined, row_gone, row_other, stands_at, draw_beside}
 

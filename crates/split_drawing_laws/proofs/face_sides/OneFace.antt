@@ -1,15 +1,6 @@
 -- Faces drawn one after the other: what stays beside each, and that it and the faces that are cut off it lie each on one side.
-use Rattle.std.proofs.Common.{◌≡◌, ℕ, ◌+◌, List, [], ◌∷◌, ◌∙◌, ◌≢◌, Bool, true, false, cond, nat_eq, nat_lt, ◌&&◌, length, is_some, refl, sym, ap, subst, arith, inl, inr, fold, map}
-use Rattle.std.proofs.lemmas.Bool.Decides.{nat_tests, eqb_tells}
-use Rattle.std.proofs.lemmas.Bool.{false_from_ne_true}
-use Rattle.euler_operators.specs.Common.{Model, holds, content, loop_of, face_of, outer, solid_of, Sound, HasHalf, Has, face_at, lists, has_rings, Plane, count, IsIn}
+use Rattle.split_drawing_laws.proofs.Prelude.{◌≡◌, ℕ, ◌+◌, List, [], ◌∷◌, ◌∙◌, ◌≢◌, Bool, true, false, cond, nat_eq, nat_lt, ◌&&◌, length, is_some, refl, sym, ap, subst, arith, inl, inr, fold, map, nat_tests, eqb_tells, false_from_ne_true, Model, holds, content, loop_of, face_of, outer, solid_of, Sound, HasHalf, Has, face_at, lists, has_rings, Plane, count, IsIn, same_content, same_face, same_outer, loop_there, same_solid, row_elsewhere, no_row, tick_same, tick_other, no_rings_means, Drawing, join_next, draw_next, stuck_at, all_joined, ring_free, all_drawn, rings_above, with_rings, rings_shared, drawn_between, FacePairs, next_drawn, vertices_on, some_above, Stays, DrawnIn, AllOf, AllFit, pairs_in, Joining, Going, Ready, Drawable}
 use Rattle.euler_operators.specs.Table as table
-use Rattle.euler_operators.proofs.Common.{same_content, same_face, same_outer, loop_there, same_solid, row_elsewhere, no_row, tick_same, tick_other}
-use Rattle.euler_laws.proofs.Common.{no_rings_means}
-use Rattle.shapes.specs.Common.{Drawing, join_next, draw_next, stuck_at, all_joined, ring_free, all_drawn, rings_above, with_rings, rings_shared, drawn_between, FacePairs, next_drawn, vertices_on, some_above}
-use Rattle.split_drawing_laws.specs.drawings.DrawnIn.{Stays, DrawnIn}
-use Rattle.split_drawing_laws.specs.drawings.Pairs.{AllOf, AllFit, pairs_in}
-use Rattle.split_drawing_laws.specs.drawings.Passing.{Joining, Going, Ready, Drawable}
 use Rattle.split_drawing_laws.proofs.drawings.Pairs.{was_free}
 use Rattle.split_drawing_laws.proofs.drawings.Passes.{all_of_last, either_now, joins_keep, cut_off, can_now, draws_keep, stuck_now}
 use Rattle.split_drawing_laws.proofs.drawings.Stays.{draw_stays, stays_on, row_else}

@@ -1,15 +1,6 @@
 -- What is told of corners stays while edges are drawn.
-use Rattle.std.specs.List.{list_any}
-use Rattle.std.proofs.Common.{◌≡◌, ℕ, Bool, true, false, ◌||◌, List, [], ◌∷◌, refl, sym, ap, ◌∙◌, arith, true≢false, ◌≢◌, nat_eq, is_some, subst, inl, inr, map, ne_eqb, eq-eqb}
-use Rattle.std.proofs.lemmas.Bool.Decides.{eqb_tells}
-use Rattle.std.proofs.lemmas.Bool.{false_from_ne_true}
-use Rattle.euler_operators.specs.Common.{Plane, is_above, IsIn, Model, LoopContent, lone, cycle, items_of, content, tail, holds, loop_of, face_of, outer, rings_of, Sound, HasHalf, Has, StandsIn, face_at, lists}
+use Rattle.split_drawing_laws.proofs.Prelude.{list_any, ◌≡◌, ℕ, Bool, true, false, ◌||◌, List, [], ◌∷◌, refl, sym, ap, ◌∙◌, arith, true≢false, ◌≢◌, nat_eq, is_some, subst, inl, inr, map, ne_eqb, eq-eqb, eqb_tells, false_from_ne_true, Plane, is_above, IsIn, Model, LoopContent, lone, cycle, items_of, content, tail, holds, loop_of, face_of, outer, rings_of, Sound, HasHalf, Has, StandsIn, face_at, lists, tick_same, in-holds, same_face, IsIn-filter, filter_passes, test_ring, IsIn-from_listed, listed-from_in, vertices_on, some_above, rings_above, with_rings, ring_listed, Stays}
 use Rattle.euler_operators.specs.Table as table
-use Rattle.euler_operators.proofs.Common.{tick_same, in-holds, same_face, IsIn-filter, filter_passes}
-use Rattle.euler_laws.proofs.Common.{test_ring, IsIn-from_listed, listed-from_in}
-use Rattle.shapes.specs.Common.{vertices_on, some_above, rings_above, with_rings}
-use Rattle.shapes.proofs.Common.{ring_listed}
-use Rattle.split_drawing_laws.specs.drawings.DrawnIn.{Stays}
 use Rattle.split_drawing_laws.proofs.drawings.Drawn.{CanDraw, draw_sound, face_drawn}
 use Rattle.split_drawing_laws.proofs.drawings.Rings.{RingOf, rings_are}
 use Rattle.split_drawing_laws.proofs.drawings.Stays.{point_stays, row_else, draw_beside}

@@ -1,10 +1,5 @@
 -- What follows what once an edge is cut.
-use Rattle.std.proofs.Common.{◌≡◌, ◌≢◌, ℕ, refl, sym, ap, ◌∙◌, subst, arith, ◌+◌, List, [], ◌∷◌, None, is_some, ◌⊎◌, inl, inr, true≢false}
-use Rattle.std.proofs.lemmas.Bool.Decides.{eqb_tells}
-use Rattle.euler_operators.specs.Common.{Point, after_mev, mate, plus, minus, edge_of, Model, loop_of, after, before, tail, Sound, HasHalf, Has, mev_at, Plane, count, tick, IsIn, first_refusal}
-use Rattle.euler_operators.proofs.Common.{mate_plus, plus_row, minus_row, tick_same, tick_other, plus_there, minus_there, plus_edge}
-use Rattle.euler_laws.proofs.Common.{loop_after, after-walks, walks}
-use Rattle.shapes.specs.Common.{next_cut, all_cut, with_crossings, Growing, growing, crossing_edges, first_conditions}
+use Rattle.split_drawing_laws.proofs.Prelude.{◌≡◌, ◌≢◌, ℕ, refl, sym, ap, ◌∙◌, subst, arith, ◌+◌, List, [], ◌∷◌, None, is_some, ◌⊎◌, inl, inr, true≢false, eqb_tells, Point, after_mev, mate, plus, minus, edge_of, Model, loop_of, after, before, tail, Sound, HasHalf, Has, mev_at, Plane, count, tick, IsIn, first_refusal, mate_plus, plus_row, minus_row, tick_same, tick_other, plus_there, minus_there, plus_edge, loop_after, after-walks, walks, next_cut, all_cut, with_crossings, Growing, growing, crossing_edges, first_conditions}
 use Rattle.split_drawing_laws.proofs.crossings.OneCut.{cut_is_mev, edge_cut}
 use Rattle.split_drawing_laws.proofs.crossings.Steps.{CutGoes, mev_goes, cut_keeps, edge_stays, edge_other, edge_new, tail_new, tail_other}
 use Rattle.split_drawing_laws.proofs.pairs.LoopPlaces.{before_after}

@@ -1,26 +1,13 @@
 -- The half-edges that start at the cut places of faces, each once, and the sides that the half-edges of the solid take.
-use Rattle.std.specs.List.{list_all}
-use Rattle.std.proofs.Common.{◌≡◌, ℕ, ◌≤◌, List, [], ◌∷◌, ap, subst, arith, inl, inr, ◌≢◌, Bool, true, false, cond, not, pos, refl, sym, ◌∙◌, true≢false, ◌&&◌, ◌||◌, map, eqb-true}
-use Rattle.std.proofs.lemmas.Bool.Decides.{eqb_tells}
-use Rattle.std.proofs.lemmas.Bool.{and_parts, false_from_ne_true}
-use Rattle.euler_operators.specs.Common.{Plane, count, IsIn, IsApart, tick, Model, solid_of, after, tail, loop_of, face_of, point_of, faces_of, height, is_on, cut_between, are_opposite, is_above, is_below, edge_of, plus, minus, Sound, Has, HasHalf, face_at, differ, lists}
-use Rattle.euler_operators.proofs.Common.{count-append, tick_same, tick_other, IsIn_or_not, plus_row, mate_plus, mate_minus, IsIn-map, IsApart-images, filter_passes, IsIn-filter, from_map, level_on, cycle_there, loop_there}
-use Rattle.euler_laws.proofs.Common.{halves_of_edge, back_of, half_after, loop_after, half_face, listed-from_in, IsIn-from_listed}
-use Rattle.shapes.specs.Common.{drawn_pairs, all_pairs, from_place, straddling_pairs, start, finish, boundary, corners, edges_of, crosses, reaches_above, straddling_faces, crossing_edges, straddles, reaches_below, is_place, place_point, places, goes_up, is_crossed, is_up_and_down, in_pairs, up_first, sorted, sorted_pairs, place_pairs, with_crossings}
-use Rattle.split_drawing_laws.specs.drawings.Pairs.{AllOf}
-use Rattle.split_drawing_laws.specs.loop_sides.Parted.{ends, all_ends, Crosses, AllCross, LiesOn, FacesCross}
-use Rattle.split_drawing_laws.specs.crossings.Laws.{CanBegin}
-use Rattle.split_drawing_laws.specs.half_sides.HalfSides.{half_is_above, side_of, is_own}
+use Rattle.split_drawing_laws.proofs.Prelude.{list_all, ◌≡◌, ℕ, ◌≤◌, List, [], ◌∷◌, ap, subst, arith, inl, inr, ◌≢◌, Bool, true, false, cond, not, pos, refl, sym, ◌∙◌, true≢false, ◌&&◌, ◌||◌, map, eqb-true, eqb_tells, and_parts, false_from_ne_true, Plane, count, IsIn, IsApart, tick, Model, solid_of, after, tail, loop_of, face_of, point_of, faces_of, height, is_on, cut_between, are_opposite, is_above, is_below, edge_of, plus, minus, Sound, Has, HasHalf, face_at, differ, lists, count-append, tick_same, tick_other, IsIn_or_not, plus_row, mate_plus, mate_minus, IsIn-map, IsApart-images, filter_passes, IsIn-filter, from_map, level_on, cycle_there, loop_there, halves_of_edge, back_of, half_after, loop_after, half_face, listed-from_in, IsIn-from_listed, drawn_pairs, all_pairs, from_place, straddling_pairs, start, finish, boundary, corners, edges_of, crosses, reaches_above, straddling_faces, crossing_edges, straddles, reaches_below, is_place, place_point, places, goes_up, is_crossed, is_up_and_down, in_pairs, up_first, sorted, sorted_pairs, place_pairs, with_crossings, AllOf, ends, all_ends, Crosses, AllCross, LiesOn, FacesCross, CanBegin, half_is_above, side_of, is_own, count-sorted, TakeSides}
 use Rattle.split_drawing_laws.proofs.crossings.Whole.{item_there, item_face, turned, in_crossing, on_when, can_cut, crossings_sound, same_solid, none_crosses}
 use Rattle.split_drawing_laws.proofs.crossings.Premises.{edge_facts, crossing_here, crossing_point, one_point, face_facts, any_passes, tail_in_face, faces_not_zero, in_solid, edge_listed}
-use Rattle.shapes.proofs.Common.{count-sorted}
 use Rattle.split_drawing_laws.proofs.pairs.Sorted.{between, drawn, points_apart, all_places_drawn, sorted_apart}
 use Rattle.split_drawing_laws.proofs.pairs.LoopPlaces.{places_even, none_passes}
 use Rattle.split_drawing_laws.proofs.pairs.Whole.{places_in, places_apart, place_now, place_face}
 use Rattle.split_drawing_laws.proofs.half_sides.Starts.{side_ahead, TurnAt, turn_at, side_kept, side_changed, starts_above, starts_below, crosses_back, comes_from}
 use Rattle.euler_operators.specs.Table as table
 use Rattle.split_drawing_laws.proofs.drawings.Counted.{of_all_pairs, straddling_apart, faces_are}
-use Rattle.split_drawing_laws.specs.loop_sides.Laws.{TakeSides}
 use Rattle.split_drawing_laws.proofs.loop_sides.Parting.{on_both}
 
 module _ (M N : Model) (p : Plane) where

@@ -1,14 +1,5 @@
 -- The side of a half-edge, by the heights of its ends.
-use Rattle.std.proofs.Common.{◌≡◌, true, false, not, ◌||◌, ℤ, pos, arith, ℕ, cond, ◌&&◌, List, sym, ap, ◌∙◌, subst, ◌⊎◌, inl, inr, true≢false, int_lt, int_eq}
-use Rattle.std.proofs.lemmas.Int.{ints}
-use Rattle.std.proofs.lemmas.Bool.{and_parts}
-use Rattle.euler_operators.specs.Common.{opposite, height, are_opposite, is_on, Plane, count, IsIn, edge_of, plus, minus, Model, tail, loop_of, face_of, after, before, point_of, Sound, HasHalf, face_at}
-use Rattle.euler_operators.proofs.Common.{IsIn_or_not, edge_of-mate, mate_plus, mate_minus, cycle_there, plus_there, minus_there, loop_there, mate_there, IsIn-filter}
-use Rattle.euler_laws.proofs.Common.{halves_of_edge, half_after, loop_after, back_of}
-use Rattle.shapes.specs.Common.{start, finish, boundary, crosses, straddling_faces, crossing_edges, is_place, places, with_crossings, from_place}
-use Rattle.split_drawing_laws.specs.crossings.Kept.{Kept}
-use Rattle.split_drawing_laws.specs.crossings.Laws.{CanBegin}
-use Rattle.shapes.proofs.split.Facts.{Cuttable}
+use Rattle.split_drawing_laws.proofs.Prelude.{◌≡◌, true, false, not, ◌||◌, ℤ, pos, arith, ℕ, cond, ◌&&◌, List, sym, ap, ◌∙◌, subst, ◌⊎◌, inl, inr, true≢false, int_lt, int_eq, ints, and_parts, opposite, height, are_opposite, is_on, Plane, count, IsIn, edge_of, plus, minus, Model, tail, loop_of, face_of, after, before, point_of, Sound, HasHalf, face_at, IsIn_or_not, edge_of-mate, mate_plus, mate_minus, cycle_there, plus_there, minus_there, loop_there, mate_there, IsIn-filter, halves_of_edge, half_after, loop_after, back_of, start, finish, boundary, crosses, straddling_faces, crossing_edges, is_place, places, with_crossings, from_place, Kept, CanBegin, Cuttable}
 use Rattle.split_drawing_laws.proofs.crossings.Premises.{item_in_face, crossing_is_place, edge_facts, plus_crosses, minus_crosses, minus_is}
 use Rattle.split_drawing_laws.proofs.crossings.Whole.{plus_on, minus_off, can_cut, crossings_keep, crossings_sound, start_minus, start_plus}
 use Rattle.split_drawing_laws.proofs.crossings.Runs.{kept_point}

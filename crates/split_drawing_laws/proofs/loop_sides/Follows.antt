@@ -1,9 +1,5 @@
 -- What follows what once an edge stands between c and d; and sides that change at open places only.
-use Rattle.std.proofs.Common.{◌≡◌, ◌≢◌, ℕ, ◌+◌, Bool, cond, not, List, refl, sym, ap, ◌∙◌, subst, arith, eq-eqb, ne_eqb, ◌⊎◌, inl, inr, ◌==◌}
-use Rattle.std.proofs.lemmas.Bool.Decides.{eqb_tells}
-use Rattle.euler_operators.specs.Common.{count, tick, IsIn, IsApart, after_mev, after_mef}
-use Rattle.split_drawing_laws.specs.loop_sides.Parted.{Sided}
-use Rattle.euler_operators.proofs.Common.{splice_at, splice_at_other, splice_elsewhere, tick_same, tick_other}
+use Rattle.split_drawing_laws.proofs.Prelude.{◌≡◌, ◌≢◌, ℕ, ◌+◌, Bool, cond, not, List, refl, sym, ap, ◌∙◌, subst, arith, eq-eqb, ne_eqb, ◌⊎◌, inl, inr, ◌==◌, eqb_tells, count, tick, IsIn, IsApart, after_mev, after_mef, Sided, splice_at, splice_at_other, splice_elsewhere, tick_same, tick_other}
 
 -- ---- what follows what, once h is put before c and m before d
 

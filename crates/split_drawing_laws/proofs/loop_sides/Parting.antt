@@ -1,13 +1,6 @@
 -- What follows what in a model, once an edge is drawn or loops are joined.
-use Rattle.std.proofs.Common.{◌≡◌, ◌≢◌, ℕ, ◌++◌, None, is_some, sym, ap, ◌∙◌, subst, arith, ◌⊎◌, inl, inr, true≢false, ◌+◌, Bool, true, false, not, List, [], ◌∷◌, pos, refl, int_lt}
-use Rattle.std.proofs.lemmas.Bool.Decides.{eqb_tells}
-use Rattle.euler_operators.specs.Common.{count, IsIn, IsApart, tick, head_or, IsRing, IsPath, mef_old, mef_new, mekr_ring, after_mef, edge_of, plus, minus, Model, items_of, loop_of, content, cycle_of, after, tail, point_of, Sound, Has, HasHalf, Point, Plane, height, is_on, ring_in}
+use Rattle.split_drawing_laws.proofs.Prelude.{◌≡◌, ◌≢◌, ℕ, ◌++◌, None, is_some, sym, ap, ◌∙◌, subst, arith, ◌⊎◌, inl, inr, true≢false, ◌+◌, Bool, true, false, not, List, [], ◌∷◌, pos, refl, int_lt, eqb_tells, count, IsIn, IsApart, tick, head_or, IsRing, IsPath, mef_old, mef_new, mekr_ring, after_mef, edge_of, plus, minus, Model, items_of, loop_of, content, cycle_of, after, tail, point_of, Sound, Has, HasHalf, Point, Plane, height, is_on, ring_in, count-append, IsIn_or_not, tick_same, tick_other, next_is_successor, IsRing-mef, IsRing-mekr, IsRing-led_over_other, IsRing-splice_other, plus_row, minus_row, same_edge, mate_plus, plus_other, content_row, in-holds, cycle_there, cycle_sound, same_content, loop_there, row_elsewhere, get-put_other, level_is, light, none_free, half_after, none_else, start, Stays, DrawnIn, Sided, LiesOn, Parted}
 use Rattle.euler_operators.specs.Table as table
-use Rattle.euler_operators.proofs.Common.{count-append, IsIn_or_not, tick_same, tick_other, next_is_successor, IsRing-mef, IsRing-mekr, IsRing-led_over_other, IsRing-splice_other, plus_row, minus_row, same_edge, mate_plus, plus_other, content_row, in-holds, cycle_there, cycle_sound, same_content, loop_there, row_elsewhere, get-put_other, level_is}
-use Rattle.euler_laws.proofs.Common.{light, none_free, half_after, none_else}
-use Rattle.shapes.specs.Common.{start}
-use Rattle.split_drawing_laws.specs.drawings.DrawnIn.{Stays, DrawnIn}
-use Rattle.split_drawing_laws.specs.loop_sides.Parted.{Sided, LiesOn, Parted}
 use Rattle.split_drawing_laws.proofs.drawings.Drawn.{CanDraw, draw_sound, CanJoin, join_sound, face_drawn, loops_joined}
 use Rattle.split_drawing_laws.proofs.drawings.Stays.{second_in, row_old, row_new, row_else, edges_are, row_joined, row_gone, row_other, joined_edges, draw_stays, join_stays, draw_tails, join_tails, stays_on, start_stays}
 use Rattle.split_drawing_laws.proofs.drawings.Rings.{RingOf, Newer, ring_goes, ring_stays, ring_back, moved_after}

@@ -1,16 +1,6 @@
 -- The sides of half-edges through the two passes over the pairs of a face.
-use Rattle.std.proofs.Common.{◌≡◌, ◌≢◌, ℕ, ◌+◌, Bool, true, false, cond, List, [], ◌∷◌, ◌++◌, None, IsTrue, refl, sym, ap, subst, arith, ◌⊎◌, inl, inr, nat_eq, nat_lt, ◌&&◌, length, ◌∙◌, fold, map, eqb-true, append_assoc, append-nil}
-use Rattle.std.proofs.lemmas.Bool.Decides.{eqb_tells}
-use Rattle.euler_operators.specs.Common.{Plane, count, tick, IsIn, Model, loop_of, is_number, is_ring_of, Sound, HasHalf, face_at, has_rings, effect}
+use Rattle.split_drawing_laws.proofs.Prelude.{◌≡◌, ◌≢◌, ℕ, ◌+◌, Bool, true, false, cond, List, [], ◌∷◌, ◌++◌, None, IsTrue, refl, sym, ap, subst, arith, ◌⊎◌, inl, inr, nat_eq, nat_lt, ◌&&◌, length, ◌∙◌, fold, map, eqb-true, append_assoc, append-nil, eqb_tells, Plane, count, tick, IsIn, Model, loop_of, is_number, is_ring_of, Sound, HasHalf, face_at, has_rings, effect, count-append, tick_same, Drawing, in_one_loop, join_next, draw_next, stuck_at, all_joined, ring_free, all_drawn, rings_above, with_rings, drawn_between, FacePairs, next_drawn, faces_drawn, undrawn, start, Growing, join_edge, join_pair, Fits, AllFit, Parted, ends, Crosses, AllCross, Open, LiesOn, FacesCross, all_ends, JoinedIn, Joining, Going, Ready, Drawable, CanBeDrawn, TakeSides}
 use Rattle.euler_operators.specs.Table as table
-use Rattle.euler_operators.proofs.Common.{count-append, tick_same}
-use Rattle.shapes.specs.Common.{Drawing, in_one_loop, join_next, draw_next, stuck_at, all_joined, ring_free, all_drawn, rings_above, with_rings, drawn_between, FacePairs, next_drawn, faces_drawn, undrawn, start, Growing, join_edge, join_pair}
-use Rattle.split_drawing_laws.specs.drawings.Pairs.{Fits, AllFit}
-use Rattle.split_drawing_laws.specs.loop_sides.Parted.{Parted, ends, Crosses, AllCross, Open, LiesOn, FacesCross, all_ends}
-use Rattle.split_drawing_laws.specs.drawings.DrawnIn.{JoinedIn}
-use Rattle.split_drawing_laws.specs.drawings.Passing.{Joining, Going, Ready, Drawable}
-use Rattle.split_drawing_laws.specs.drawings.Laws.{CanBeDrawn}
-use Rattle.split_drawing_laws.specs.loop_sides.Laws.{TakeSides}
 use Rattle.split_drawing_laws.proofs.drawings.Pairs.{can_back, can_on}
 use Rattle.split_drawing_laws.proofs.drawings.Passes.{all_of_last, edge_free, edge_fits_now, joins_keep, can_now, stuck_now, draws_keep, cut_off}
 use Rattle.split_drawing_laws.proofs.loop_sides.Parting.{Opposed, parted_drawn, parted_joined, parted_moved, corners_on_one_side}

@@ -1,13 +1,6 @@
 -- The signs of three heights that follow one another, the first two and the last two of which are those of neighbours.
-use Rattle.std.specs.List.{list_any}
-use Rattle.std.proofs.Common.{◌≡◌, Bool, true, false, cond, not, ◌&&◌, ◌||◌, ℤ, pos, arith, ℕ, suc, ◌+◌, ◌*◌, List, [], ◌∷◌, length, refl, sym, ap, ◌∙◌, true≢false, ◌≤◌, ◌++◌, subst, int_lt, ◌-◌, filter, int_eq, length-append}
-use Rattle.std.proofs.lemmas.Int.{ints}
+use Rattle.split_drawing_laws.proofs.Prelude.{list_any, ◌≡◌, Bool, true, false, cond, not, ◌&&◌, ◌||◌, ℤ, pos, arith, ℕ, suc, ◌+◌, ◌*◌, List, [], ◌∷◌, length, refl, sym, ap, ◌∙◌, true≢false, ◌≤◌, ◌++◌, subst, int_lt, ◌-◌, filter, int_eq, length-append, ints, not-false, false_from_ne_true, opposite, height, is_on, IsIn, head_or, count, IsPath, IsRing, Plane, Model, items_of, content, outer, loop_of, before, after, point_of, rings_of, Sound, HasHalf, tick_same, count-append, tick_le, predecessor-successor, in-holds, cycle_there, cycle_sound, count-filter, loop_after, light, start, finish, loops_of, items_in, boundary, is_place, places, is_touched, loop_is_cut}
 use Rattle.std.proofs.lemmas.List.Elements.{filter-append}
-use Rattle.std.proofs.lemmas.Bool.{not-false, false_from_ne_true}
-use Rattle.euler_operators.specs.Common.{opposite, height, is_on, IsIn, head_or, count, IsPath, IsRing, Plane, Model, items_of, content, outer, loop_of, before, after, point_of, rings_of, Sound, HasHalf}
-use Rattle.euler_operators.proofs.Common.{tick_same, count-append, tick_le, predecessor-successor, in-holds, cycle_there, cycle_sound, count-filter}
-use Rattle.euler_laws.proofs.Common.{loop_after, light}
-use Rattle.shapes.specs.Common.{start, finish, loops_of, items_in, boundary, is_place, places, is_touched, loop_is_cut}
 use Rattle.split_drawing_laws.proofs.crossings.Premises.{any_passes}
 
 -- b and c are opposite, or b is 0 and its neighbours are

@@ -1,11 +1,5 @@
 -- Places sorted by their points: what holds of them and of their pairs.
-use Rattle.std.proofs.Common.{◌≡◌, ℕ, ◌+◌, true, false, cond, List, [], ◌∷◌, length, refl, ap, ◌∙◌, arith, ◌≢◌, ◌*◌, Bool, sym, subst, true≢false, map, eq-eqb}
-use Rattle.euler_operators.specs.Common.{Plane, count, tick, IsApart, IsIn, Model, loop_of}
-use Rattle.euler_operators.proofs.Common.{tick_same}
-use Rattle.shapes.specs.Common.{place_point, sorted_in, sorted, goes_up, in_pairs, up_first, places, sorted_pairs, place_pairs, is_crossed, from_place, drawn_pairs}
-use Rattle.shapes.proofs.Common.{count-sorted, length-sorted}
-use Rattle.split_drawing_laws.specs.drawings.Pairs.{Fits, AllFit, LoneInOneLoop}
-use Rattle.split_drawing_laws.specs.loop_sides.Parted.{ends}
+use Rattle.split_drawing_laws.proofs.Prelude.{◌≡◌, ℕ, ◌+◌, true, false, cond, List, [], ◌∷◌, length, refl, ap, ◌∙◌, arith, ◌≢◌, ◌*◌, Bool, sym, subst, true≢false, map, eq-eqb, Plane, count, tick, IsApart, IsIn, Model, loop_of, tick_same, place_point, sorted_in, sorted, goes_up, in_pairs, up_first, places, sorted_pairs, place_pairs, is_crossed, from_place, drawn_pairs, count-sorted, length-sorted, Fits, AllFit, LoneInOneLoop, ends}
 use Rattle.split_drawing_laws.proofs.pairs.LoopPlaces.{IsEven, two_less}
 use Rattle.split_drawing_laws.proofs.crossings.Premises.{two_meet}
 

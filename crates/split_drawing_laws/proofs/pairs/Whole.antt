@@ -1,25 +1,9 @@
 -- The numbers taken once the edges are cut, and those that are left.
-use Rattle.std.specs.List.{list_all}
-use Rattle.std.proofs.Common.{◌≡◌, ℕ, ◌+◌, ◌<◌, List, [], ◌∷◌, length, refl, sym, ap, ◌∙◌, subst, arith, ◌≢◌, ◌*◌, true, false, not, nat_eq, ◌&&◌}
-use Rattle.std.proofs.lemmas.List.{length-map}
-use Rattle.euler_operators.specs.Common.{Plane, Model, tail, loop_of, face_of, outer, point_of, rings_of, IsIn, IsApart, Sound, face_at, lists}
+use Rattle.split_drawing_laws.proofs.Prelude.{list_all, ◌≡◌, ℕ, ◌+◌, ◌<◌, List, [], ◌∷◌, length, refl, sym, ap, ◌∙◌, subst, arith, ◌≢◌, ◌*◌, true, false, not, nat_eq, ◌&&◌, length-map, Plane, Model, tail, loop_of, face_of, outer, point_of, rings_of, IsIn, IsApart, Sound, face_at, lists, not_or_fails, count-filter, AreAccepted, effects, AreAccepted-append, effects-append, IsIn-from_listed, AreLeft, AreFree, FacePairs, Taken, Growing, growing, undrawn, taken_in, straddling_faces, crossing_edges, is_place, places, loop_is_cut, is_cut_often, sorted, sorted_pairs, place_pairs, next_cut, all_cut, with_crossings, straddling_pairs, from_place, drawn_pairs, with_drawings, loops_of, boundary, none_above, different_items, loops_of_apart, count-sorted, length-sorted, AreLeftForPairs, pairs_in, Fits, AllFit, LoneInOneLoop, AtPlace, crossing_ops, CanBegin, drawing_ops, CanBeDrawn, Cuttable, needed_for_rewritings}
 use Rattle.euler_operators.specs.Table as table
-use Rattle.euler_operators.proofs.Common.{not_or_fails, count-filter}
-use Rattle.euler_laws.specs.Laws.{AreAccepted, effects}
-use Rattle.euler_laws.proofs.Common.{AreAccepted-append, effects-append, IsIn-from_listed}
-use Rattle.shapes.specs.Common.{AreLeft, AreFree, FacePairs, Taken, Growing, growing, undrawn, taken_in, straddling_faces, crossing_edges, is_place, places, loop_is_cut, is_cut_often, sorted, sorted_pairs, place_pairs, next_cut, all_cut, with_crossings, straddling_pairs, from_place, drawn_pairs, with_drawings, loops_of, boundary}
-use Rattle.shapes.proofs.Common.{none_above, different_items, loops_of_apart, count-sorted, length-sorted}
-use Rattle.split_drawing_laws.specs.drawings.DrawnIn.{AreLeftForPairs}
-use Rattle.split_drawing_laws.specs.drawings.Pairs.{pairs_in, Fits, AllFit, LoneInOneLoop}
-use Rattle.split_drawing_laws.specs.crossings.AtPlace.{AtPlace}
-use Rattle.split_drawing_laws.specs.crossings.CrossingOps.{crossing_ops}
-use Rattle.split_drawing_laws.specs.crossings.Laws.{CanBegin}
-use Rattle.split_drawing_laws.specs.drawings.DrawingOps.{drawing_ops}
-use Rattle.split_drawing_laws.specs.drawings.Laws.{CanBeDrawn}
 use Rattle.split_drawing_laws.specs.pairs.Laws.{rewriting_ops}
 use Rattle.split_drawing_laws.proofs.drawings.Counted.{pairs_counted, of_all_pairs, fresh_taken, straddling_apart, faces_are}
 use Rattle.split_drawing_laws.proofs.crossings.Whole.{place_starts, item_face, can_cut, crossings_accepted, crossings_made, crossings_sound, crossings_counted, crossings_keep}
-use Rattle.shapes.proofs.split.Facts.{Cuttable, needed_for_rewritings}
 use Rattle.split_drawing_laws.proofs.crossings.Premises.{face_facts}
 use Rattle.split_drawing_laws.proofs.drawings.Whole.{drawing_accepted, drawing_made, drawing_sound, drawing_stays, drawing_fresh}
 use Rattle.split_drawing_laws.proofs.loop_sides.SidesWhole.{faces_go_on}

@@ -1,13 +1,6 @@
 -- Faces drawn pair by pair: in the tables they are cut by bridges and chords.
-use Rattle.std.proofs.Common.{◌≡◌, ℕ, ◌+◌, Bool, true, false, cond, nat_eq, List, [], ◌∷◌, ◌++◌, length, refl, sym, ap, ◌∙◌, fold}
-use Rattle.euler_operators.specs.Common.{Plane, Model, Sound, face_at, loop_of, is_ring_of, effect, loop_to_face, same_table}
+use Rattle.split_drawing_laws.proofs.Prelude.{◌≡◌, ℕ, ◌+◌, Bool, true, false, cond, nat_eq, List, [], ◌∷◌, ◌++◌, length, refl, sym, ap, ◌∙◌, fold, Plane, Model, Sound, face_at, loop_of, is_ring_of, effect, loop_to_face, same_table, get-map_rows, Growing, Drawing, FacePairs, in_one_loop, join_next, all_joined, draw_next, all_drawn, all_pairs, drawn_between, join_edge, stuck_at, straddling_faces, ring_free, rings_above, rings_shared, next_drawn, faces_drawn, undrawn, with_rings, with_crossings, with_drawings, straddling_pairs, CanBegin, CanBeDrawn, Fits, AllFit, pairs_in, Joining, Going, Ready, Drawable}
 use Rattle.euler_operators.specs.Table as table
-use Rattle.euler_operators.specs.Table.{get-map_rows}
-use Rattle.shapes.specs.Common.{Growing, Drawing, FacePairs, in_one_loop, join_next, all_joined, draw_next, all_drawn, all_pairs, drawn_between, join_edge, stuck_at, straddling_faces, ring_free, rings_above, rings_shared, next_drawn, faces_drawn, undrawn, with_rings, with_crossings, with_drawings, straddling_pairs}
-use Rattle.split_drawing_laws.specs.crossings.Laws.{CanBegin}
-use Rattle.split_drawing_laws.specs.drawings.Laws.{CanBeDrawn}
-use Rattle.split_drawing_laws.specs.drawings.Pairs.{Fits, AllFit, pairs_in}
-use Rattle.split_drawing_laws.specs.drawings.Passing.{Joining, Going, Ready, Drawable}
 use Rattle.split_drawing_laws.specs.tables.Chords.{with_bridge, bridged, next_bridged, all_bridged, with_chord, next_chord, all_chords, with_loops_given, rings_given, next_face_cut, faces_cut, straddling_cut}
 use Rattle.split_drawing_laws.proofs.drawings.Drawn.{draw_rows, join_rows, ring_rows}
 use Rattle.split_drawing_laws.proofs.drawings.Pairs.{can_back, can_on}

@@ -1,10 +1,6 @@
 -- The items of loops doubled by one cut, and then by others: as by all of them at once.
-use Rattle.std.proofs.Common.{◌≡◌, ℕ, ◌+◌, Bool, true, false, nat_eq, List, [], ◌∷◌, ◌++◌, refl, ap, ◌∙◌, arith, flat_map, fold, append-nil}
+use Rattle.split_drawing_laws.proofs.Prelude.{◌≡◌, ℕ, ◌+◌, Bool, true, false, nat_eq, List, [], ◌∷◌, ◌++◌, refl, ap, ◌∙◌, arith, flat_map, fold, append-nil, nat_tests, count, IsIn, IsApart, IsRotation, canonical, plus, minus, tick_same, IsRotation-sym, canonical-rotates, canonical_same, Cut, cuts_from, doubled_in}
 use Rattle.std.proofs.lemmas.Grind.{flat_map-append}
-use Rattle.std.proofs.lemmas.Bool.Decides.{nat_tests}
-use Rattle.euler_operators.specs.Common.{count, IsIn, IsApart, IsRotation, canonical, plus, minus}
-use Rattle.euler_operators.proofs.Common.{tick_same, IsRotation-sym, canonical-rotates, canonical_same}
-use Rattle.split_drawing_laws.specs.tables.Doubled.{Cut, cuts_from, doubled_in}
 use Rattle.split_drawing_laws.proofs.crossings.OneCut.{tick_is, doubled}
 
 -- the halves of an edge that isn't cut stay

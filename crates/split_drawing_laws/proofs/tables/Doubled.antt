@@ -1,12 +1,6 @@
 -- Edges cut one after the other: in the tables all are doubled at once.
-use Rattle.std.proofs.Common.{◌≡◌, ℕ, ◌+◌, List, [], ◌∷◌, length, Some, is_some, option_map, refl, sym, ap, ◌∙◌, arith, flat_map, fold, true≢false, inl, inr}
-use Rattle.euler_operators.specs.Common.{Point, Plane, count, IsIn, IsApart, canonical, plus, minus, Table, Model, LoopContent, LoopRow, EdgeRow, lone, cycle, content, tail, Sound}
+use Rattle.split_drawing_laws.proofs.Prelude.{◌≡◌, ℕ, ◌+◌, List, [], ◌∷◌, length, Some, is_some, option_map, refl, sym, ap, ◌∙◌, arith, flat_map, fold, true≢false, inl, inr, Point, Plane, count, IsIn, IsApart, canonical, plus, minus, Table, Model, LoopContent, LoopRow, EdgeRow, lone, cycle, content, tail, Sound, get-map_rows, content_row, count-canonical, map_same, tick_same, IsIn_or_not, Growing, growing, rewritten, rewritten_row, crossing_edges, all_cut, next_cut, with_crossings, CanBegin, Cut, cuts_from, doubled_in, with_two_edges, with_cut_point, doubled_at, edges_doubled, crossings_doubled}
 use Rattle.euler_operators.specs.Table as table
-use Rattle.euler_operators.specs.Table.{get-map_rows}
-use Rattle.euler_operators.proofs.Common.{content_row, count-canonical, map_same, tick_same, IsIn_or_not}
-use Rattle.shapes.specs.Common.{Growing, growing, rewritten, rewritten_row, crossing_edges, all_cut, next_cut, with_crossings}
-use Rattle.split_drawing_laws.specs.crossings.Laws.{CanBegin}
-use Rattle.split_drawing_laws.specs.tables.Doubled.{Cut, cuts_from, doubled_in, with_two_edges, with_cut_point, doubled_at, edges_doubled, crossings_doubled}
 use Rattle.split_drawing_laws.proofs.crossings.OneCut.{maps_agree, cut_rows}
 use Rattle.split_drawing_laws.proofs.crossings.Runs.{Crossing, Going, all_gone, cut_at, same_cut, next_model, kept_edge, going_on, goes_now}
 use Rattle.split_drawing_laws.proofs.crossings.Whole.{begins}

@@ -1,31 +1,11 @@
 -- What the conditions of a split say once the faces are drawn: the solid can be opened along its section, and has a face on either side.
-use Rattle.std.proofs.Common.{◌≡◌, ℕ, true, false, nat_eq, List, [], None, IsTrue, ap, ◌∙◌, subst, arith, not, ◌&&◌, ◌||◌, is_some, unwrap_or, refl, sym, inl, inr, true≢false, append-nil, pos, int_lt}
-use Rattle.std.proofs.lemmas.Bool.{false_from_ne_true}
-use Rattle.std.specs.List.{list_any}
-use Rattle.euler_operators.specs.Common.{Plane, Model, solid_of, is_number, faces_of, no_point, content, tail, loop_of, face_of, point_of, Sound, Has, HasHalf, lists, face_at, is_lone, is_above, is_below, dot, direction, IsIn, edge_of, plus, minus}
+use Rattle.split_laws.proofs.Prelude.{◌≡◌, ℕ, true, false, nat_eq, List, [], None, IsTrue, ap, ◌∙◌, subst, arith, not, ◌&&◌, ◌||◌, is_some, unwrap_or, refl, sym, inl, inr, true≢false, append-nil, pos, int_lt, false_from_ne_true, list_any, Plane, Model, solid_of, is_number, faces_of, no_point, content, tail, loop_of, face_of, point_of, Sound, Has, HasHalf, lists, face_at, is_lone, is_above, is_below, dot, direction, IsIn, edge_of, plus, minus, count-filter, IsIn-filter, filter_passes, no_row, zero_first_where, first_fails, IsIn_or_not, in-holds, cycle_there, plus_there, minus_there, loop_there, no_zero, all_where-rises, IsIn-from_listed, listed-from_in, halves_of_edge, loop_after, half_face, loop_row, not_lone_cycle, none_is_lone, face_of_loop, SplitBegins, SectionOpens, none_first, split_begins, split_opens, least_lone, loops_of, corners, reaches_above, reaches_below, face_is_above, faces_above, straddles, crossing_edges, with_crossings, Drawing, straddling_pairs, with_drawings, below_halves, section_cycles, has_stray_hole, split_refusal, normal, solid_facts, any_passes, tail_in_face, in_solid, can_be_drawn, rewritings_sound, rewritings_free, Stays, CanBeDrawn, drawing_stays, filter_rises, HasCaps, CanBeOpenedInTurn, can_be_opened, KeepsSolids, HasFace, TailIn, tail_in, none_straddles, any_from}
 use Rattle.euler_operators.specs.Table as table
-use Rattle.euler_operators.proofs.Common.{count-filter, IsIn-filter, filter_passes, no_row, zero_first_where, first_fails, IsIn_or_not, in-holds, cycle_there, plus_there, minus_there, loop_there}
-use Rattle.euler_laws.proofs.Common.{no_zero, all_where-rises, IsIn-from_listed, listed-from_in, halves_of_edge, loop_after, half_face, loop_row, not_lone_cycle}
-use Rattle.shapes.proofs.Common.{none_is_lone, face_of_loop}
-use Rattle.shapes.proofs.split.Facts.{SplitBegins, SectionOpens, none_first, split_begins, split_opens}
-use Rattle.shapes.specs.Common.{least_lone, loops_of, corners, reaches_above, reaches_below, face_is_above, faces_above, straddles, crossing_edges, with_crossings, Drawing, straddling_pairs, with_drawings, below_halves, section_cycles, has_stray_hole, split_refusal, normal}
 use Rattle.split_drawing_laws.specs.crossings.Laws.{CanBegin}
 use Rattle.split_drawing_laws.proofs.crossings.Whole.{crossings_keep, crossings_cut, crossings_sound, same_solid, not_cut}
-use Rattle.split_drawing_laws.proofs.crossings.Premises.{solid_facts, any_passes, tail_in_face, in_solid}
-use Rattle.split_drawing_laws.proofs.pairs.Whole.{can_be_drawn, rewritings_sound, rewritings_free}
-use Rattle.split_drawing_laws.specs.drawings.DrawnIn.{Stays}
-use Rattle.split_drawing_laws.specs.drawings.Laws.{CanBeDrawn}
-use Rattle.split_drawing_laws.proofs.drawings.Whole.{drawing_stays}
-use Rattle.split_opening_laws.proofs.cycles.RisingLists.{filter_rises}
-use Rattle.split_opening_laws.specs.sections.Capped.{HasCaps}
-use Rattle.split_opening_laws.specs.sections.InTurn.{CanBeOpenedInTurn}
-use Rattle.split_opening_laws.proofs.sections.InTurn.{can_be_opened}
-use Rattle.split_laws.specs.drawn.Kept.{KeepsSolids, HasFace}
 use Rattle.split_laws.proofs.drawn.Solids.{drawing_keeps}
 use Rattle.split_drawing_laws.proofs.half_sides.Pieces.{CutBy, crossing_pieces}
 use Rattle.split_drawing_laws.proofs.half_sides.Starts.{old_face}
-use Rattle.split_drawing_laws.proofs.face_sides.Begun.{TailIn, tail_in, none_straddles}
-use Rattle.split_drawing_laws.proofs.face_sides.Shared.{any_from}
 
 -- a half-edge of N that starts at point v, of face f
 pub record HalfAt (N : Model) (v f : ℕ) : Type 0 where

@@ -1,20 +1,11 @@
 -- Each half-edge stays in its solid while faces are drawn, and solids stay.
-use Rattle.std.proofs.Common.{◌≡◌, ◌≢◌, ℕ, ◌+◌, List, [], ◌∷◌, None, is_some, refl, sym, ap, ◌∙◌, subst, arith, inl, inr, true≢false, fold}
-use Rattle.std.proofs.lemmas.Bool.Decides.{eqb_tells}
-use Rattle.euler_operators.specs.Common.{Plane, Model, solid_of, Sound, Has, HasHalf, face_at, effect, mef, mekr, ring_in}
+use Rattle.split_laws.proofs.Prelude.{◌≡◌, ◌≢◌, ℕ, ◌+◌, List, [], ◌∷◌, None, is_some, refl, sym, ap, ◌∙◌, subst, arith, inl, inr, true≢false, fold, eqb_tells, Plane, Model, solid_of, Sound, Has, HasHalf, face_at, effect, mef, mekr, ring_in, solid_row, same_solid, Growing, Drawing, drawn_between, FacePairs, next_drawn, faces_drawn, undrawn, DrawnIn, CanBeDrawn, ready, drawable, drawable_on, next_is, KeepsSolids, half_face}
 use Rattle.euler_operators.specs.Table as table
-use Rattle.euler_operators.proofs.Common.{solid_row, same_solid}
-use Rattle.shapes.specs.Common.{Growing, Drawing, drawn_between, FacePairs, next_drawn, faces_drawn, undrawn}
-use Rattle.split_drawing_laws.specs.drawings.DrawnIn.{DrawnIn}
 use Rattle.split_drawing_laws.specs.drawings.Pairs.{Fits, pairs_in}
-use Rattle.split_drawing_laws.specs.drawings.Laws.{CanBeDrawn}
 use Rattle.split_drawing_laws.specs.drawings.Passing.{Ready, Drawable}
 use Rattle.split_drawing_laws.proofs.drawings.Faces.{face_goes, between_keeps}
-use Rattle.split_drawing_laws.proofs.drawings.Whole.{ready, drawable, drawable_on, next_is}
 use Rattle.split_drawing_laws.proofs.drawings.Drawn.{face_drawn_new, face_drawn_else, face_drawn, loops_joined}
 use Rattle.split_drawing_laws.proofs.face_sides.Beside.{never_free}
-use Rattle.split_laws.specs.drawn.Kept.{KeepsSolids}
-use Rattle.euler_laws.proofs.Common.{half_face}
 
 -- X is M with edges drawn in face f: M's faces have their rows, and the new ones are of the solid of f
 pub record NewOf (M X : Model) (f : ℕ) : Type 0 where

@@ -1,13 +1,6 @@
 -- The two parts of a split solid: from the drawn model to the one that the split makes.
-use Rattle.std.proofs.Common.{◌≡◌, ◌≢◌, ℕ, ◌+ℤ◌, false, List, None, refl, sym, ◌∙◌}
-use Rattle.euler_operators.specs.Common.{Plane, is_above, is_below, Model, Sound, Has}
-use Rattle.euler_operators.proofs.Common.{lone_there}
-use Rattle.shapes.specs.Common.{start, vertices_of, six_volume, some_above, some_below, faces_above, with_drawings, split_refusal, split_model}
-use Rattle.split_drawing_laws.specs.face_sides.Lone.{NoLoopIsLone}
-use Rattle.split_drawing_laws.proofs.drawn_volumes.DrawWhole.{drawings_volumes}
-use Rattle.split_drawing_laws.proofs.face_sides.Begun.{none_lone}
+use Rattle.split_laws.proofs.Prelude.{◌≡◌, ◌≢◌, ℕ, ◌+ℤ◌, false, List, None, refl, sym, ◌∙◌, Plane, is_above, is_below, Model, Sound, Has, lone_there, start, vertices_of, six_volume, some_above, some_below, faces_above, with_drawings, split_refusal, split_model, NoLoopIsLone, drawings_volumes, none_lone, IsOfSolid}
 use Rattle.split_laws.proofs.volumes.Split.{both_there, split_shares, split_keeps}
-use Rattle.split_laws.specs.sides.Sided.{IsOfSolid}
 use Rattle.split_laws.proofs.sides.Sides.{parts_sided, NoneLone, parts_none, vertices_fail}
 use Rattle.split_laws.proofs.drawn.Drawn.{begins, never_stuck}
 use Rattle.split_laws.proofs.Whole.{split_sound}

@@ -1,27 +1,10 @@
 -- The drawn model of a split that isn't refused: its faces are flat, and its section lies on the plane.
-use Rattle.std.proofs.Common.{◌≡◌, ◌≢◌, ℕ, true, false, not, ℤ, pos, List, [], ◌∷◌, None, is_some, refl, sym, ap, subst, ◌∙◌, arith, true≢false, inl, inr, int_lt, int_eq, append-nil}
-use Rattle.std.proofs.lemmas.Int.{ints}
-use Rattle.std.proofs.lemmas.Bool.{and_parts}
-use Rattle.euler_operators.specs.Common.{Plane, height, origin, same_point, direction, is_on, is_above, is_below, IsIn, mate, Model, tail, after, loop_of, face_of, outer, point_of, solid_of, faces_of, Sound, Has, HasHalf, face_at, lists}
-use Rattle.euler_operators.proofs.Common.{count-append, IsIn_or_not, mate-mate, cycle_there, loop_there as has_loop, item_there, mate_there, item_loop}
+use Rattle.split_laws.proofs.Prelude.{◌≡◌, ◌≢◌, ℕ, true, false, not, ℤ, pos, List, [], ◌∷◌, None, is_some, refl, sym, ap, subst, ◌∙◌, arith, true≢false, inl, inr, int_lt, int_eq, append-nil, ints, and_parts, Plane, height, origin, same_point, direction, is_on, is_above, is_below, IsIn, mate, Model, tail, loop_of, face_of, outer, point_of, solid_of, faces_of, Sound, Has, HasHalf, face_at, lists, count-append, IsIn_or_not, mate-mate, cycle_there, loop_there as has_loop, item_there, mate_there, item_loop, half_after, loop_after, half_face, listed-from_in, start, corners, plane_of, faces_above, with_drawings, below_halves, section_cycles, split_refusal, are_on, told_anywhere, split_begins, IsBelowHalf, AreSectionCycles, drawn_lies, none_straddles, in_solid, halves_in, LieOn, AllTellAlike, CanBeSplit, IsOnSide, AreSided, HasFace}
+use Rattle.euler_operators.specs.Common.{after}
 use Rattle.euler_operators.specs.Table as table
-use Rattle.euler_laws.proofs.Common.{half_after, loop_after, half_face, listed-from_in}
-use Rattle.shapes.specs.Common.{start, corners, plane_of, faces_above, with_drawings, below_halves, section_cycles, split_refusal}
-use Rattle.shapes.proofs.Common.{are_on, told_anywhere}
-use Rattle.shapes.proofs.split.Facts.{split_begins}
-use Rattle.split_opening_laws.specs.cycles.SectionCycles.{IsBelowHalf, AreSectionCycles}
 use Rattle.split_drawing_laws.specs.drawn_volumes.Laws.{LiesOnOld}
 use Rattle.split_drawing_laws.proofs.drawn_volumes.Bounds.{OnFace, on_face}
-use Rattle.split_drawing_laws.proofs.drawn_volumes.DrawWhole.{drawn_lies}
-use Rattle.split_drawing_laws.proofs.face_sides.Begun.{none_straddles}
-use Rattle.split_drawing_laws.proofs.crossings.Premises.{in_solid}
-use Rattle.split_opening_laws.specs.sections.InTurn.{halves_in}
-use Rattle.split_laws.specs.opened.Laws.{LieOn}
-use Rattle.split_laws.specs.opened.Told.{AllTellAlike}
-use Rattle.split_laws.specs.volumes.Laws.{CanBeSplit}
-use Rattle.split_laws.specs.sides.Sided.{IsOnSide, AreSided}
 use Rattle.split_laws.proofs.sides.Sides.{begun_sided}
-use Rattle.split_laws.specs.drawn.Kept.{HasFace}
 use Rattle.split_laws.proofs.drawn.Drawn.{some_above, begins, never_stuck, no_stray, drawn_sound, t_free, can_open_all, no_caps}
 
 -- what is neither above nor below lies level

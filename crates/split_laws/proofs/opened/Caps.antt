@@ -1,21 +1,9 @@
 -- The two caps that close a solid once it is opened along a cycle on a plane: they lie along the plane, and have opposite normals.
-use Rattle.std.proofs.Common.{◌≡◌, ℕ, suc, ◌+◌, ◌<◌, true, not, List, [], ◌∷◌, length, Some, unwrap_or, refl, sym, ap, ◌∙◌, arith, map, reverse, get_or, ◌-◌}
-use Rattle.std.proofs.lemmas.Bool.{and_parts}
-use Rattle.euler_operators.specs.Common.{Point, Plane, origin, moved, cross, same_point, direction, is_on, count, IsIn, head_or, canonical, mate, minus, Model, cycle, no_face, tail, content, outer, point_of, rings_of}
-use Rattle.euler_operators.proofs.Common.{from_map, count-reverse, count-canonical, content_row, mate_there, get-put_here, get-put_other, none_moved, IsIn_some_head, IsIn-map, each_mapped}
+use Rattle.split_laws.proofs.Prelude.{◌≡◌, ℕ, suc, ◌+◌, ◌<◌, true, not, List, [], ◌∷◌, length, Some, unwrap_or, refl, sym, ap, ◌∙◌, arith, map, reverse, get_or, ◌-◌, and_parts, Point, Plane, origin, moved, cross, same_point, direction, is_on, count, IsIn, head_or, canonical, mate, minus, Model, cycle, no_face, tail, content, outer, point_of, rings_of, from_map, count-reverse, count-canonical, content_row, mate_there, get-put_here, get-put_other, none_moved, IsIn_some_head, IsIn-map, each_mapped, start, finish, Taken, numbers_after, next_place, area, normal, anchor, first_vertex, is_plane_of, negated, opened_along, flat_closed, IsPathTo, IsClosed, cross_moved, cross_nothing, none_left, area_same, area_mates, CanBeOpened, next_cases, next_within, half_in, mate_start, place_of, plain_alone, plain_lower, plain_upper, loops_are, upper_row, in_numbers, numbers_in, LiesAlong, only_loop}
 use Rattle.euler_operators.specs.Table as table
-use Rattle.shapes.specs.Common.{start, finish, Taken, numbers_after, next_place, area, normal, anchor, first_vertex, is_plane_of, negated, opened_along}
-use Rattle.shapes.proofs.Common.{flat_closed, IsPathTo, IsClosed, cross_moved, cross_nothing, none_left, area_same, area_mates}
-use Rattle.split_opening_laws.specs.strips.Opened.{CanBeOpened}
-use Rattle.split_opening_laws.proofs.strips.Cycle.{next_cases, next_within, half_in, mate_start, place_of}
 pub use Rattle.shapes.proofs.measures.Agreeing.{area_kept}
 pub use Rattle.split_opening_laws.proofs.sections.InTurn.{lower_row, loop_kinds}
-use Rattle.split_opening_laws.proofs.sections.InTurn.{plain_alone, plain_lower, plain_upper}
-use Rattle.split_opening_laws.proofs.sections.OpenedRows.{loops_are, upper_row}
-use Rattle.split_opening_laws.proofs.sections.Numbered.{in_numbers, numbers_in}
-use Rattle.split_laws.specs.opened.Told.{LiesAlong}
 use Rattle.split_laws.proofs.opened.Starts.{start_old, finish_old, back_along}
-use Rattle.gluing_laws.proofs.Measures.{only_loop}
 
 -- ---- lists
 

@@ -1,24 +1,7 @@
 -- The six volumes of a solid that is opened along a cycle on a plane, and those of the other solids.
-use Rattle.std.proofs.Common.{◌≡◌, ◌≢◌, ℕ, ◌+◌, ℤ, pos, ◌+ℤ◌, neg_ℤ, Bool, true, not, nat_eq, List, [], ◌∷◌, length, is_some, refl, sym, ap, subst, ◌∙◌, arith, inl, inr, false, ◌&&◌, true≢false, ◌⊎◌, map, ne_eqb}
-use Rattle.std.proofs.lemmas.Bool.Decides.{eqb_tells}
-use Rattle.std.proofs.lemmas.Bool.{and_parts}
-use Rattle.std.proofs.lemmas.Int.{ints}
-use Rattle.euler_operators.specs.Common.{Plane, origin, dot, same_point, direction, cross, is_on, count, IsIn, SameItems, mate, Model, FaceRow, items_of, tail, content, face_of, loop_of, outer, solid_of, faces_of, cycle, point_of, Has, HasHalf, canonical}
+use Rattle.split_laws.proofs.Prelude.{◌≡◌, ◌≢◌, ℕ, ◌+◌, ℤ, pos, ◌+ℤ◌, neg_ℤ, Bool, true, not, nat_eq, List, [], ◌∷◌, length, is_some, refl, sym, ap, subst, ◌∙◌, arith, inl, inr, false, ◌&&◌, true≢false, ◌⊎◌, map, ne_eqb, eqb_tells, and_parts, ints, Plane, origin, dot, same_point, direction, cross, is_on, count, IsIn, SameItems, mate, Model, FaceRow, items_of, tail, content, face_of, loop_of, outer, solid_of, faces_of, cycle, point_of, Has, HasHalf, canonical, tick_other, count-append, from_map, in-holds, in_use_within, get-put_other, row_some, none_added, count-canonical, IsIn_head, all_mapped, face_in, Taken, area, anchor, is_plane_of, volume_in, six_volume, normal, opened_along, Caps, Opening, all_opened, start, rewritten, told_alike, some_direction, dot_back, get-put_cases, CanBeOpened, halves_in, CanBeOpenedInTurn, ArePlain, HasCaps, faces_are, face_still, upper_row, renamed_not, there_in, can_open, openings_carry, capped_carry, opened_next, new_caps, one_if, passed, count_where, same_search, volume_of, volume_same, same_volumes, AllTellAlike, TellsAlike, LiesAlong, AllLieAlong, LieOn}
 use Rattle.euler_operators.specs.Table as table
-use Rattle.euler_operators.proofs.Common.{tick_other, count-append, from_map, in-holds, in_use_within, get-put_other, row_some, none_added, count-canonical, IsIn_head, all_mapped}
-use Rattle.euler_laws.proofs.Common.{face_in}
-use Rattle.shapes.specs.Common.{Taken, area, anchor, is_plane_of, volume_in, six_volume, normal, opened_along, Caps, Opening, all_opened, start, rewritten}
-use Rattle.shapes.proofs.Common.{told_alike, some_direction, dot_back, get-put_cases}
-use Rattle.split_opening_laws.specs.strips.Opened.{CanBeOpened}
-use Rattle.split_opening_laws.specs.sections.InTurn.{halves_in, CanBeOpenedInTurn}
-use Rattle.split_opening_laws.specs.sections.Capped.{ArePlain, HasCaps}
-use Rattle.split_opening_laws.proofs.sections.OpenedRows.{faces_are, loop_row, face_still, upper_row}
-use Rattle.split_opening_laws.proofs.sections.Numbered.{renamed_not}
-use Rattle.split_opening_laws.proofs.sections.StillBetween.{there_in}
-use Rattle.split_opening_laws.proofs.sections.InTurn.{can_open, openings_carry, capped_carry, opened_next, new_caps}
-use Rattle.gluing_laws.proofs.Listed.{one_if, passed, count_where, same_search, volume_of, volume_same, same_volumes}
-use Rattle.split_laws.specs.opened.Told.{AllTellAlike, TellsAlike, LiesAlong, AllLieAlong}
-use Rattle.split_laws.specs.opened.Laws.{LieOn}
+use Rattle.split_opening_laws.proofs.sections.OpenedRows.{loop_row}
 use Rattle.split_laws.proofs.opened.Starts.{swap, point_old, swapped, start_old}
 use Rattle.split_laws.proofs.opened.Kept as kept
 use Rattle.split_laws.proofs.opened.Caps.{lower_row, loop_kinds, lower_normal, upper_normal, cycle_across, lower_along, upper_along, anchor_along}

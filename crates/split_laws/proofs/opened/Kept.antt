@@ -1,13 +1,8 @@
 -- Faces whose loops are rewritten: where what stands in the place of a half-edge starts and ends as that did, they keep their normals,
 -- and what they add to the six volumes.
-use Rattle.std.proofs.Common.{◌≡◌, ℕ, Some, None, is_some, sym, ap, ◌∙◌, arith, true≢false, ◌⊎◌, inl, inr, map}
-use Rattle.euler_operators.specs.Common.{dot, count, IsIn, Model, LoopRow, items_of, content, face_of, outer, solid_of, point_of, Sound, Has, HasHalf}
-use Rattle.euler_operators.proofs.Common.{content_row, face_row, item_there, same_outer, same_solid}
+use Rattle.split_laws.proofs.Prelude.{◌≡◌, ℕ, Some, None, is_some, sym, ap, ◌∙◌, arith, true≢false, ◌⊎◌, inl, inr, map, dot, count, IsIn, Model, LoopRow, items_of, content, face_of, outer, solid_of, point_of, Sound, Has, HasHalf, content_row, face_row, item_there, same_outer, same_solid, loop_row, start, finish, rewritten, rewritten_row, normal, AgreeOn, IsReplaced, replaced_area, replaced_start, normal_agrees, volume_stays, volume_told, face_of_loop, TellsAlike}
 use Rattle.euler_operators.specs.Table as table
-use Rattle.euler_laws.proofs.Common.{loop_row}
-use Rattle.shapes.specs.Common.{start, finish, rewritten, rewritten_row, normal}
-use Rattle.shapes.proofs.Common.{AgreeOn, IsReplaced, replaced_area, replaced_start, normal_agrees, volume_stays, volume_told, face_of_loop, volume_of}
-use Rattle.split_laws.specs.opened.Told.{TellsAlike}
+use Rattle.shapes.proofs.Common.{volume_of}
 
 -- N is M with the half-edges of its loops renumbered by swap, and with further loops of new faces
 pub record Renumbered (M N : Model) (swap : ℕ → ℕ) : Type 0 where

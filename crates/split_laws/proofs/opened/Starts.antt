@@ -1,18 +1,10 @@
 -- Where half-edges start and end once a solid is opened along a cycle: where they did, and what stands in the place of a mate starts
 -- and ends where that did.
-use Rattle.std.proofs.Common.{◌≡◌, ℕ, zero, suc, ◌+◌, ◌≤◌, ◌<◌, Bool, cond, not, ◌&&◌, List, length, Some, unwrap_or, sym, ap, ◌∙◌, arith, inl, inr, map, get_or}
-use Rattle.std.proofs.lemmas.Bool.Decides.{eqb_tells}
-use Rattle.std.proofs.lemmas.List.{length-map, get_or-map}
-use Rattle.euler_operators.specs.Common.{mate, plus, minus, Model, tail, tail_in, no_point, point_of, HasHalf, face_at, lists}
+use Rattle.split_laws.proofs.Prelude.{◌≡◌, ℕ, zero, suc, ◌+◌, ◌≤◌, ◌<◌, Bool, cond, not, ◌&&◌, List, length, Some, unwrap_or, sym, ap, ◌∙◌, arith, inl, inr, map, get_or, eqb_tells, length-map, get_or-map, mate, plus, minus, Model, tail, no_point, point_of, HasHalf, face_at, lists, mate-mate, plus_row, minus_row, mate_plus, mate_minus, tail_row, mate_there, less_still, get-put_here, get-put_other, start, finish, Taken, numbers_after, next_place, renamed, opened_row, with_copies, both_lists, opened_along, CanBeOpened, next_within, low_vertex, next_copy, length-numbers_after, numbers_at, renamed_cases, rim_row, rim_at, edges_are, vertices_are, tail_is}
+use Rattle.euler_operators.specs.Common.{tail_in}
 use Rattle.euler_operators.specs.Table as table
-use Rattle.euler_operators.proofs.Common.{mate-mate, plus_row, minus_row, mate_plus, mate_minus, tail_row, mate_there, less_still, get-put_here, get-put_other}
-use Rattle.shapes.specs.Common.{start, finish, Taken, numbers_after, next_place, renamed, opened_row, with_copies, both_lists, opened_along}
-use Rattle.split_opening_laws.specs.strips.Opened.{CanBeOpened}
 use Rattle.split_opening_laws.specs.strips.Strips.{copied}
 use Rattle.split_opening_laws.proofs.strips.Copied.{points_next}
-use Rattle.split_opening_laws.proofs.strips.Cycle.{next_within, low_vertex, next_copy}
-use Rattle.split_opening_laws.proofs.sections.Numbered.{length-numbers_after, numbers_at, renamed_cases, rim_row, rim_at}
-use Rattle.split_opening_laws.proofs.sections.OpenedRows.{edges_are, vertices_are, tail_is}
 use Rattle.split_laws.proofs.Flags.{vertex_still}
 
 module _ (M : Model) (above : List ℕ) (s : ℕ) (c : Taken) (bs : List ℕ) (w : CanBeOpened M above s c bs) where

@@ -1,18 +1,6 @@
 -- The sides on which faces lie, and that no loop of a solid is lone, from step to step of a split.
-use Rattle.std.proofs.Common.{◌≡◌, ◌≢◌, ℕ, ◌+◌, Bool, true, false, cond, List, [], ◌∷◌, ◌++◌, length, is_some, refl, sym, ap, subst, ◌∙◌, arith, true≢false, inl, inr, map, append-nil, eq-eqb}
-use Rattle.std.proofs.lemmas.Bool.Decides.{eqb_tells}
-use Rattle.euler_operators.specs.Common.{Point, Plane, is_on, is_above, is_below, count, IsIn, Model, items_of, tail, content, face_of, outer, solid_of, LoopContent, lone, point_of, faces_of, cycle, Has, IsLoneAt, Sound, lists, kfmrh, part}
+use Rattle.split_laws.proofs.Prelude.{◌≡◌, ◌≢◌, ℕ, ◌+◌, Bool, true, false, cond, List, [], ◌∷◌, ◌++◌, length, is_some, refl, sym, ap, subst, ◌∙◌, arith, true≢false, inl, inr, map, append-nil, eq-eqb, eqb_tells, Point, Plane, is_on, is_above, is_below, count, IsIn, Model, items_of, tail, content, face_of, outer, solid_of, LoopContent, lone, point_of, faces_of, cycle, Has, IsLoneAt, Sound, lists, kfmrh, part, row_some, content_row, never_lone, lone_there, filter_passes, count-append, tick_same, IsIn_or_not, other_last, passes_listed, IsIn-from_listed, listed-from_in, face_there, all_where_has, start, loops_of, corners, corners_in, vertices_of, Taken, is_plane_of, Drawing, below_halves, section_cycles, Opening, opened_along, all_opened, split_drawn, rewritten, reaches_above, reaches_below, straddles, face_is_above, faces_above, CanBeOpened, upper_faces, CanBeOpenedInTurn, upper_next, can_open, openings_carry, new_caps, LiesAlong, LieOn, CanBeSplit, CanBeParted, IsOnSide, IsOfSolid, AreSided, list_any, face_of_loop, replaced_start, NoLoopIsLone, tail_in_face, solid_facts, TailIn, tail_in, none_from}
 use Rattle.euler_operators.specs.Table as table
-use Rattle.euler_operators.proofs.Common.{row_some, content_row, never_lone, lone_there, filter_passes, count-append, tick_same, IsIn_or_not}
-use Rattle.euler_laws.proofs.Common.{other_last, passes_listed, IsIn-from_listed, listed-from_in, face_there, all_where_has}
-use Rattle.shapes.specs.Common.{start, loops_of, corners, corners_in, vertices_of, Taken, is_plane_of, Drawing, below_halves, section_cycles, Opening, opened_along, all_opened, split_drawn, rewritten, reaches_above, reaches_below, straddles, face_is_above, faces_above}
-use Rattle.split_opening_laws.specs.strips.Opened.{CanBeOpened}
-use Rattle.split_opening_laws.specs.sections.InTurn.{upper_faces, CanBeOpenedInTurn}
-use Rattle.split_opening_laws.proofs.sections.InTurn.{upper_next, can_open, openings_carry, new_caps}
-use Rattle.split_laws.specs.opened.Told.{LiesAlong}
-use Rattle.split_laws.specs.opened.Laws.{LieOn}
-use Rattle.split_laws.specs.volumes.Laws.{CanBeSplit, CanBeParted}
-use Rattle.split_laws.specs.sides.Sided.{IsOnSide, IsOfSolid, AreSided}
 use Rattle.split_laws.proofs.opened.Starts.{swap}
 use Rattle.split_laws.proofs.opened.Kept as kept
 use Rattle.split_laws.proofs.opened.Caps.{loop_kinds, outer_lower, outer_upper, lower_along, upper_along, lower_loop, upper_loop}
@@ -21,14 +9,8 @@ use Rattle.split_laws.proofs.volumes.Taken as taken
 use Rattle.split_laws.proofs.volumes.Taken.{CanTake}
 use Rattle.split_laws.proofs.volumes.Closed.{closing_carries}
 use Rattle.split_laws.proofs.volumes.Split as split
-use Rattle.std.specs.List.{list_any}
-use Rattle.shapes.proofs.Common.{face_of_loop, replaced_start}
 use Rattle.split_opening_laws.proofs.cycles.Meets.{count_filter}
-use Rattle.split_drawing_laws.specs.face_sides.Lone.{NoLoopIsLone}
-use Rattle.split_drawing_laws.proofs.crossings.Premises.{tail_in_face, solid_facts}
 use Rattle.split_drawing_laws.proofs.pairs.LoopPlaces.{none_passes}
-use Rattle.split_drawing_laws.proofs.face_sides.Begun.{TailIn, tail_in}
-use Rattle.split_drawing_laws.proofs.face_sides.Shared.{none_from}
 
 -- a point on the plane lies on both sides
 on_both : (p : Plane) (r : Point) (b : Bool) → is_on p r ≡ true → IsOnSide p b r

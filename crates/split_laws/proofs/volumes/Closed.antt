@@ -1,12 +1,5 @@
 -- The holes of a section closed, one cap after the other.
-use Rattle.std.proofs.Common.{◌≡◌, ◌≢◌, ℕ, ◌≤◌, List, [], ◌∷◌, refl, sym, ap, subst, ◌∙◌, arith, inl, inr, fold, filter}
-use Rattle.euler_operators.specs.Common.{Plane, origin, direction, count, tick, IsIn, IsApart, Model, solid_of, rings_of, Has, kfmrh}
-use Rattle.euler_operators.proofs.Common.{tick_same}
-use Rattle.shapes.specs.Common.{six_volume, Caps, outer_caps, hole_closed, holes_closed}
-use Rattle.split_opening_laws.specs.sections.Capped.{IsPlain, ArePlain, cap_faces}
-use Rattle.split_opening_laws.proofs.sections.InTurn.{plain_alone}
-use Rattle.split_laws.specs.opened.Told.{LiesAlong, OutersAreOwn, AllLieAlong}
-use Rattle.split_laws.specs.volumes.Closing.{CanClose}
+use Rattle.split_laws.proofs.Prelude.{◌≡◌, ◌≢◌, ℕ, ◌≤◌, List, [], ◌∷◌, refl, sym, ap, subst, ◌∙◌, arith, inl, inr, fold, filter, Plane, origin, direction, count, tick, IsIn, IsApart, Model, solid_of, rings_of, Has, kfmrh, tick_same, six_volume, Caps, outer_caps, hole_closed, holes_closed, IsPlain, ArePlain, cap_faces, plain_alone, LiesAlong, OutersAreOwn, AllLieAlong, CanClose}
 use Rattle.split_laws.proofs.volumes.Taken as taken
 use Rattle.split_laws.proofs.volumes.Taken.{CanTake}
 use Rattle.split_laws.proofs.Holes.{holes_each, outer_each, outer_counted, plain_each}

@@ -1,18 +1,6 @@
 -- The six volumes of a solid some of whose faces go to a new solid.
-use Rattle.std.specs.List.{list_any}
-use Rattle.std.proofs.Common.{◌≡◌, ◌≢◌, ℕ, ◌+◌, ◌+ℤ◌, Bool, true, false, cond, not, nat_eq, ◌&&◌, List, [], ◌∷◌, ◌++◌, Option, is_some, unwrap_or, refl, sym, ap, ◌∙◌, arith, ◌<◌, length, subst, true≢false, ◌⊎◌, inl, inr, ◌≤◌, option_map, map, filter, ne_eqb, eq-eqb, append-nil}
-use Rattle.euler_operators.specs.Common.{dot, SameItems, count, get-map_rows, Model, FaceRow, no_face, items_of, mate, tail, content, outer, point_of, faces_of, solid_of, lists, strictly_rises, part, faces_to_solid, Plane, Has}
+use Rattle.split_laws.proofs.Prelude.{list_any, ◌≡◌, ◌≢◌, ℕ, ◌+◌, ◌+ℤ◌, Bool, true, false, cond, not, nat_eq, ◌&&◌, List, [], ◌∷◌, ◌++◌, Option, is_some, unwrap_or, refl, sym, ap, ◌∙◌, arith, ◌<◌, length, subst, true≢false, ◌⊎◌, inl, inr, ◌≤◌, option_map, map, filter, ne_eqb, eq-eqb, append-nil, dot, SameItems, count, get-map_rows, Model, FaceRow, no_face, items_of, mate, tail, content, outer, point_of, faces_of, solid_of, lists, strictly_rises, part, faces_to_solid, Plane, Has, count-append, IsIn_or_not, solid_row, get-put_here, get-put_other, solid_either, start, items_in, loops_of, boundary, area, first_vertex, normal, six_volume, Drawing, is_hole, below_halves, section_cycles, has_stray_hole, Caps, Opening, holes_closed, opened_at, split_drawn, area_kept, areas_kept, corner_kept, one_if, passed, count_where, same_search, volume_of, volume_append, volume_same, same_volumes, upper_faces, CanBeOpenedInTurn, cap_faces, HasCaps, CanBeParted, CanBeSplit, CanClose, hole_ops}
 use Rattle.euler_operators.specs.Table as table
-use Rattle.euler_operators.proofs.Common.{count-append, IsIn_or_not, solid_row, get-put_here, get-put_other}
-use Rattle.euler_laws.proofs.Common.{solid_either}
-use Rattle.shapes.specs.Common.{start, items_in, loops_of, boundary, area, first_vertex, normal, six_volume, Drawing, is_hole, below_halves, section_cycles, has_stray_hole, Caps, Opening, holes_closed, opened_at, split_drawn}
-use Rattle.shapes.proofs.Common.{area_kept, areas_kept, corner_kept}
-use Rattle.gluing_laws.proofs.Listed.{one_if, passed, count_where, same_search, volume_of, volume_append, volume_same, same_volumes}
-use Rattle.split_opening_laws.specs.sections.InTurn.{upper_faces, CanBeOpenedInTurn}
-use Rattle.split_opening_laws.specs.sections.Capped.{cap_faces, HasCaps}
-use Rattle.split_laws.specs.volumes.Laws.{CanBeParted, CanBeSplit}
-use Rattle.split_laws.specs.volumes.Closing.{CanClose}
-use Rattle.split_laws.specs.SplitOps.{hole_ops}
 use Rattle.split_laws.proofs.volumes.Closed.{closing_keeps}
 use Rattle.split_laws.proofs.opened.InTurn.{some_way, openings_keep, openings_lie}
 use Rattle.split_laws.proofs.Flags.{flags_are, one_outer, solids_still}

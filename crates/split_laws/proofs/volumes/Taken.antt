@@ -1,16 +1,7 @@
 -- A cap that becomes a ring of another cap on the same plane: their normals add up, and so do what they add to the six volumes.
-use Rattle.std.proofs.Common.{◌≡◌, ◌≢◌, ℕ, ◌+◌, ℤ, ◌+ℤ◌, Bool, cond, not, nat_eq, ◌&&◌, List, [], ◌∷◌, ◌++◌, Option, Some, None, is_some, refl, sym, ap, ◌∙◌, arith, true≢false, inl, inr, option_map, ne_eqb, eq-eqb}
-use Rattle.std.proofs.lemmas.Bool.Decides.{eqb_tells}
-use Rattle.euler_operators.specs.Common.{Plane, origin, moved, dot, cross, direction, is_on, count, tick, IsIn, mate, SameItems, get-map_rows, Model, FaceRow, LoopRow, items_of, tail, content, face_of, outer, solid_of, point_of, rings_of, faces_of, Has, kfmrh, loop_to_face}
+use Rattle.split_laws.proofs.Prelude.{◌≡◌, ◌≢◌, ℕ, ◌+◌, ℤ, ◌+ℤ◌, Bool, cond, not, nat_eq, ◌&&◌, List, [], ◌∷◌, ◌++◌, Option, Some, None, is_some, refl, sym, ap, ◌∙◌, arith, true≢false, inl, inr, option_map, ne_eqb, eq-eqb, eqb_tells, Plane, origin, moved, dot, cross, direction, is_on, count, tick, IsIn, mate, SameItems, get-map_rows, Model, FaceRow, LoopRow, items_of, tail, content, face_of, outer, solid_of, point_of, rings_of, faces_of, Has, kfmrh, loop_to_face, count-append, tick_same, tick_other, split_at, face_row, dot_turned, dot_moved, none_moved, add_exchanged, add_assoc, count_taken, no_items, face_there, FaceSet, row_here, row_other, outer_other, solid_other, LoopMoves, face_moved, face_kept, walks_same, start, items_in, loops_of, boundary, anchor, area, first_vertex, normal, volume_in, six_volume, AgreeOn, area-append, area_kept, areas_kept, corner_kept, told_alike, cross_moved, area_same, items_joined, normal_agrees, rings_agree, one_if, passed, count_where, volume_of, volume_same, only_loop, LiesAlong, OutersAreOwn}
 use Rattle.euler_operators.specs.Items.{before, after}
-use Rattle.euler_operators.proofs.Common.{count-append, tick_same, tick_other, split_at, face_row, dot_turned, dot_moved, none_moved, add_exchanged, add_assoc, count_taken}
 use Rattle.euler_operators.specs.Table as table
-use Rattle.euler_laws.proofs.Common.{no_items, face_there, FaceSet, row_here, row_other, outer_other, solid_other, LoopMoves, face_moved, face_kept, walks_same}
-use Rattle.shapes.specs.Common.{start, items_in, loops_of, boundary, anchor, area, first_vertex, normal, volume_in, six_volume}
-use Rattle.shapes.proofs.Common.{AgreeOn, area-append, area_kept, areas_kept, corner_kept, told_alike, cross_moved, area_same, items_joined, normal_agrees, rings_agree}
-use Rattle.gluing_laws.proofs.Listed.{one_if, passed, count_where, volume_of, volume_same}
-use Rattle.gluing_laws.proofs.Measures.{only_loop}
-use Rattle.split_laws.specs.opened.Told.{LiesAlong, OutersAreOwn}
 use Rattle.split_laws.proofs.opened.Caps.{anchor_along}
 
 -- ---- lists of loops, and of faces

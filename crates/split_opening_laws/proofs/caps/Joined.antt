@@ -1,21 +1,8 @@
 -- Numbers in a run, and the rows of such numbers that go.
-use Rattle.std.proofs.Common.{◌≡◌, ◌≢◌, ℕ, suc, ◌+◌, ◌≤◌, ◌<◌, map, None, is_some, refl, sym, ap, ◌∙◌, arith, inl, inr, List, [], ◌∷◌, ◌++◌, length, Some, unwrap_or, subst, reverse, take, get_or, append_assoc}
-use Rattle.std.proofs.lemmas.Bool.Decides.{nat_tests, eqb_tells}
-use Rattle.std.proofs.Math.Seq.{take-suc}
-use Rattle.std.proofs.lemmas.List.{map-append, reverse-append}
-use Rattle.euler_operators.specs.Common.{IsIn, IsApart, canonical, rest, minus, edge_of, mate, plus, half, Table, tables, same_table, Has, Sound, Model, cycle, no_face, loop_of, face_of, outer, cycle_of, face_at, first_false, effect, kef}
+use Rattle.split_opening_laws.proofs.Prelude.{◌≡◌, ◌≢◌, ℕ, suc, ◌+◌, ◌≤◌, ◌<◌, map, None, is_some, refl, sym, ap, ◌∙◌, arith, inl, inr, List, [], ◌∷◌, ◌++◌, length, Some, unwrap_or, subst, reverse, take, get_or, append_assoc, nat_tests, eqb_tells, take-suc, map-append, reverse-append, IsIn, IsApart, canonical, rest, minus, edge_of, mate, plus, half, Table, tables, same_table, Has, Sound, Model, cycle, no_face, loop_of, face_of, outer, cycle_of, face_at, first_false, effect, kef, Kef, count-append, tick_same, get-put_here, get-put_other, canonical-rotates, canonical_same, rest_same, rest_at, minus_row, code-half, mate_minus, same_face, from_map, IsIn_or_not, KefGoes, kef_accepted, Around, apart_xs, loop_is, half_is, cycle_is, face_is, numbers_after, Taken, without_rows, next_place, without_gone, without_more, without_there, canonical_first, numbers_last, next_inner, HasStrips, strip_riser, joined_loop, joined_part}
 use Rattle.euler_operators.specs.Table as table
-use Rattle.euler_operators.specs.declared.Op.TheVariants.{Kef}
-use Rattle.euler_operators.proofs.Common.{count-append, tick_same, get-put_here, get-put_other, canonical-rotates, canonical_same, rest_same, rest_at, minus_row, code-half, mate_minus, same_face, from_map, IsIn_or_not}
 use Rattle.euler_laws.proofs.mef.KefSound as kill
-use Rattle.euler_laws.proofs.Common.{KefGoes, kef_accepted, Around, apart_xs, loop_is, half_is, cycle_is, face_is}
-use Rattle.shapes.specs.Common.{numbers_after, Taken, without_rows, next_place}
-use Rattle.shapes.proofs.Common.{without_gone, without_more, without_there}
-use Rattle.sweeps_laws.proofs.lamina.Lists.{canonical_first, numbers_last}
-use Rattle.sweeps_laws.proofs.prism.Sides.{next_inner}
 use Rattle.split_opening_laws.proofs.sections.Numbered.{in_numbers, numbers_in}
-use Rattle.split_opening_laws.specs.caps.Strips.{HasStrips, strip_riser}
-use Rattle.split_opening_laws.specs.caps.Caps.{joined_loop, joined_part}
 
 -- ---- numbers
 

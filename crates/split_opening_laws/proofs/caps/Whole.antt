@@ -1,24 +1,10 @@
 -- All strips joined: kemr of the first strip_riser parts their loop, and mfkrh makes a face of the ring; from the strips to the caps.
-use Rattle.std.proofs.Common.{◌≡◌, ◌≢◌, ℕ, suc, ◌+◌, ◌-◌, ◌≤◌, List, [], ◌∷◌, ◌++◌, map, length, Some, None, is_some, unwrap_or, cond, refl, sym, ap, ◌∙◌, subst, arith, inl, inr, ◌<◌, reverse, take, get_or, eq-eqb, ne_eqb, append_assoc, take_all}
-use Rattle.std.proofs.lemmas.Bool.{cases_lt}
-use Rattle.std.proofs.lemmas.List.{length-reverse, map-append}
-use Rattle.euler_operators.specs.Common.{count, IsIn, IsApart, canonical, rest, successor, plus, minus, half, Model, LoopRow, cycle, no_face, loop_of, face_of, solid_of, outer, cycle_of, tail, after, Sound, first_false, effect, kemr, mfkrh, cycle_or_lone, loop_to_face}
-use Rattle.euler_operators.proofs.Common.{count-append, tick_same, before_at, after_at, canonical-rotates, rest_same, rest_at, plus_row, code-half, mate_plus, mate_minus, map_one, get-put_here, put-put, put_same, face_row, successor_same, successor_head, successor_last}
+use Rattle.split_opening_laws.proofs.Prelude.{◌≡◌, ◌≢◌, ℕ, suc, ◌+◌, ◌-◌, ◌≤◌, List, [], ◌∷◌, ◌++◌, map, length, Some, None, is_some, unwrap_or, cond, refl, sym, ap, ◌∙◌, subst, arith, inl, inr, ◌<◌, reverse, take, get_or, eq-eqb, ne_eqb, append_assoc, take_all, cases_lt, length-reverse, map-append, count, IsIn, IsApart, canonical, rest, successor, plus, minus, half, Model, LoopRow, cycle, no_face, loop_of, face_of, solid_of, outer, cycle_of, tail, after, Sound, first_false, effect, kemr, mfkrh, cycle_or_lone, loop_to_face, count-append, tick_same, before_at, after_at, canonical-rotates, rest_same, rest_at, plus_row, code-half, mate_plus, mate_minus, map_one, get-put_here, put-put, put_same, face_row, successor_same, successor_head, successor_last, Kemr, Mfkrh, Kef, KemrGoes, MakeGoes, mfkrh_accepted, effect_keeps_sound, Around, apart_xs, loop_is, half_is, cycle_is, face_is, Leads, leads_first, leads_on, leads_one, leads_sound, next_last, Taken, numbers_after, without_rows, next_place, without_first, HasStrips, strip_riser, strip_loop, joined_loop, joined_part, capped, partings, joinings, cap_ops, take-suc, numbers_last}
 use Rattle.euler_operators.specs.Table as table
-use Rattle.euler_operators.specs.declared.Op.TheVariants.{Kemr, Mfkrh, Kef}
 use Rattle.euler_laws.proofs.kemr.KemrSound as parted
-use Rattle.euler_laws.proofs.Common.{KemrGoes, MakeGoes, mfkrh_accepted, effect_keeps_sound, Around, apart_xs, loop_is, half_is, cycle_is, face_is, Leads, leads_first, leads_on, leads_one, leads_sound}
 use Rattle.euler_laws.proofs.mekr.Mekr.{kemr_accepted}
-use Rattle.sweeps_laws.proofs.prism.Sides.{next_last}
-use Rattle.shapes.specs.Common.{Taken, numbers_after, without_rows, next_place}
-use Rattle.shapes.proofs.Common.{without_first}
-use Rattle.split_opening_laws.specs.caps.Strips.{HasStrips, strip_riser, strip_loop}
-use Rattle.split_opening_laws.specs.caps.Caps.{joined_loop, joined_part, capped}
-use Rattle.split_opening_laws.specs.caps.CapOps.{partings, joinings, cap_ops}
 use Rattle.split_opening_laws.proofs.caps.Joined.{canonical_run, gone_free, gone_below, joined_faces, joined_loops, joined_edges, at_first, at_else, next_joined}
 use Rattle.split_opening_laws.proofs.strips.Whole.{all_lead}
-use Rattle.std.proofs.Math.Seq.{take-suc}
-use Rattle.sweeps_laws.proofs.lamina.Lists.{numbers_last}
 
 -- some items make a cycle
 some_cycle : (xs : List ℕ) (v : ℕ) → 1 ≤ length xs → cycle_or_lone xs v ≡ cycle (canonical xs)

@@ -1,22 +1,11 @@
 -- What the loops hold, and where half-edges start, once one copy more is raised.
-use Rattle.std.proofs.Common.{◌≡◌, ◌≢◌, ℕ, suc, ◌+◌, ◌≤◌, ◌<◌, cond, List, [], ◌∷◌, ◌++◌, length, Some, None, is_some, refl, sym, ap, ◌∙◌, subst, arith, inl, inr, Bool, true, false, nat_eq, ◌⊎◌, map, get_or, nat_lt, not, ◌&&◌, option_map, lt-ltb, append_assoc, ne_eqb}
-use Rattle.std.proofs.lemmas.Bool.Decides.{nat_tests, eqb_tells}
-use Rattle.std.proofs.lemmas.Bool.{and_parts, not-true, cases_Bool, le-ltb}
-use Rattle.euler_operators.specs.Common.{count, IsIn, IsApart, canonical, insert_before, mate, edge_of, plus, minus, Table, get-map_rows, Model, LoopRow, cycle, loop_of, EdgeRow, tail, arc, point_of, is_number, Sound, Has, HasHalf, with_before, with_tails, edge_row, effect, mev_at, face_at, lists, first_false}
-use Rattle.euler_operators.proofs.Common.{tick_other, count-append, tick_same, canonical-rotates, count-canonical, canonical_same, insert_before_at, insert_before_same, plus_row, minus_row, mate_plus, code-half, map_same, in_use_within, map_alike, in-holds, holds-none, none-holds, other_loop, not_held, plus_tail_row, minus_tail_row}
+use Rattle.split_opening_laws.proofs.Prelude.{◌≡◌, ◌≢◌, ℕ, suc, ◌+◌, ◌≤◌, ◌<◌, cond, List, [], ◌∷◌, ◌++◌, length, Some, None, is_some, refl, sym, ap, ◌∙◌, subst, arith, inl, inr, Bool, true, false, nat_eq, ◌⊎◌, map, get_or, nat_lt, not, ◌&&◌, option_map, lt-ltb, append_assoc, ne_eqb, nat_tests, eqb_tells, and_parts, not-true, cases_Bool, le-ltb, count, IsIn, IsApart, canonical, insert_before, mate, edge_of, plus, minus, Table, get-map_rows, Model, LoopRow, cycle, loop_of, EdgeRow, tail, arc, point_of, is_number, Sound, Has, HasHalf, with_before, with_tails, edge_row, effect, mev_at, face_at, lists, first_false, tick_other, count-append, tick_same, canonical-rotates, count-canonical, canonical_same, insert_before_at, insert_before_same, plus_row, minus_row, mate_plus, code-half, map_same, in_use_within, map_alike, in-holds, holds-none, none-holds, other_loop, not_held, plus_tail_row, minus_tail_row, map_twice, mapped_some, put_apart, loop_is, apart_xs, where_held_none, where_held_there, edge_row_plus, point_row, MevGoes, mev_accepted, edge_plus, Taken, next_place, rewritten_row, renamed, opened_row, opened_tail, with_rows, put_out, copy_riser, riser_edge, copied, raised_items, raised_loop, raised_edge, copies_raised, place_before, raise_copy, CanBeOpened, fits}
 use Rattle.euler_operators.specs.Table as table
-use Rattle.euler_laws.proofs.Common.{map_twice, mapped_some, put_apart, loop_is, apart_xs, where_held_none, where_held_there, edge_row_plus, point_row, MevGoes, mev_accepted}
-use Rattle.sweeps_laws.proofs.prism.Steps.{edge_plus}
-use Rattle.shapes.specs.Common.{Taken, next_place, rewritten_row, renamed, opened_row, opened_tail}
-use Rattle.split_opening_laws.specs.strips.Strips.{with_rows, put_out, copy_riser, riser_edge, copied, raised_items, raised_loop, raised_edge, copies_raised}
-use Rattle.split_opening_laws.specs.strips.StripOps.{place_before, raise_copy}
-use Rattle.split_opening_laws.specs.strips.Opened.{CanBeOpened}
 use Rattle.split_opening_laws.proofs.sections.Numbered.{rows_low, rows_high, rows_same, rows_map}
 use Rattle.split_opening_laws.proofs.strips.Cycle as on
 use Rattle.split_opening_laws.proofs.strips.Cycle.{before_below, before_apart, next-before, next_once}
 use Rattle.split_opening_laws.proofs.copies.Raised as raised
 use Rattle.split_opening_laws.proofs.copies.Raised.{arc_first, arc_up, arc_down, arc_else}
-use Rattle.sweeps_laws.proofs.prism.Sides.{fits}
 use Rattle.split_opening_laws.proofs.strips.Copied as copy
 
 less_next : (a i : ℕ) → a ≢ i → nat_lt a (suc i) ≡ nat_lt a i

@@ -1,17 +1,8 @@
 -- The arc round a vertex whose half-edges lie on two sides, and where it lies once the strips are cut off and some copies raised.
-use Rattle.std.proofs.Common.{◌≡◌, ◌≢◌, ℕ, ◌+◌, Bool, true, false, List, [], ◌∷◌, ◌++◌, refl, sym, ap, ◌∙◌, subst, arith, ◌⊎◌, inl, inr, true≢false, suc, ◌≤◌, ◌<◌, cond, length, Some, is_some, map, get_or, nat_lt, not, ◌&&◌, option_map, lt-ltb}
-use Rattle.std.proofs.lemmas.Bool.Decides.{eqb_tells, nat_tests}
-use Rattle.std.proofs.lemmas.Bool.{le-ltb, cases_Bool, and_right}
-use Rattle.euler_operators.specs.Common.{count, IsIn, IsApart, rotate_to, IsPath, IsRing, between, beyond, canonical, successor, Model, tail, after, arc, round, EdgeRow, tail_in, face_of, Sound, HasHalf, mate, edge_of, plus, minus, get-map_rows, face_at, lists}
+use Rattle.split_opening_laws.proofs.Prelude.{◌≡◌, ◌≢◌, ℕ, ◌+◌, Bool, true, false, List, [], ◌∷◌, ◌++◌, refl, sym, ap, ◌∙◌, subst, arith, ◌⊎◌, inl, inr, true≢false, suc, ◌≤◌, ◌<◌, cond, length, Some, is_some, map, get_or, nat_lt, not, ◌&&◌, option_map, lt-ltb, eqb_tells, nat_tests, le-ltb, cases_Bool, and_right, count, IsIn, IsApart, rotate_to, IsPath, IsRing, between, beyond, canonical, successor, Model, tail, after, arc, round, EdgeRow, tail_in, face_of, Sound, HasHalf, mate, edge_of, plus, minus, get-map_rows, face_at, lists, count-append, tick_same, tick_other, IsIn_or_not, rotate_to-rotates, count-rotate_to, canonical-rotates, IsPath-left, IsPath-right, IsRing-same, successor_same, successor_last, ring_split, upto_other, tail_row, plus_tail_row, minus_tail_row, mate_there, row_some, mate-mate, minus_row, mate_plus, mate_minus, arc_is, halves_of_edge, Fan, fan_of, loop_after, mapped_some, Around, loop_is, face_is, half_is, cycle_is, apart_xs, Taken, next_place, rewritten_row, renamed, opened_tail, opened_row, with_copies, with_rows, put_out, copy_riser, riser_edge, copied, raised_items, raised_loop, raised_edge, copies_raised, CanBeOpened, place_before}
 use Rattle.euler_operators.specs.Table as table
-use Rattle.euler_operators.proofs.Common.{count-append, tick_same, tick_other, IsIn_or_not, rotate_to-rotates, count-rotate_to, canonical-rotates, IsPath-left, IsPath-right, IsRing-same, successor_same, successor_last, ring_split, upto_other, tail_row, plus_tail_row, minus_tail_row, mate_there, row_some, mate-mate, minus_row, mate_plus, mate_minus}
-use Rattle.euler_laws.proofs.Common.{arc_is, halves_of_edge, Fan, fan_of, loop_after, mapped_some, Around, loop_is, face_is, half_is, cycle_is, apart_xs}
-use Rattle.shapes.specs.Common.{Taken, next_place, rewritten_row, renamed, opened_tail, opened_row, with_copies}
-use Rattle.split_opening_laws.specs.strips.Strips.{with_rows, put_out, copy_riser, riser_edge, copied, raised_items, raised_loop, raised_edge, copies_raised}
-use Rattle.split_opening_laws.specs.strips.Opened.{CanBeOpened}
 use Rattle.split_opening_laws.proofs.sections.Numbered.{rows_at, rows_low, rows_split}
 use Rattle.split_opening_laws.proofs.strips.Cycle as on
-use Rattle.split_opening_laws.specs.strips.StripOps.{place_before}
 use Rattle.split_opening_laws.proofs.strips.Cycle.{next_within, before_below, next-before, next_once}
 use Rattle.split_opening_laws.proofs.strips.Copied as copy
 

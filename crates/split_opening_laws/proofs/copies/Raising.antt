@@ -1,15 +1,6 @@
 -- All copies raised, one after the other.
-use Rattle.std.proofs.Common.{◌≡◌, ℕ, ◌≤◌, List, [], length, sym, ap, ◌∙◌, arith, map, refl}
-use Rattle.std.proofs.lemmas.Bool.{le-ltb}
-use Rattle.euler_operators.specs.Common.{mate, plus, minus, Table, Model, LoopRow, Sound}
+use Rattle.split_opening_laws.proofs.Prelude.{◌≡◌, ℕ, ◌≤◌, List, [], length, sym, ap, ◌∙◌, arith, map, refl, le-ltb, mate, plus, minus, Table, Model, LoopRow, Sound, map_same, effects, AreAccepted, Leads, leads_one, leads_sound, Taken, rewritten_row, renamed, opened_tail, opened_row, with_copies, with_rows, put_out, strip_face, strip_row, copied, raised_loop, raised_edge, strips_cut, copies_raised, raise_copy, copy_ops, CanBeOpened}
 use Rattle.euler_operators.specs.Table as table
-use Rattle.euler_operators.proofs.Common.{map_same}
-use Rattle.euler_laws.specs.Laws.{effects, AreAccepted}
-use Rattle.euler_laws.proofs.Common.{Leads, leads_one, leads_sound}
-use Rattle.shapes.specs.Common.{Taken, rewritten_row, renamed, opened_tail, opened_row, with_copies}
-use Rattle.split_opening_laws.specs.strips.Strips.{with_rows, put_out, strip_face, strip_row, copied, raised_loop, raised_edge, strips_cut, copies_raised}
-use Rattle.split_opening_laws.specs.strips.StripOps.{raise_copy, copy_ops}
-use Rattle.split_opening_laws.specs.strips.Opened.{CanBeOpened}
 use Rattle.split_opening_laws.proofs.sections.Numbered.{rows_same}
 use Rattle.split_opening_laws.proofs.strips.Copied as copy
 use Rattle.split_opening_laws.proofs.copies.Copies.{copy_accepted, copy_is}

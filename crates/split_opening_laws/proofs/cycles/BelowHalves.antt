@@ -1,12 +1,6 @@
 -- Which half-edges the below halves of a section are.
-use Rattle.std.proofs.Common.{◌≡◌, ◌≢◌, ℕ, ◌<◌, Bool, true, false, cond, not, nat_eq, ◌&&◌, List, [], ◌∷◌, ◌++◌, is_some, refl, sym, ap, subst, ◌∙◌, arith, inl, inr, map, flat_map, eq-eqb, eqb-true}
-use Rattle.std.proofs.lemmas.Simd.{map-map}
-use Rattle.euler_operators.specs.Common.{tick, count, IsIn, IsApart, mate, edge_of, plus, minus, Model, solid_of, tail, face_of, round, after, Sound, HasHalf, face_at, lists, strictly_rises}
+use Rattle.split_opening_laws.proofs.Prelude.{◌≡◌, ◌≢◌, ℕ, ◌<◌, Bool, true, false, cond, not, nat_eq, ◌&&◌, List, [], ◌∷◌, ◌++◌, is_some, refl, sym, ap, subst, ◌∙◌, arith, inl, inr, map, flat_map, eq-eqb, eqb-true, map-map, tick, count, IsIn, IsApart, mate, edge_of, plus, minus, Model, solid_of, tail, face_of, round, after, Sound, HasHalf, face_at, lists, strictly_rises, tick_same, tick_other, count-append, IsIn_or_not, plus_row, minus_row, mate_plus, mate_minus, plus_other, mate-mate, row_some, count-map, from_map, mate_there, halves_of_edge, listed_passes, passes_listed, all_where-rises, IsIn-from_listed, listed-from_in, rises_over, rises_on, counted_once, Fan, fan_of, loop_after, edges_of, below_half, below_halves, IsBelowHalf, AreOf}
 use Rattle.euler_operators.specs.Table as table
-use Rattle.euler_operators.proofs.Common.{tick_same, tick_other, count-append, IsIn_or_not, plus_row, minus_row, mate_plus, mate_minus, plus_other, mate-mate, row_some, count-map, from_map, mate_there}
-use Rattle.euler_laws.proofs.Common.{halves_of_edge, listed_passes, passes_listed, all_where-rises, IsIn-from_listed, listed-from_in, rises_over, rises_on, counted_once, Fan, fan_of, loop_after}
-use Rattle.shapes.specs.Common.{edges_of, below_half, below_halves}
-use Rattle.split_opening_laws.specs.cycles.SectionCycles.{IsBelowHalf, AreOf}
 use Rattle.split_opening_laws.proofs.cycles.Meets.{total_same, total_ticks, count_flat, bit, total, meet_turned, count_map, changes_round_ring}
 use Rattle.split_opening_laws.proofs.cycles.RisingLists.{rises_cons}
 

@@ -1,8 +1,5 @@
 -- Sums over a list, and how many items of a list stand in another, counted from either side.
-use Rattle.std.proofs.Common.{◌≡◌, ℕ, ◌+◌, ◌≤◌, Bool, true, false, List, [], ◌∷◌, map, refl, sym, ap, ◌∙◌, arith, inl, inr, not, ◌&&◌, filter, flat_map}
-use Rattle.std.proofs.lemmas.Bool.Decides.{eqb_tells}
-use Rattle.euler_operators.specs.Common.{tick, count, IsIn, IsApart, head_or, IsPath, IsRing}
-use Rattle.euler_operators.proofs.Common.{tick_same, tick_other, count-append, IsIn-map}
+use Rattle.split_opening_laws.proofs.Prelude.{◌≡◌, ℕ, ◌+◌, ◌≤◌, Bool, true, false, List, [], ◌∷◌, map, refl, sym, ap, ◌∙◌, arith, inl, inr, not, ◌&&◌, filter, flat_map, eqb_tells, tick, count, IsIn, IsApart, head_or, IsPath, IsRing, tick_same, tick_other, count-append, IsIn-map}
 
 abbrev pub total : (ℕ → ℕ) → List ℕ → ℕ
 total f [] = 0

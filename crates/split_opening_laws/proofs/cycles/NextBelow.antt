@@ -1,17 +1,7 @@
 -- Where no vertex is branched, each below half leads to one other, and no two to the same: so they form cycles.
-use Rattle.std.proofs.Common.{◌≡◌, ℕ, ◌≤◌, Bool, true, false, cond, nat_eq, nat_lt, List, [], ◌∷◌, map, Some, is_some, unwrap_or, refl, sym, ap, ◌∙◌, arith, inl, inr, subst, ◌≢◌, zero, suc, ◌+◌, ◌<◌, ◌++◌, length, get_or, ◌⊎◌, eq-eqb, eqb-true, ne_eqb, flat_map}
-use Rattle.std.proofs.lemmas.Bool.Decides.{eqb_tells}
-use Rattle.std.proofs.lemmas.Simd.{map-map}
+use Rattle.split_opening_laws.proofs.Prelude.{◌≡◌, ℕ, ◌≤◌, Bool, true, false, cond, nat_eq, nat_lt, List, [], ◌∷◌, map, Some, is_some, unwrap_or, refl, sym, ap, ◌∙◌, arith, inl, inr, subst, ◌≢◌, zero, suc, ◌+◌, ◌<◌, ◌++◌, length, get_or, ◌⊎◌, eq-eqb, eqb-true, ne_eqb, flat_map, eqb_tells, map-map, ltb-false, count, IsIn, IsApart, SameItems, head_or, least, mate, Model, tail, Sound, Has, HasHalf, IsPath, IsRing, face_at, lists, strictly_rises, tick_same, tick_other, count-append, IsIn_or_not, from_map, IsApart-map, zero_first_where, row_some, IsIn-map, apart_within, IsIn-get_or, mate-mate, mate_there, no_zero, zero_found, map_stays, first_such, below_halves, section_ends, next_below, cycle_from, section_cycles, next_place, Permutes, AreOf, IsUnbranched, IsSectionCycle, AreSectionCycles, AreApartCycles}
 use Rattle.std.proofs.lemmas.List.Folds.{flat_map-map}
-use Rattle.std.proofs.lemmas.Bool.{ltb-false}
-use Rattle.euler_operators.specs.Common.{count, IsIn, IsApart, SameItems, head_or, least, mate, Model, tail, Sound, Has, HasHalf, IsPath, IsRing, face_at, lists, strictly_rises}
-use Rattle.euler_operators.proofs.Common.{tick_same, tick_other, count-append, IsIn_or_not, from_map, IsApart-map, zero_first_where, row_some, IsIn-map, apart_within, IsIn-get_or, mate-mate, mate_there}
 use Rattle.euler_operators.specs.Table as table
-use Rattle.euler_laws.proofs.Common.{no_zero}
-use Rattle.shapes.proofs.Common.{zero_found, map_stays}
-use Rattle.shapes.specs.Common.{first_such, below_halves, section_ends, next_below, cycle_from, section_cycles, next_place}
-use Rattle.split_opening_laws.specs.cycles.Permuting.{Permutes}
-use Rattle.split_opening_laws.specs.cycles.SectionCycles.{AreOf, IsUnbranched, IsSectionCycle, AreSectionCycles, AreApartCycles}
 use Rattle.split_opening_laws.proofs.cycles.Meets.{known_by}
 use Rattle.split_opening_laws.proofs.cycles.BelowHalves.{halves_apart, half_there, starts_are_ends, halves_rise, halves_are, is_half}
 use Rattle.split_opening_laws.proofs.cycles.RisingLists.{filter_rises}

@@ -1,9 +1,5 @@
 -- The orbits of a function that permutes the items of a list.
-use Rattle.std.proofs.Common.{◌≡◌, ℕ, zero, suc, ◌+◌, ◌≤◌, List, [], ◌∷◌, ◌++◌, length, map, refl, sym, ap, subst, ◌∙◌, arith, inl, inr, Bool, true, nat_eq, filter, flat_map, length-append, eq-eqb, eqb-true}
-use Rattle.std.proofs.lemmas.Bool.Decides.{eqb_tells}
-use Rattle.euler_operators.specs.Common.{tick, count, IsIn, IsApart, SameItems, last_or, least, IsPath, IsRing, orbit, rotate_to}
-use Rattle.euler_operators.proofs.Common.{tick_same, tick_other, count-append, least_in, least_same, IsIn_or_not, count-rotate_to, apart_back, IsApart-map, IsPath-append, orbit_ring, orbit_from, IsIn_last, IsPath_last, apart_within, count-filter, filter_passes, tick_le, IsIn_one}
-use Rattle.split_opening_laws.specs.cycles.Permuting.{Permutes}
+use Rattle.split_opening_laws.proofs.Prelude.{◌≡◌, ℕ, zero, suc, ◌+◌, ◌≤◌, List, [], ◌∷◌, ◌++◌, length, map, refl, sym, ap, subst, ◌∙◌, arith, inl, inr, Bool, true, nat_eq, filter, flat_map, length-append, eq-eqb, eqb-true, eqb_tells, tick, count, IsIn, IsApart, SameItems, last_or, least, IsPath, IsRing, orbit, rotate_to, tick_same, tick_other, count-append, least_in, least_same, IsIn_or_not, count-rotate_to, apart_back, IsApart-map, IsPath-append, orbit_ring, orbit_from, IsIn_last, IsPath_last, apart_within, count-filter, filter_passes, tick_le, IsIn_one, Permutes}
 use Rattle.split_opening_laws.proofs.cycles.Meets.{total, total_same, total_ticks, count_filter, count_flat}
 
 -- a path leads over its items but the first to its end

@@ -1,8 +1,5 @@
 -- Strictly rising lists put together, and thinned out.
-use Rattle.std.proofs.Common.{◌≡◌, ℕ, ◌<◌, true, ◌&&◌, List, [], ◌∷◌, refl, ap, ◌∙◌, arith, filter, lt-ltb, Bool}
-use Rattle.euler_operators.specs.Common.{IsIn, strictly_rises}
-use Rattle.euler_operators.proofs.Common.{count-filter}
-use Rattle.euler_laws.proofs.Common.{first_listed, IsIn-from_listed, rises_over, rises_on}
+use Rattle.split_opening_laws.proofs.Prelude.{◌≡◌, ℕ, ◌<◌, true, ◌&&◌, List, [], ◌∷◌, refl, ap, ◌∙◌, arith, filter, lt-ltb, Bool, IsIn, strictly_rises, count-filter, first_listed, IsIn-from_listed, rises_over, rises_on}
 
 pub rises_cons : (n : ℕ) (ns : List ℕ) → ((k : ℕ) → IsIn k ns → n < k) → strictly_rises ns ≡ true → strictly_rises (n ∷ ns) ≡ true
 rises_cons n [] l r = refl

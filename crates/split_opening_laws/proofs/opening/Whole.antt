@@ -1,20 +1,6 @@
 -- Once the copies are raised there are strips along the mates.
-use Rattle.std.proofs.Common.{◌≡◌, ℕ, suc, ◌+◌, ◌<◌, List, ◌++◌, length, Option, Some, None, is_some, refl, sym, ap, ◌∙◌, subst, arith, inl, inr, true≢false, zero, ◌≤◌, ◌-◌, map, reverse, option_map, lt-ltb}
-use Rattle.std.proofs.lemmas.Bool.{cases_lt}
-use Rattle.std.proofs.lemmas.List.{length-map, get_or-map}
-use Rattle.euler_operators.specs.Common.{canonical, mate, minus, get-map_rows, Table, same_table, Model, LoopRow, cycle, face_of, EdgeRow, FaceRow, Has, Sound}
+use Rattle.split_opening_laws.proofs.Prelude.{◌≡◌, ℕ, suc, ◌+◌, ◌<◌, List, ◌++◌, length, Option, Some, None, is_some, refl, sym, ap, ◌∙◌, subst, arith, inl, inr, true≢false, zero, ◌≤◌, ◌-◌, map, reverse, option_map, lt-ltb, cases_lt, length-map, get_or-map, canonical, mate, minus, get-map_rows, Table, same_table, Model, LoopRow, cycle, face_of, EdgeRow, FaceRow, Has, Sound, face_row, get-put_here, get-put_other, put-put, Leads, leads_on, leads_sound, effects, AreAccepted, Taken, numbers_after, next_place, rewritten_row, renamed, without_rows, with_rim, opened_row, opened_along, fits, with_rows, put_out, strip_face, raised_items, raised_loop, copies_raised, copied, raised_edge, riser_edge, strips_cut, CanBeOpened, HasStrips, strip_loop, capped, strip_ops, copy_ops, cap_ops}
 use Rattle.euler_operators.specs.Table as table
-use Rattle.euler_operators.proofs.Common.{face_row, get-put_here, get-put_other, put-put}
-use Rattle.euler_laws.proofs.Common.{Leads, leads_on, leads_sound}
-use Rattle.euler_laws.specs.Laws.{effects, AreAccepted}
-use Rattle.shapes.specs.Common.{Taken, numbers_after, next_place, rewritten_row, renamed, without_rows, with_rim, opened_row, opened_along}
-use Rattle.sweeps_laws.proofs.prism.Sides.{fits}
-use Rattle.split_opening_laws.specs.strips.Strips.{with_rows, put_out, strip_face, raised_items, raised_loop, copies_raised, copied, raised_edge, riser_edge, strips_cut}
-use Rattle.split_opening_laws.specs.strips.Opened.{CanBeOpened}
-use Rattle.split_opening_laws.specs.caps.Strips.{HasStrips, strip_loop}
-use Rattle.split_opening_laws.specs.caps.Caps.{capped}
-use Rattle.split_opening_laws.specs.strips.StripOps.{strip_ops, copy_ops}
-use Rattle.split_opening_laws.specs.caps.CapOps.{cap_ops}
 use Rattle.split_opening_laws.specs.opening.OpeningOps.{opening_ops}
 use Rattle.split_opening_laws.proofs.sections.Numbered.{rows_at, rows_high, rows_split, rows_low, rim_row}
 use Rattle.split_opening_laws.proofs.strips.Cycle.{next_within, next_copy}

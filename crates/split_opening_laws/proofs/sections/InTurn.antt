@@ -1,18 +1,8 @@
 -- A solid is opened along the cycles of its section one after the other, and then nothing holds its upper faces to the others.
-use Rattle.std.proofs.Common.{◌≡◌, ℕ, ◌+◌, ◌*◌, true, List, [], ◌∷◌, ◌++◌, length, map, is_some, refl, sym, ap, subst, ◌∙◌, arith, length-append, ◌≤◌, ◌<◌, Option, Some, None, unwrap_or, true≢false, ◌⊎◌, inl, inr, option_map, append_assoc, append-nil}
-use Rattle.std.proofs.lemmas.List.{map-append}
-use Rattle.std.proofs.lemmas.Bool.Decides.{eqb_tells}
+use Rattle.split_opening_laws.proofs.Prelude.{◌≡◌, ℕ, ◌+◌, ◌*◌, true, List, [], ◌∷◌, ◌++◌, length, map, is_some, refl, sym, ap, subst, ◌∙◌, arith, length-append, ◌≤◌, ◌<◌, Option, Some, None, unwrap_or, true≢false, ◌⊎◌, inl, inr, option_map, append_assoc, append-nil, map-append, eqb_tells, Plane, IsIn, count, mate, plus, Model, solid_of, rings_of, LoopRow, no_face, face_of, outer, Sound, Has, lists, torn_edge, strictly_rises, get-map_rows, plus_row, minus_row, mate_plus, mate_minus, all_where_none, first_where_zero, in_use_within, get-put_here, get-put_other, count-append, tick_same, tick_other, IsIn_or_not, face_row, IsIn_push, loop_row, listed_front, listed-from_in, rises_over, rises_on, AreFree, AreLeft, Taken, numbers_after, below_halves, section_cycles, is_hole, Caps, Opening, opened_along, next_opened, all_opened, both_lists, rewritten_row, renamed, get-put_cases, AreOf, IsUnbranched, halves_in, AreBetween, upper_faces, CanBeOpenedInTurn, CanBeOpened}
 use Rattle.std.proofs.lemmas.Grind.{flat_map-append}
-use Rattle.euler_operators.specs.Common.{Plane, IsIn, count, mate, plus, Model, solid_of, rings_of, LoopRow, no_face, face_of, outer, Sound, Has, lists, torn_edge, strictly_rises, get-map_rows}
 use Rattle.euler_operators.specs.Table as table
-use Rattle.euler_operators.proofs.Common.{plus_row, minus_row, mate_plus, mate_minus, all_where_none, first_where_zero, in_use_within, get-put_here, get-put_other, count-append, tick_same, tick_other, IsIn_or_not, face_row, IsIn_push}
-use Rattle.euler_laws.proofs.Common.{loop_row, listed_front, listed-from_in, rises_over, rises_on}
-use Rattle.shapes.specs.Common.{AreFree, AreLeft, Taken, numbers_after, below_halves, section_cycles, is_hole, Caps, Opening, opened_along, next_opened, all_opened, both_lists, rewritten_row, renamed}
-use Rattle.shapes.proofs.Common.{get-put_cases}
-use Rattle.split_opening_laws.specs.cycles.SectionCycles.{AreOf, IsUnbranched}
 use Rattle.split_opening_laws.specs.Numbers.{needed_for_openings}
-use Rattle.split_opening_laws.specs.sections.InTurn.{halves_in, AreBetween, upper_faces, CanBeOpenedInTurn}
-use Rattle.split_opening_laws.specs.strips.Opened.{CanBeOpened}
 use Rattle.split_opening_laws.specs.sections.Capped.{IsPlain, ArePlain, cap_faces, HasCaps}
 use Rattle.split_opening_laws.proofs.cycles.BelowHalves.{halves_are, is_half}
 use Rattle.split_opening_laws.proofs.cycles.NextBelow.{cycles_cover, cycles_long, cycles_apart}

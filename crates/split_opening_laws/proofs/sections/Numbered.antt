@@ -1,12 +1,6 @@
 -- Rows put at the numbers that follow a number, and numbers renamed by two lists.
-use Rattle.std.proofs.Common.{◌≡◌, ◌≢◌, ℕ, zero, suc, ◌+◌, ◌≤◌, ◌<◌, cond, nat_eq, List, [], ◌∷◌, ◌++◌, length, Some, refl, sym, ap, ◌∙◌, subst, arith, ◌⊎◌, inl, inr, false, get_or, ne_eqb}
-use Rattle.std.proofs.lemmas.Bool.Decides.{eqb_tells, nat_tests}
-use Rattle.euler_operators.specs.Common.{IsIn, tick, count, IsApart, Table, EdgeRow}
-use Rattle.euler_operators.proofs.Common.{tick_same, tick_other, map-put, get-put_here, get-put_other, nat_eq_itself, nat_eq_turned}
+use Rattle.split_opening_laws.proofs.Prelude.{◌≡◌, ◌≢◌, ℕ, zero, suc, ◌+◌, ◌≤◌, ◌<◌, cond, nat_eq, List, [], ◌∷◌, ◌++◌, length, Some, refl, sym, ap, ◌∙◌, subst, arith, ◌⊎◌, inl, inr, false, get_or, ne_eqb, eqb_tells, nat_tests, IsIn, tick, count, IsApart, Table, EdgeRow, tick_same, tick_other, map-put, get-put_here, get-put_other, nat_eq_itself, nat_eq_turned, numbers_after, renamed, both_lists, with_rim, with_rows, get-put_cases}
 use Rattle.euler_operators.specs.Table as table
-use Rattle.shapes.specs.Common.{numbers_after, renamed, both_lists, with_rim}
-use Rattle.split_opening_laws.specs.strips.Strips.{with_rows}
-use Rattle.shapes.proofs.Common.{get-put_cases}
 
 -- ---- rows
 

@@ -1,12 +1,6 @@
 -- What the tables say once a solid is opened along a cycle.
-use Rattle.std.proofs.Common.{◌≡◌, ℕ, ◌+◌, ◌≤◌, ◌<◌, Bool, true, false, cond, not, ◌&&◌, List, length, map, reverse, Option, Some, None, is_some, unwrap_or, refl, sym, ap, subst, ◌∙◌, arith, true≢false, ◌⊎◌, inl, inr, option_map}
-use Rattle.std.proofs.lemmas.List.{length-map}
-use Rattle.euler_operators.specs.Common.{count, IsIn, IsApart, canonical, mate, edge_of, is_first, plus, minus, get-map_rows, Model, LoopContent, LoopRow, FaceRow, EdgeRow, lone, cycle, no_face, holds, items_of, tail, tail_in, content, cycle_of, loop_of, face_of, solid_of, Sound, Has, HasHalf, face_at, lists}
+use Rattle.split_opening_laws.proofs.Prelude.{◌≡◌, ℕ, ◌+◌, ◌≤◌, ◌<◌, Bool, true, false, cond, not, ◌&&◌, List, length, map, reverse, Option, Some, None, is_some, unwrap_or, refl, sym, ap, subst, ◌∙◌, arith, true≢false, ◌⊎◌, inl, inr, option_map, length-map, count, IsIn, IsApart, canonical, mate, edge_of, is_first, plus, minus, get-map_rows, Model, LoopContent, LoopRow, FaceRow, EdgeRow, lone, cycle, no_face, holds, items_of, tail, tail_in, content, cycle_of, loop_of, face_of, solid_of, Sound, Has, HasHalf, face_at, lists, count-canonical, from_map, count-reverse, IsApart-map, plus_row, minus_row, mate-mate, holds_in, in-holds, face_row, content_row, tail_row, cycle_there, row_of, first_where_is, in_use_within, row_some, get-put_other, get-put_here, IsIn-map, Contains-from_in, halves_of_edge, mapped_some, AreFree, Taken, numbers_after, rewritten_row, renamed, opened_tail, opened_row, with_rim, with_copies, both_lists, opened_along, get-put_cases}
 use Rattle.euler_operators.specs.Table as table
-use Rattle.euler_operators.proofs.Common.{count-canonical, from_map, count-reverse, IsApart-map, plus_row, minus_row, mate-mate, holds_in, in-holds, face_row, content_row, tail_row, cycle_there, row_of, first_where_is, in_use_within, row_some, get-put_other, get-put_here, IsIn-map, Contains-from_in}
-use Rattle.euler_laws.proofs.Common.{halves_of_edge, mapped_some}
-use Rattle.shapes.specs.Common.{AreFree, Taken, numbers_after, rewritten_row, renamed, opened_tail, opened_row, with_rim, with_copies, both_lists, opened_along}
-use Rattle.shapes.proofs.Common.{get-put_cases}
 use Rattle.split_opening_laws.proofs.sections.Numbered.{other_number, rim_below, rim_cases, renamed_one, renamed_not, in_numbers, numbers_in, renamed_onto, length-numbers_after}
 
 -- ---- in which faces the half-edges of a section cycle and of its copy lie, once a solid is opened along it

@@ -1,18 +1,9 @@
 -- Once a solid is opened along a cycle, the other cycles of its section are still such.
-use Rattle.std.proofs.Common.{◌≡◌, ◌≢◌, ℕ, ◌<◌, List, [], ◌∷◌, length, map, get_or, is_some, refl, sym, ap, subst, ◌∙◌, arith, ◌⊎◌, inl, inr, ◌+◌, ◌≤◌, true, false, ◌++◌, unwrap_or, true≢false, flat_map}
-use Rattle.std.proofs.lemmas.List.{map-append, get_or_default}
-use Rattle.std.proofs.lemmas.Bool.Decides.{eqb_tells}
-use Rattle.euler_operators.specs.Common.{count, IsIn, IsApart, mate, edge_of, Model, tail, solid_of, loop_of, no_face, Sound, HasHalf, Has, face_at, lists}
+use Rattle.split_opening_laws.proofs.Prelude.{◌≡◌, ◌≢◌, ℕ, ◌<◌, List, [], ◌∷◌, length, map, get_or, is_some, refl, sym, ap, subst, ◌∙◌, arith, ◌⊎◌, inl, inr, ◌+◌, ◌≤◌, true, false, ◌++◌, unwrap_or, true≢false, flat_map, map-append, get_or_default, eqb_tells, count, IsIn, IsApart, mate, edge_of, Model, tail, solid_of, loop_of, no_face, Sound, HasHalf, Has, face_at, lists, tick_same, count-append, IsIn_or_not, IsIn-get_or, Contains-from_in, from_map, mate-mate, row_of, mate_there, mate_there as half_mate, IsIn-map, in_use_within, halves_of_edge, other_last, listed-from_in, AreFree, Taken, numbers_after, next_place, opened_along, IsBelowHalf, IsSectionCycle, AreSectionCycles, AreApartCycles, halves_in, AreBetween, false_from_ne_true}
 use Rattle.euler_operators.specs.Table as table
-use Rattle.euler_operators.proofs.Common.{tick_same, count-append, IsIn_or_not, IsIn-get_or, Contains-from_in, from_map, mate-mate, row_of, mate_there, mate_there as half_mate, IsIn-map, in_use_within}
-use Rattle.euler_laws.proofs.Common.{halves_of_edge, other_last, listed-from_in}
-use Rattle.shapes.specs.Common.{AreFree, Taken, numbers_after, next_place, opened_along}
 use Rattle.sweeps_laws.proofs.swept.Numbers.{next_within}
-use Rattle.split_opening_laws.specs.cycles.SectionCycles.{IsBelowHalf, IsSectionCycle, AreSectionCycles, AreApartCycles}
-use Rattle.split_opening_laws.specs.sections.InTurn.{halves_in, AreBetween}
 use Rattle.split_opening_laws.proofs.sections.OpenedRows.{solid_kept, face_kept, half_kept, tail_cases, tail_kept, half_cases, face_still, upper_row, mate_face, minus_face, plus_face}
 use Rattle.split_opening_laws.proofs.cycles.Meets.{apart_before}
-use Rattle.std.proofs.lemmas.Bool.{false_from_ne_true}
 
 maps_agree : (f g : ℕ → ℕ) (xs : List ℕ) → ((x : ℕ) → IsIn x xs → f x ≡ g x) → map f xs ≡ map g xs
 maps_agree f g [] e = refl

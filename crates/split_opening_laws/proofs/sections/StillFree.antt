@@ -1,9 +1,6 @@
 -- The numbers above those that an opening takes are free after it.
-use Rattle.std.proofs.Common.{◌≡◌, ℕ, ◌+◌, ◌*◌, ◌<◌, List, [], ◌∷◌, length, None, refl, ap, ◌∙◌, arith, fold, option_map}
-use Rattle.euler_operators.specs.Common.{Point, Plane, count, Table, get-map_rows, Model, tail, point_of}
-use Rattle.euler_operators.proofs.Common.{tick_same, get-put_other}
+use Rattle.split_opening_laws.proofs.Prelude.{◌≡◌, ℕ, ◌+◌, ◌*◌, ◌<◌, List, [], ◌∷◌, length, None, refl, ap, ◌∙◌, arith, fold, option_map, Point, Plane, count, Table, get-map_rows, Model, tail, point_of, tick_same, get-put_other, AreFree, Taken, numbers_after, rewritten_row, renamed, opened_row, both_lists, opened_along, Opening, next_opened}
 use Rattle.euler_operators.specs.Table as table
-use Rattle.shapes.specs.Common.{AreFree, Taken, numbers_after, rewritten_row, renamed, opened_row, both_lists, opened_along, Opening, next_opened}
 use Rattle.split_opening_laws.proofs.sections.Numbered.{in_numbers, rim_above}
 use Rattle.split_opening_laws.proofs.sections.OpenedRows.{faces_are, loops_are, edges_are, vertices_are}
 

@@ -1,16 +1,9 @@
 -- The renaming of the first vertices of a cycle to their copies.
-use Rattle.std.proofs.Common.{◌≡◌, ◌≢◌, ℕ, suc, ◌+◌, ◌≤◌, ◌<◌, cond, nat_eq, zero, None, List, [], ◌∷◌, ◌++◌, length, sym, ap, ◌∙◌, arith, inl, inr, map, get_or}
-use Rattle.std.proofs.lemmas.List.{length-map, get_or-map}
+use Rattle.split_opening_laws.proofs.Prelude.{◌≡◌, ◌≢◌, ℕ, suc, ◌+◌, ◌≤◌, ◌<◌, cond, nat_eq, zero, None, List, [], ◌∷◌, ◌++◌, length, sym, ap, ◌∙◌, arith, inl, inr, map, get_or, length-map, get_or-map, Model, tail, point_of, get-put_other, Taken, numbers_after, renamed, with_copies, copied, CanBeOpened, numbers_last}
 use Rattle.std.proofs.lemmas.List.Sums.{fold-append}
 use Rattle.euler_operators.specs.Table as table
-use Rattle.euler_operators.specs.Common.{Model, tail, point_of}
-use Rattle.euler_operators.proofs.Common.{get-put_other}
-use Rattle.shapes.specs.Common.{Taken, numbers_after, renamed, with_copies}
-use Rattle.split_opening_laws.specs.strips.Strips.{copied}
-use Rattle.split_opening_laws.specs.strips.Opened.{CanBeOpened}
 use Rattle.split_opening_laws.proofs.sections.Numbered.{length-numbers_after, numbers_at, in_numbers, both_more, both_none, renamed_cases, misses_both, renamed_more}
 use Rattle.split_opening_laws.proofs.strips.Cycle as on
-use Rattle.sweeps_laws.proofs.lamina.Lists.{numbers_last}
 
 module _ (M : Model) (above : List ℕ) (s : ℕ) (c : Taken) (bs : List ℕ) (w : CanBeOpened M above s c bs) where
   start_get : (j : ℕ) → j < length bs → get_or (map (tail M) bs) j 0 ≡ tail M (get_or bs j 0)

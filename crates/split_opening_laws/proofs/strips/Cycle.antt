@@ -1,18 +1,7 @@
 -- What is known of a cycle along which a solid can be opened, place by place.
-use Rattle.std.proofs.Common.{◌≡◌, ◌≢◌, ℕ, suc, ◌+◌, ◌-◌, ◌≤◌, ◌<◌, true, false, cond, List, [], ◌∷◌, length, is_some, refl, sym, ap, ◌∙◌, subst, arith, ◌⊎◌, inl, inr, true≢false, nat_eq, ◌++◌, Some, map, get_or, option_map}
-use Rattle.std.proofs.lemmas.Bool.Decides.{eqb_tells}
-use Rattle.std.proofs.lemmas.List.{length-map, get_or-map, map-append, get_or_default}
-use Rattle.std.proofs.lemmas.Bool.{cases_order}
-use Rattle.euler_operators.specs.Common.{IsIn, mate, edge_of, plus, Model, tail, LoopRow, cycle, holds, loop_of, face_of, cycle_of, HasHalf, Sound, Has, face_at, lists, canonical, get-map_rows}
+use Rattle.split_opening_laws.proofs.Prelude.{◌≡◌, ◌≢◌, ℕ, suc, ◌+◌, ◌-◌, ◌≤◌, ◌<◌, true, false, cond, List, [], ◌∷◌, length, is_some, refl, sym, ap, ◌∙◌, subst, arith, ◌⊎◌, inl, inr, true≢false, nat_eq, ◌++◌, Some, map, get_or, option_map, eqb_tells, length-map, get_or-map, map-append, get_or_default, cases_order, IsIn, mate, edge_of, plus, Model, tail, LoopRow, cycle, holds, loop_of, face_of, cycle_of, HasHalf, Sound, Has, face_at, lists, canonical, get-map_rows, from_map, IsIn-get_or, Contains-from_in, AllPairs-from_apart, mate-mate, plus_row, in_use_within, mate_there as half_mate, content_row, face_row, in-holds, cycle_there, row_of, count-canonical, IsIn-map, IsIn-from_listed, listed-from_in, Taken, numbers_after, next_place, rewritten_row, renamed, both_lists, numbers_last, place_before, CanBeOpened, with_rows, put_out}
 use Rattle.euler_operators.specs.Table as table
-use Rattle.euler_operators.proofs.Common.{from_map, IsIn-get_or, Contains-from_in, AllPairs-from_apart, mate-mate, plus_row, in_use_within, mate_there as half_mate, content_row, face_row, in-holds, cycle_there, row_of, count-canonical, IsIn-map}
-use Rattle.euler_laws.proofs.Common.{IsIn-from_listed, listed-from_in}
-use Rattle.shapes.specs.Common.{Taken, numbers_after, next_place, rewritten_row, renamed, both_lists}
-use Rattle.sweeps_laws.proofs.lamina.Lists.{numbers_last}
 pub use Rattle.sweeps_laws.proofs.swept.Numbers.{next_cases, next_within}
-use Rattle.split_opening_laws.specs.strips.StripOps.{place_before}
-use Rattle.split_opening_laws.specs.strips.Opened.{CanBeOpened}
-use Rattle.split_opening_laws.specs.strips.Strips.{with_rows, put_out}
 use Rattle.split_opening_laws.proofs.sections.Numbered.{rows_at, rows_low, length-numbers_after, numbers_at, in_numbers, both_more, renamed_cases, misses_both, renamed_more}
 
 -- ---- places round a list

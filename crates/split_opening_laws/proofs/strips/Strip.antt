@@ -1,18 +1,7 @@
 -- One strip more is cut off.
-use Rattle.std.proofs.Common.{◌≡◌, ◌≢◌, ℕ, suc, ◌+◌, ◌<◌, List, [], ◌∷◌, ◌++◌, length, cond, nat_eq, false, Some, None, is_some, unwrap_or, refl, sym, ap, ◌∙◌, subst, arith, inl, inr, map, get_or, option_map}
-use Rattle.std.proofs.lemmas.Bool.Decides.{eqb_tells}
+use Rattle.split_opening_laws.proofs.Prelude.{◌≡◌, ◌≢◌, ℕ, suc, ◌+◌, ◌<◌, List, [], ◌∷◌, ◌++◌, length, cond, nat_eq, false, Some, None, is_some, unwrap_or, refl, sym, ap, ◌∙◌, subst, arith, inl, inr, map, get_or, option_map, eqb_tells, IsIn, IsApart, canonical, rest, successor, upto, onward, mate, edge_of, is_first, plus, Model, LoopContent, LoopRow, cycle, holds, tail, tail_in, no_edge, loop_of, solid_of, cycle_of, after, Sound, Has, HasHalf, face_at, first_false, effect, mef, where_held, rotate_to_is, code-half, mate-mate, mate_plus, row_of, in-holds, none-holds, not_held, other_loop, cycle_there, cycle_sound, in_use_within, map_alike, half_after, loop_after, where_held_none, where_held_there, edge_row_plus, map_twice, MefGoes, mef_accepted, fits, edge_plus, Taken, rewritten_row, renamed, row_stays, row_turns, with_rows, put_out, strip_face, strip_row, strip_edge, strips_cut, cut_strip, CanBeOpened}
 use Rattle.std.proofs.lemmas.Option.{same_Some}
-use Rattle.euler_operators.specs.Common.{IsIn, IsApart, canonical, rest, successor, upto, onward, mate, edge_of, is_first, plus, Model, LoopContent, LoopRow, cycle, holds, tail, tail_in, no_edge, loop_of, solid_of, cycle_of, after, Sound, Has, HasHalf, face_at, first_false, effect, mef, where_held}
-use Rattle.euler_operators.proofs.Common.{rotate_to_is, code-half, mate-mate, mate_plus, row_of, in-holds, none-holds, not_held, other_loop, cycle_there, cycle_sound, in_use_within, map_alike}
 use Rattle.euler_operators.specs.Table as table
-use Rattle.euler_laws.proofs.Common.{half_after, loop_after, where_held_none, where_held_there, edge_row_plus, map_twice, MefGoes, mef_accepted}
-use Rattle.sweeps_laws.proofs.prism.Sides.{fits}
-use Rattle.sweeps_laws.proofs.prism.Steps.{edge_plus}
-use Rattle.shapes.specs.Common.{Taken, rewritten_row, renamed}
-use Rattle.shapes.proofs.Common.{row_stays, row_turns}
-use Rattle.split_opening_laws.specs.strips.Strips.{with_rows, put_out, strip_face, strip_row, strip_edge, strips_cut}
-use Rattle.split_opening_laws.specs.strips.StripOps.{cut_strip}
-use Rattle.split_opening_laws.specs.strips.Opened.{CanBeOpened}
 use Rattle.split_opening_laws.proofs.sections.Numbered.{rows_low, rows_high, rows_same, rows_map}
 use Rattle.split_opening_laws.proofs.strips.Cycle as on
 

@@ -1,16 +1,7 @@
 -- All strips cut off, one after the other.
-use Rattle.std.proofs.Common.{◌≡◌, ℕ, zero, suc, ◌≤◌, List, [], ◌∷◌, length, sym, ap, ◌∙◌, subst, arith, map, ◌<◌, ◌++◌, refl}
-use Rattle.euler_operators.specs.Common.{mate, Model, Sound}
+use Rattle.split_opening_laws.proofs.Prelude.{◌≡◌, ℕ, zero, suc, ◌≤◌, List, [], ◌∷◌, length, sym, ap, ◌∙◌, subst, arith, map, ◌<◌, ◌++◌, refl, mate, Model, Sound, map_same, effects, AreAccepted, Leads, leads_one, leads_on, leads_sound, Taken, rewritten_row, renamed, row_unrenamed, strips_cut, cut_strip, strip_ops, CanBeOpened}
 use Rattle.euler_operators.specs.Table as table
-use Rattle.euler_operators.proofs.Common.{map_same}
 use Rattle.euler_operators.specs.declared.Op.{Op}
-use Rattle.euler_laws.specs.Laws.{effects, AreAccepted}
-use Rattle.euler_laws.proofs.Common.{Leads, leads_one, leads_on, leads_sound}
-use Rattle.shapes.specs.Common.{Taken, rewritten_row, renamed}
-use Rattle.shapes.proofs.Common.{row_unrenamed}
-use Rattle.split_opening_laws.specs.strips.Strips.{strips_cut}
-use Rattle.split_opening_laws.specs.strips.StripOps.{cut_strip, strip_ops}
-use Rattle.split_opening_laws.specs.strips.Opened.{CanBeOpened}
 use Rattle.split_opening_laws.proofs.sections.Numbered.{both_none}
 use Rattle.split_opening_laws.proofs.strips.Strip.{strip_accepted, strip_is}
 

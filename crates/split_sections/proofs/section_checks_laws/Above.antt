@@ -1,14 +1,6 @@
 -- The faces above a plane, and the below halves and cycles along them.
-use Rattle.std.proofs.Common.{◌≡◌, ℕ, ◌≤◌, Bool, true, nat_eq, List, [], ◌∷◌, length, map, refl, ap, ◌∙◌, arith, eqb-true, filter, unwrap_or}
-use Rattle.euler_operators.specs.Common.{Plane, least, Model, solid_of, faces_of, no_face, Sound, strictly_rises}
-use Rattle.euler_operators.proofs.Common.{count-filter}
-use Rattle.euler_laws.proofs.Common.{all_where-rises, IsIn-from_listed, all_where_has}
-use Rattle.shapes.specs.Common.{face_is_above, faces_above, below_halves, cycle_from, section_cycles}
-use Rattle.split_opening_laws.specs.cycles.SectionCycles.{AreOf}
+use Rattle.split_sections.proofs.Prelude.{◌≡◌, ℕ, ◌≤◌, Bool, true, nat_eq, List, [], ◌∷◌, length, map, refl, ap, ◌∙◌, arith, eqb-true, filter, unwrap_or, Plane, least, Model, solid_of, faces_of, no_face, Sound, strictly_rises, count-filter, all_where-rises, IsIn-from_listed, all_where_has, face_is_above, faces_above, below_halves, cycle_from, section_cycles, AreOf, halves_apart, halves_are, AreThere, halves_short}
 use Rattle.split_opening_laws.proofs.cycles.RisingLists.{filter_rises}
-use Rattle.split_opening_laws.proofs.cycles.BelowHalves.{halves_apart, halves_are}
-use Rattle.split_sections.specs.section_cycles.Halves.{AreThere}
-use Rattle.shapes.proofs.Common.{halves_short}
 
 as_long : (f : ℕ → List ℕ) (bs : List ℕ) → length (map f bs) ≡ length bs
 as_long f [] = refl

@@ -1,15 +1,7 @@
 -- What the conditions of a section come to, from the half-edges and cycles that were found.
-use Rattle.std.proofs.Common.{◌≡◌, ℕ, ◌+◌, ◌*◌, ◌≤◌, Bool, true, false, List, map, length, vec_len, Vec, Global, Option, Some, None, sym, ap, subst, ◌∙◌, arith}
-use Rattle.std.proofs.lemmas.List.{length-map}
-use Rattle.euler_operators.specs.Common.{Plane, HalfEdge, code, Model, Sound, first_refusal, strictly_rises}
-use Rattle.euler_operators.specs.declared.Why.TheVariants.{BranchedVertex, SectionHoles}
-use Rattle.shapes.specs.Common.{Taken, numbers_left, below_halves, section_ends, least_branched, next_below, section_cycles, is_hole, has_stray_hole, section_conditions}
-use Rattle.split_opening_laws.specs.cycles.Permuting.{Permutes}
-use Rattle.split_opening_laws.specs.cycles.SectionCycles.{AreOf, IsUnbranched}
-use Rattle.split_opening_laws.proofs.cycles.BelowHalves.{halves_rise, starts_are_ends}
+use Rattle.split_sections.proofs.Prelude.{◌≡◌, ℕ, ◌+◌, ◌*◌, ◌≤◌, Bool, true, false, List, map, length, vec_len, Vec, Global, Option, Some, None, sym, ap, subst, ◌∙◌, arith, length-map, Plane, HalfEdge, code, Model, Sound, first_refusal, strictly_rises, BranchedVertex, SectionHoles, Taken, numbers_left, below_halves, section_ends, least_branched, next_below, section_cycles, is_hole, has_stray_hole, section_conditions, Permutes, AreOf, IsUnbranched, halves_rise, starts_are_ends, AreCyclesOf, has_stray, AreBalanced, Cycle}
 use Rattle.split_opening_laws.proofs.cycles.NextBelow.{permutes}
-use Rattle.split_sections.specs.Common.{AreThere, AreCyclesOf, has_stray, halves_of, AreBalanced}
-use Rattle.split_sections.specs.declared.section_cycles.cycle.Cycle.{Cycle}
+use Rattle.split_sections.specs.Common.{AreThere, halves_of}
 use Rattle.split_sections.proofs.section_checks_laws.Above.{halves_there, few_halves, few_cycles}
 use Rattle.split_sections.proofs.section_checks_laws.HoleFlags.{stray_is}
 use Rattle.split_sections.proofs.section_checks_laws.Stages.{branched, stray, to_numbers}

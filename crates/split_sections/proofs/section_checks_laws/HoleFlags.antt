@@ -1,9 +1,6 @@
 -- Word on which cycles are holes, cycle by cycle.
-use Rattle.std.proofs.Common.{◌≡◌, ◌+◌, ◌≤◌, Bool, true, cond, not, ◌&&◌, nat_eq, nat_lt, List, [], ◌∷◌, map, length, refl, sym, ap, arith, filter}
-use Rattle.euler_operators.specs.Common.{Plane, Model}
-use Rattle.shapes.specs.Common.{is_hole, has_stray_hole}
-use Rattle.split_sections.specs.Common.{has_stray, halves_of}
-use Rattle.split_sections.specs.declared.section_cycles.cycle.Cycle.{Cycle}
+use Rattle.split_sections.proofs.Prelude.{◌≡◌, ◌+◌, ◌≤◌, Bool, true, cond, not, ◌&&◌, nat_eq, nat_lt, List, [], ◌∷◌, map, length, refl, sym, ap, arith, filter, Plane, Model, is_hole, has_stray_hole, has_stray, Cycle}
+use Rattle.split_sections.specs.Common.{halves_of}
 
 module _ (M : Model) (p : Plane) where
   -- as many are told as holes as are

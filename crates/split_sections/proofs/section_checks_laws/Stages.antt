@@ -1,9 +1,5 @@
 -- The conditions that are tested once the faces are drawn, part by part.
-use Rattle.std.proofs.Common.{◌≡◌, ℕ, ◌+◌, ◌*◌, Bool, true, false, cond, not, nat_eq, List, ◌∷◌, length, Option, Some, None, Result, Ok, Err, refl, sym, ap, ◌∙◌, arith}
-use Rattle.euler_operators.specs.Common.{Plane, Model, Condition, first_refusal}
-use Rattle.euler_operators.specs.declared.Refusal.{Refusal}
-use Rattle.euler_operators.specs.declared.Why.TheVariants.{CutCrossed, BranchedVertex, SectionHoles}
-use Rattle.shapes.specs.Common.{Taken, numbers_left, no_such, Drawing, faces_above, below_halves, section_ends, least_branched, section_cycles, has_stray_hole, cycle_conditions, section_conditions, later_conditions}
+use Rattle.split_sections.proofs.Prelude.{◌≡◌, ℕ, ◌+◌, ◌*◌, Bool, true, false, cond, not, nat_eq, List, ◌∷◌, length, Option, Some, None, Result, Ok, Err, refl, sym, ap, ◌∙◌, arith, Plane, Model, Condition, first_refusal, Refusal, CutCrossed, BranchedVertex, SectionHoles, Taken, numbers_left, no_such, Drawing, faces_above, below_halves, section_ends, least_branched, section_cycles, has_stray_hole, cycle_conditions, section_conditions, later_conditions}
 
 module _ (M : Model) (s : ℕ) (p : Plane) (c : Taken) (bs : List ℕ) where
   abbrev numbers : Option Refusal

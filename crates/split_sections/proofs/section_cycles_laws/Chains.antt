@@ -1,14 +1,8 @@
 -- Half-edges by the vertices at which they start, as they are put into a map from the last to the first.
-use Rattle.std.proofs.Common.{◌≡◌, ℕ, ◌+◌, Bool, true, false, cond, ◌&&◌, ◌||◌, nat_eq, nat_lt, List, [], ◌∷◌, ◌++◌, map, Option, Some, is_some, unwrap_or, refl, sym, ap, ◌∙◌, subst, arith, ◌-◌, ◌≤◌, length, slice_index_or, BTreeMap, nat_cmp, is_eq, append_assoc, lt-ltb}
+use Rattle.split_sections.proofs.Prelude.{◌≡◌, ℕ, ◌+◌, Bool, true, false, cond, ◌&&◌, ◌||◌, nat_eq, nat_lt, List, [], ◌∷◌, ◌++◌, map, Option, Some, is_some, unwrap_or, refl, sym, ap, ◌∙◌, subst, arith, ◌-◌, ◌≤◌, length, slice_index_or, BTreeMap, nat_cmp, is_eq, append_assoc, lt-ltb, nat_tests, count, tick, HalfEdge, code, Model, tail, HasHalf, tick_same, tick_other, count-append, number_tied, first_such, IsLeast, least_same, least_either, fewer, last_code, code_or_none, AreStarts}
 use Rattle.std.specs.BTreeMap.{get}
-use Rattle.std.proofs.lemmas.Bool.Decides.{nat_tests}
-use Rattle.euler_operators.specs.Common.{count, tick, HalfEdge, code, Model, tail, HasHalf}
-use Rattle.euler_operators.proofs.Common.{tick_same, tick_other, count-append, number_tied}
-use Rattle.shapes.specs.Common.{first_such}
 use Rattle.split_checks.specs.Least.{only, lesser}
-use Rattle.split_checks.proofs.Searches.{IsLeast, least_same, least_either}
-use Rattle.split_checks.proofs.cut_places_laws.Lists.{fewer, last_code}
-use Rattle.split_sections.specs.Common.{AreThere, code_or_none, AreStarts}
+use Rattle.split_sections.specs.Common.{AreThere}
 
 -- more than one of these half-edges start at the vertex
 abbrev pub several : Model → List ℕ → ℕ → Bool

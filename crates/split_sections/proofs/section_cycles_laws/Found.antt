@@ -1,12 +1,6 @@
 -- The cycles found half by half: a half that no cycle found so far has begins one, and is the least of it.
-use Rattle.std.proofs.Common.{◌≡◌, ℕ, ◌≤◌, ◌<◌, Bool, true, false, cond, ◌||◌, nat_eq, List, [], ◌∷◌, ◌++◌, map, length, refl, sym, ap, ◌∙◌, arith, true≢false, ◌⊎◌, inl, inr, filter, ne_eqb, eq-eqb, append_assoc, append-nil}
-use Rattle.std.proofs.lemmas.Bool.Decides.{eqb_tells}
-use Rattle.std.proofs.lemmas.Bool.{or_right}
-use Rattle.euler_operators.specs.Common.{count, IsIn, SameItems, least, orbit, lists, strictly_rises}
-use Rattle.euler_operators.proofs.Common.{tick_same, tick_other, count-append, IsIn_or_not, least_le, least_in, least_same, apart_within, less_or_same}
-use Rattle.euler_laws.proofs.Common.{rises_over, rises_on, IsIn-from_listed, listed-from_in}
-use Rattle.split_opening_laws.specs.cycles.Permuting.{Permutes}
-use Rattle.split_opening_laws.proofs.cycles.Orbits.{around_apart, around_within, around_here, around_same}
+use Rattle.split_sections.proofs.Prelude.{◌≡◌, ℕ, ◌≤◌, ◌<◌, Bool, true, false, cond, ◌||◌, nat_eq, List, [], ◌∷◌, ◌++◌, map, length, refl, sym, ap, ◌∙◌, arith, true≢false, ◌⊎◌, inl, inr, filter, ne_eqb, eq-eqb, append_assoc, append-nil, eqb_tells, or_right, count, IsIn, SameItems, least, orbit, lists, strictly_rises, tick_same, tick_other, count-append, IsIn_or_not, least_le, least_in, apart_within, less_or_same, rises_over, rises_on, IsIn-from_listed, listed-from_in, Permutes, around_apart, around_within, around_here, around_same}
+use Rattle.euler_operators.proofs.Common.{least_same}
 
 -- what stands before an item of a rising list is less
 before_less : (done : List ℕ) (b : ℕ) (rest : List ℕ) → strictly_rises (done ++ b ∷ rest) ≡ true → (d : ℕ) → IsIn d done → d < b

@@ -1,9 +1,6 @@
 -- The half-edge to which one of some half-edges leads.
-use Rattle.std.proofs.Common.{◌≡◌, ◌≢◌, ℕ, List, sym, ◌∙◌, BTreeMap}
-use Rattle.euler_operators.specs.Common.{IsIn, HalfEdge, mate, Model, tail, Sound}
-use Rattle.euler_operators.proofs.Common.{half_number}
-use Rattle.shapes.specs.Common.{next_below}
-use Rattle.split_sections.specs.Common.{AreThere, half_at, AreStarts}
+use Rattle.split_sections.proofs.Prelude.{◌≡◌, ◌≢◌, ℕ, List, sym, ◌∙◌, BTreeMap, IsIn, HalfEdge, mate, Model, tail, Sound, half_number, next_below, half_at, AreStarts}
+use Rattle.split_sections.specs.Common.{AreThere}
 
 module _ (M : Model) (sound : Sound M) (bs : List ℕ) (starts : BTreeMap ℕ HalfEdge) (there : AreThere M bs) (told : AreStarts M bs starts) where
   pub is_next : (b : ℕ) → half_at starts (tail M (mate b)) ≡ next_below M bs b

@@ -1,8 +1,5 @@
 -- Half-edges that are met, in a set of their codes.
-use Rattle.std.proofs.Common.{◌≡◌, ℕ, ◌≤◌, Bool, true, cond, ◌||◌, List, map, length, slice_index_or, sym, subst, arith, nat_cmp, is_eq}
-use Rattle.euler_operators.specs.Common.{IsIn, HalfEdge, code, lists}
-use Rattle.euler_operators.proofs.Common.{tick_same, number_tied}
-use Rattle.split_checks.proofs.cut_places_laws.Lists.{others, parts}
+use Rattle.split_sections.proofs.Prelude.{◌≡◌, ℕ, ◌≤◌, Bool, true, cond, ◌||◌, List, map, length, slice_index_or, sym, subst, arith, nat_cmp, is_eq, IsIn, HalfEdge, code, lists, tick_same, number_tied, others, parts}
 
 abbrev AreLow : List ℕ → Type 0
 AreLow bs = (b : ℕ) → IsIn b bs → b ≤ 2000001

@@ -1,15 +1,8 @@
 -- The vertices at which section edges meet.
-use Rattle.std.proofs.Common.{◌≡◌, ℕ, ◌+◌, ◌≤◌, ◌<◌, false, nat_lt, List, [], ◌∷◌, map, length, slice_index_or, Option, Some, None, is_some, refl, sym, ap, subst, ◌∙◌, arith, true≢false, ◌⊎◌, inl, inr}
-use Rattle.std.proofs.lemmas.Bool.Decides.{nat_tests}
-use Rattle.euler_operators.specs.Common.{Point, count, IsIn, HalfEdge, code, mate, Model, tail, Sound, HasHalf, Has}
-use Rattle.euler_operators.proofs.Common.{tick_same, count-append, IsIn_or_not, from_map, mate_there}
+use Rattle.split_sections.proofs.Prelude.{◌≡◌, ℕ, ◌+◌, ◌≤◌, ◌<◌, false, nat_lt, List, [], ◌∷◌, map, length, slice_index_or, Option, Some, None, is_some, refl, sym, ap, subst, ◌∙◌, arith, true≢false, ◌⊎◌, inl, inr, nat_tests, Point, count, IsIn, HalfEdge, code, mate, Model, tail, Sound, HasHalf, Has, tick_same, count-append, IsIn_or_not, from_map, mate_there, AllAbove, all_above_members, IsLeast, one_least, least_same, least_row, section_ends, least_branched, others, parts, AreBalanced}
 use Rattle.euler_operators.specs.Table as table
-use Rattle.solid_walks.proofs.face_walks_laws.Above.{AllAbove, all_above_members}
 use Rattle.solid_walks.proofs.face_walks_laws.TableWalks.{passes, member_passing}
-use Rattle.split_checks.proofs.Searches.{IsLeast, one_least, least_same, least_row}
-use Rattle.shapes.specs.Common.{section_ends, least_branched}
-use Rattle.split_checks.proofs.cut_places_laws.Lists.{others, parts}
-use Rattle.split_sections.specs.Common.{AreThere, AreBalanced}
+use Rattle.split_sections.specs.Common.{AreThere}
 use Rattle.split_sections.proofs.section_cycles_laws.Chains.{several}
 
 -- ---- the half-edges of a list, one by one

@@ -1,6 +1,5 @@
 -- The walk from one of some halves on, each of which leads to one of them, until it is back.
-use Rattle.std.proofs.Common.{◌≡◌, ℕ, suc, ◌+◌, true, false, cond, ◌==◌, List, [], ◌∷◌, ◌++◌, length, sym, ap, ◌∙◌, arith, append_assoc, append-nil}
-use Rattle.euler_operators.specs.Common.{IsIn, walk_to, orbit}
+use Rattle.split_sections.proofs.Prelude.{◌≡◌, ℕ, suc, ◌+◌, true, false, cond, ◌==◌, List, [], ◌∷◌, ◌++◌, length, sym, ap, ◌∙◌, arith, append_assoc, append-nil, IsIn, walk_to, orbit}
 
 -- from first the walk has come to h, with n steps left at most
 pub record Going (next : ℕ → ℕ) (bs : List ℕ) (first h n : ℕ) (met : List ℕ) : Type 0 where

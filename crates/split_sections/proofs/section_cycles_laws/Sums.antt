@@ -1,13 +1,5 @@
 -- Sums of cross products over the mates of some below halves.
-use Rattle.std.proofs.Common.{◌≡◌, ℕ, List, [], ◌∷◌, ◌++◌, map, sym, ap, subst, ◌∙◌, arith, append_assoc}
-use Rattle.std.proofs.lemmas.List.{map-append}
-use Rattle.euler_operators.specs.Common.{Point, IsVectorWithin, normal_limit, moved, cross, count, IsApart, mate, Model, Sound, HasHalf}
-use Rattle.euler_operators.proofs.Common.{count-append, IsApart-map, from_map, mate-mate, mate_there}
-use Rattle.shapes.specs.Common.{start, finish}
-use Rattle.split_checks.specs.Measure.{area, area_limit}
-use Rattle.split_checks.proofs.Areas.{area_push, area_limited}
-use Rattle.shapes.proofs.Common.{AreHalves}
-use Rattle.split_sections.specs.section_cycles.Halves.{AreThere}
+use Rattle.split_sections.proofs.Prelude.{◌≡◌, ℕ, List, [], ◌∷◌, ◌++◌, map, sym, ap, subst, ◌∙◌, arith, append_assoc, map-append, Point, IsVectorWithin, normal_limit, moved, cross, count, IsApart, mate, Model, Sound, HasHalf, count-append, IsApart-map, from_map, mate-mate, mate_there, start, finish, area, area_limit, area_push, area_limited, AreHalves, AreThere}
 
 -- of all halves these are left, and the sum is now that over the mates of the others
 pub record Summed (M : Model) (all left : List ℕ) (now : Point) : Type 0 where

@@ -1,13 +1,5 @@
 -- The cycles of the below halves, all found.
-use Rattle.std.proofs.Common.{◌≡◌, ℕ, ◌≤◌, Bool, true, false, List, [], ◌∷◌, ◌++◌, map, length, sym, ap, ◌∙◌, arith}
-use Rattle.std.proofs.lemmas.List.{length-map, map-append}
-use Rattle.euler_operators.specs.Common.{count, IsIn, IsApart, HalfEdge, Plane, code, strictly_rises, Model, Sound}
-use Rattle.euler_laws.proofs.Common.{steps_are, half_below}
-use Rattle.shapes.specs.Common.{next_below, cycle_from, section_cycles, is_hole}
-use Rattle.split_opening_laws.specs.cycles.Permuting.{Permutes}
-use Rattle.split_opening_laws.proofs.cycles.Orbits.{around_apart, around_within}
-use Rattle.split_sections.specs.section_cycles.Halves.{AreThere, halves_of}
-use Rattle.split_sections.specs.declared.section_cycles.cycle.Cycle.{Cycle}
+use Rattle.split_sections.proofs.Prelude.{◌≡◌, ℕ, ◌≤◌, Bool, true, false, List, [], ◌∷◌, ◌++◌, map, length, sym, ap, ◌∙◌, arith, length-map, map-append, count, IsIn, IsApart, HalfEdge, Plane, code, strictly_rises, Model, Sound, steps_are, half_below, next_below, cycle_from, section_cycles, is_hole, Permutes, around_apart, around_within, AreThere, halves_of, Cycle}
 use Rattle.split_sections.proofs.section_cycles_laws.Found.{Finding, all_found, found_whole}
 
 pub cycle_low : (M : Model) → Sound M → (bs : List ℕ) → AreThere M bs → Permutes (next_below M bs) bs → (first : ℕ) → IsIn first bs → (cycle : List ℕ) → cycle ≡ cycle_from M bs first → (b : ℕ) → IsIn b cycle → b ≤ 2000001

@@ -1,12 +1,5 @@
 -- The section edges of one face: none where it is above, else those whose mates lie in faces above.
-use Rattle.std.proofs.Common.{◌≡◌, ℕ, Bool, true, false, List, [], ◌∷◌, ◌++◌, refl, sym, ap, arith, filter}
-use Rattle.std.proofs.lemmas.List.Elements.{filter-append}
-use Rattle.euler_operators.specs.Common.{IsIn, SameItems, IsRotation, Model, loop_of, Sound, Has, face_at, lists}
-use Rattle.euler_operators.proofs.Common.{count-append, tick_same}
-use Rattle.euler_laws.proofs.Common.{listed-from_in}
-use Rattle.shapes.specs.Common.{loops_of, boundary}
-use Rattle.shapes.proofs.Common.{items_counted, face_of_loop}
-use Rattle.split_sections.specs.section_edges.BelowHalves.{below_in, leading_above}
+use Rattle.split_sections.proofs.Prelude.{◌≡◌, ℕ, Bool, true, false, List, [], ◌∷◌, ◌++◌, refl, sym, ap, arith, filter, filter-append, IsIn, SameItems, IsRotation, Model, loop_of, Sound, Has, face_at, lists, count-append, tick_same, listed-from_in, loops_of, boundary, items_counted, face_of_loop, below_in, leading_above}
 
 module _ (M : Model) (above : List ℕ) (f : ℕ) where
   -- each of some half-edges lies in face f

@@ -1,9 +1,5 @@
 -- Numbers and their marks.
-use Rattle.std.proofs.Common.{◌≡◌, ◌≢◌, ℕ, ◌%◌, ◌<◌, Bool, true, false, List, [], ◌∷◌, length, set, nat_eq, refl, sym, ap, ◌∙◌, arith, true≢false}
-use Rattle.std.proofs.lemmas.Bool.Decides.{nat_tests}
-use Rattle.std.proofs.lemmas.List.{get_or-set_same, get_or-set_other}
-use Rattle.euler_operators.specs.Common.{lists}
-use Rattle.split_sections.specs.section_edges.Marks.{has_mark, AreMarked}
+use Rattle.split_sections.proofs.Prelude.{◌≡◌, ◌≢◌, ℕ, ◌%◌, ◌<◌, Bool, true, false, List, [], ◌∷◌, length, set, nat_eq, refl, sym, ap, ◌∙◌, arith, true≢false, nat_tests, get_or-set_same, get_or-set_other, lists, has_mark, AreMarked}
 
 -- those of a list that aren't left have their marks
 abbrev pub MarkedBut : List ℕ → List ℕ → List Bool → Type 0

@@ -1,13 +1,5 @@
 -- What an arena answers of the normal of a face that is there.
-use Rattle.std.proofs.Common.{◌≡◌, ℕ, ℤ, List, [], ◌∷◌, None, Result, Ok, Err, sym, ap, subst, ◌∙◌, arith}
-use Rattle.euler_operators.specs.Common.{IsVectorWithin, normal_limit, vector_of, numbers_of, Model, Sound, Has, need, first_refusal}
-use Rattle.euler_operators.specs.declared.Refusal.{Refusal}
-use Rattle.euler_operators.specs.declared.Why.TheVariants.{NumberRange, NoFace}
-use Rattle.euler_operators.proofs.Common.{vector_within}
-use Rattle.shapes.specs.Common.{boundary, loops_of}
-use Rattle.shapes.proofs.Common.{different_items, loops_of_apart}
-use Rattle.split_checks.specs.Measure.{normal, answer, face_refusal, area_limit}
-use Rattle.split_checks.proofs.Areas.{area_limited}
+use Rattle.split_sections.proofs.Prelude.{◌≡◌, ℕ, ℤ, List, [], ◌∷◌, None, Result, Ok, Err, sym, ap, subst, ◌∙◌, arith, IsVectorWithin, normal_limit, vector_of, numbers_of, Model, Sound, Has, need, first_refusal, Refusal, NumberRange, NoFace, vector_within, boundary, loops_of, different_items, loops_of_apart, normal, answer, face_refusal, area_limit, area_limited}
 
 abbrev numbers_in : Result (List ℤ) Refusal → List ℤ
 numbers_in (Ok ns) = ns

@@ -1,15 +1,7 @@
 -- The halves in faces below, sorted by their edges after a walk over faces has met them.
-use Rattle.std.proofs.Common.{◌≡◌, ℕ, suc, ◌<◌, true, ◌&&◌, List, [], ◌∷◌, map, refl, sym, ap, ◌∙◌, arith, true≢false, inl, inr, IsPermutation, lt-ltb}
+use Rattle.split_sections.proofs.Prelude.{◌≡◌, ℕ, suc, ◌<◌, true, ◌&&◌, List, [], ◌∷◌, map, refl, sym, ap, ◌∙◌, arith, true≢false, inl, inr, IsPermutation, lt-ltb, IsPermutation-map, tick, IsIn, IsApart, SameItems, HalfEdge, code, edge_of, Model, faces_of, Sound, strictly_rises, tick_same, edge_of-code, same_edge, less_or_same, SameItems-from_permutation, within, IsIn-from_listed, listed-from_in, below_halves, IsBelowHalf, halves_rise, halves_apart, halves_are, are_halves, below_met}
 use Rattle.std.specs.List.Sorted.{IsNonDecreasingBy}
-use Rattle.std.proofs.lemmas.List.Sorted.{IsPermutation-map}
-use Rattle.euler_operators.specs.Common.{tick, IsIn, IsApart, SameItems, HalfEdge, code, edge_of, Model, faces_of, Sound, strictly_rises}
-use Rattle.euler_operators.proofs.Common.{tick_same, edge_of-code, same_edge, less_or_same, SameItems-from_permutation}
-use Rattle.euler_laws.proofs.Common.{within, IsIn-from_listed, listed-from_in}
 use Rattle.split_checks.proofs.HowMany.{equally_many}
-use Rattle.shapes.specs.Common.{below_halves}
-use Rattle.split_opening_laws.specs.cycles.SectionCycles.{IsBelowHalf}
-use Rattle.split_opening_laws.proofs.cycles.BelowHalves.{halves_rise, halves_apart, halves_are, are_halves}
-use Rattle.split_sections.specs.section_edges.BelowHalves.{below_met}
 use Rattle.split_sections.proofs.section_edges_laws.Walked.{met_apart, met_below, below_is_met}
 
 -- a half of a lesser edge comes first in the order of listings

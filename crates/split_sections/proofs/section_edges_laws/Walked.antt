@@ -1,14 +1,6 @@
 -- The halves in faces below that a walk over the faces of a solid meets are the below halves of its section.
-use Rattle.std.proofs.Common.{◌≡◌, ℕ, Bool, not, ◌&&◌, List, [], ◌∷◌, refl, sym, ap, subst, ◌∙◌, filter, arith}
-use Rattle.std.proofs.lemmas.Bool.{and_parts, not-true}
-use Rattle.std.proofs.lemmas.List.Elements.{filter-append}
-use Rattle.euler_operators.specs.Common.{IsIn, IsApart, mate, Model, faces_of, Sound, face_at, lists}
-use Rattle.euler_operators.proofs.Common.{IsIn-filter}
-use Rattle.shapes.specs.Common.{items_in, boundary, loops_in}
-use Rattle.shapes.proofs.Common.{halves_apart, half_solid, solid_half, items_joined, solid_loops}
-use Rattle.split_checks.proofs.cut_places_laws.Lists.{of_picked, picked_apart}
-use Rattle.split_opening_laws.specs.cycles.SectionCycles.{IsBelowHalf}
-use Rattle.split_sections.specs.section_edges.BelowHalves.{is_below, below_met}
+use Rattle.split_sections.proofs.Prelude.{◌≡◌, ℕ, Bool, not, ◌&&◌, List, [], ◌∷◌, refl, sym, ap, subst, ◌∙◌, filter, arith, and_parts, not-true, filter-append, IsIn, IsApart, mate, Model, faces_of, Sound, face_at, lists, IsIn-filter, items_in, boundary, loops_in, half_solid, solid_half, items_joined, solid_loops, of_picked, picked_apart, IsBelowHalf, is_below, below_met}
+use Rattle.shapes.proofs.Common.{halves_apart}
 
 module _ (M : Model) (sound : Sound M) (above : List ℕ) (s : ℕ) where
   abbrev halves : List ℕ

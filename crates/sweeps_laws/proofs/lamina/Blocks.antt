@@ -1,16 +1,8 @@
 -- Where a block can be made: the lamina of its base can be made, and then its first face can be swept up.
-use Rattle.std.proofs.Common.{◌≡◌, ◌≢◌, ℕ, ◌+◌, ◌*◌, ℤ, pos, ◌+ℤ◌, true, false, cond, not, ◌&&◌, List, [], ◌∷◌, ◌++◌, Some, None, is_some, refl, sym, ap, ◌∙◌, subst, arith, Option, length, int_le}
-use Rattle.std.proofs.lemmas.Bool.{not-true}
-use Rattle.std.proofs.lemmas.Int.{ints}
-use Rattle.euler_operators.specs.Common.{Point, is_coordinate, is_in_range, origin, moved, same_point, Model, point_of, Sound, Condition, need, never, first_refusal, is_number, numbers_in_range}
+use Rattle.sweeps_laws.proofs.Prelude.{◌≡◌, ◌≢◌, ℕ, ◌+◌, ◌*◌, ℤ, pos, ◌+ℤ◌, true, false, cond, not, ◌&&◌, List, [], ◌∷◌, ◌++◌, Some, None, is_some, refl, sym, ap, ◌∙◌, subst, arith, Option, length, int_le, not-true, ints, Point, is_coordinate, is_in_range, origin, moved, Model, point_of, Sound, Condition, need, never, first_refusal, is_number, numbers_in_range, and_first, and_second, add_none, ◌also◌, all_hold, none_refuses, same_is, greatest-put_last, numbers_are_left, left_numbers_hold, number_fits, AreLeft, corners, least_lone, Taken, taken_in, numbers_left, no_such, first_such, first_far, first_repeated, lamina_conditions, lamina_model, prism_conditions, prism_refusal, vector, base_of, block_conditions, block_refusal, BlocksHaveBases, BasesRise, needed_for_sides}
+use Rattle.euler_operators.specs.Common.{same_point}
 use Rattle.euler_operators.specs.Table as table
-use Rattle.euler_operators.proofs.Common.{and_first, and_second, add_none}
 use Rattle.euler_operators.specs.declared.Why.TheVariants.{NoFace, ZeroSweep, LoneLoop, PointRange}
-use Rattle.euler_laws.proofs.Common.{◌also◌, all_hold, none_refuses}
-use Rattle.shapes.proofs.Common.{same_is, greatest-put_last, numbers_are_left, left_numbers_hold, number_fits}
-use Rattle.shapes.specs.Common.{AreLeft, corners, least_lone, Taken, taken_in, numbers_left, no_such, first_such, first_far, first_repeated, lamina_conditions, lamina_model, prism_conditions, prism_refusal, vector, base_of, block_conditions, block_refusal}
-use Rattle.sweeps_laws.specs.lamina.Laws.{BlocksHaveBases, BasesRise}
-use Rattle.sweeps_laws.specs.prism.Ready.{needed_for_sides}
 use Rattle.sweeps_laws.proofs.swept.Bounds.{HasFree, taken_free}
 use Rattle.sweeps_laws.proofs.LaminaRows as rows
 use Rattle.sweeps_laws.proofs.lamina.Steps.{greatest-with_path, greatest-with_points}

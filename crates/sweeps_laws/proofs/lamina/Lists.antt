@@ -1,11 +1,5 @@
 -- The loop along a path and back, as a list.
-use Rattle.std.proofs.Common.{◌≡◌, ℕ, zero, suc, ◌+◌, ◌≤◌, List, [], ◌∷◌, ◌++◌, refl, sym, ap, ◌∙◌, arith, map, reverse, append_assoc, append-nil}
-use Rattle.std.proofs.lemmas.List.{map-append, reverse-append}
-use Rattle.std.proofs.lemmas.Bool.Decides.{eqb_tells}
-use Rattle.euler_operators.specs.Common.{count, IsIn, IsApart, least, rotate_to, canonical, plus, minus}
-use Rattle.euler_operators.proofs.Common.{count-append, tick_other, tick_le, least_with_le, least_with_in, rotate_to_head, canonical_same, IsIn_head}
-use Rattle.shapes.specs.Common.{numbers_after}
-use Rattle.sweeps_laws.specs.lamina.Path.{out, back}
+use Rattle.sweeps_laws.proofs.Prelude.{◌≡◌, ℕ, zero, suc, ◌+◌, ◌≤◌, List, [], ◌∷◌, ◌++◌, refl, sym, ap, ◌∙◌, arith, map, reverse, append_assoc, append-nil, map-append, reverse-append, eqb_tells, count, IsIn, IsApart, least, rotate_to, canonical, plus, minus, count-append, tick_other, tick_le, least_with_le, least_with_in, rotate_to_head, canonical_same, IsIn_head, numbers_after, out, back}
 
 -- a list from its least item on is in its canonical form
 pub canonical_least : (x : ℕ) (zs : List ℕ) → least (x ∷ zs) ≡ x → canonical (x ∷ zs) ≡ x ∷ zs

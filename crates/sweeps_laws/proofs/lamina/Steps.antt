@@ -1,13 +1,7 @@
 -- Each operator of a lamina is accepted, and leads from one model of the path to the next.
-use Rattle.std.proofs.Common.{◌≡◌, ℕ, zero, suc, ◌+◌, ◌≤◌, ◌<◌, List, [], ◌∷◌, ◌++◌, Some, None, unwrap_or, is_some, refl, sym, ap, ◌∙◌, arith, IsTrue, map, reverse, length, get_or, ◌-◌}
-use Rattle.euler_operators.specs.Common.{Point, IsInRange, canonical, code, mate, edge_of, plus, minus, Table, Model, cycle, EdgeRow, no_point, no_face, content, face_of, solid_of, tail, is_number, Sound, first_false, lone_vertex, effect, edge_row, mvfs, mev_lone, mef}
+use Rattle.sweeps_laws.proofs.Prelude.{◌≡◌, ℕ, zero, suc, ◌+◌, ◌≤◌, ◌<◌, List, [], ◌∷◌, ◌++◌, Some, None, unwrap_or, is_some, refl, sym, ap, ◌∙◌, arith, IsTrue, map, reverse, length, get_or, ◌-◌, Point, IsInRange, canonical, code, mate, edge_of, plus, minus, Table, Model, cycle, EdgeRow, no_point, no_face, content, face_of, solid_of, tail, is_number, Sound, first_false, lone_vertex, effect, edge_row, mvfs, mev_lone, mef, plus_row, mate_plus, content_row, face_row, plus_tail_row, minus_tail_row, get-put_here, get-put_other, put-put, canonical_same, edge_row_plus, lone_accepted, mev_accepted, mef_accepted, mvfs_accepted, Around, apart_xs, greatest-put_last, none_above, number_fits, AreLeft, Taken, numbers_after, with_points, with_path, with_ring, lamina_at, out, back, path_content, path_at, first_half, second_half, first_point, next_point, last_edge}
 use Rattle.euler_operators.specs.Table as table
-use Rattle.euler_operators.proofs.Common.{plus_row, mate_plus, content_row, face_row, plus_tail_row, minus_tail_row, get-put_here, get-put_other, put-put, canonical_same}
-use Rattle.euler_laws.proofs.Common.{edge_row_plus, lone_accepted, mev_accepted, mef_accepted, mvfs_accepted, Around, apart_xs}
 use Rattle.euler_laws.proofs.mev.MevLoneSound.{LoneGoes}
-use Rattle.shapes.proofs.Common.{greatest-put_last, none_above, number_fits}
-use Rattle.shapes.specs.Common.{AreLeft, Taken, numbers_after, with_points, with_path, with_ring, lamina_at}
-use Rattle.sweeps_laws.specs.lamina.Path.{out, back, path_content, path_at, first_half, second_half, first_point, next_point, last_edge}
 use Rattle.sweeps_laws.proofs.lamina.Lists.{two_halves, path_read, longer, later, ring_plus, ring_minus, out_first, plus_halves, minus_halves}
 use Rattle.sweeps_laws.proofs.prism.Steps.{spur_goes, mev_here, chord_goes, mef_here}
 

@@ -1,13 +1,5 @@
 -- From the conditions of a lamina: its operators in order, and the model that they leave.
-use Rattle.std.proofs.Common.{◌≡◌, ℕ, zero, suc, ◌+◌, ◌<◌, true, List, [], ◌∷◌, ◌++◌, None, refl, subst, ◌∙◌, arith, length, get_or, ◌-◌, leb-true}
-use Rattle.std.proofs.lemmas.Bool.{not-true}
-use Rattle.euler_operators.specs.Common.{Point, is_in_range, Model, no_point, Sound, first_false, effect}
-use Rattle.euler_operators.proofs.Common.{no_row}
-use Rattle.euler_laws.proofs.Common.{all_hold, effect_keeps_sound, Leads, leads_none, leads_one, leads_on, leads_first, leads_sound}
-use Rattle.shapes.proofs.Common.{none_found, numbers_are_left}
-use Rattle.shapes.specs.Common.{Taken, taken_in, first_far, lamina_conditions, lamina_refusal, lamina_at, lamina_model}
-use Rattle.sweeps_laws.specs.lamina.Path.{path_at, first_point, next_point, further_points, last_edge, lamina_operators}
-use Rattle.sweeps_laws.specs.lamina.Laws.{OperatorsAreAccepted, OperatorsMakeLamina, LaminaIsSound}
+use Rattle.sweeps_laws.proofs.Prelude.{◌≡◌, ℕ, zero, suc, ◌+◌, ◌<◌, true, List, [], ◌∷◌, ◌++◌, None, refl, subst, ◌∙◌, arith, length, get_or, ◌-◌, leb-true, not-true, Point, is_in_range, Model, no_point, Sound, first_false, effect, no_row, all_hold, effect_keeps_sound, Leads, leads_none, leads_one, leads_on, leads_first, leads_sound, none_found, numbers_are_left, Taken, taken_in, first_far, lamina_conditions, lamina_refusal, lamina_at, lamina_model, path_at, first_point, next_point, further_points, last_edge, lamina_operators, OperatorsAreAccepted, OperatorsMakeLamina, LaminaIsSound}
 use Rattle.sweeps_laws.proofs.lamina.Steps.{Goes, first_accepted, first_made, second_accepted, second_made, further_accepted, further_made, last_accepted, last_made}
 
 -- where no point is too far, each is in range

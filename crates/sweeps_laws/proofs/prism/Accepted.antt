@@ -1,16 +1,6 @@
 -- What it says that a sweep isn't refused; and so the sweep of a face, from its first operator to the prism.
-use Rattle.std.proofs.Common.{◌≡◌, ℕ, true, false, not, nat_eq, ◌&&◌, ◌||◌, [], ◌∷◌, length, Some, None, refl, ap, ◌∙◌, subst, arith}
-use Rattle.std.proofs.lemmas.Bool.Decides.{nat_tests}
-use Rattle.std.proofs.lemmas.Bool.{not-false}
-use Rattle.euler_operators.specs.Common.{Point, is_in_range, IsInRange, moved, IsIn, Model, cycle, items_of, content, face_of, tail, point_of, Sound, Has, AllHold, is_lone, lists}
+use Rattle.sweeps_laws.proofs.Prelude.{◌≡◌, ℕ, true, false, not, nat_eq, ◌&&◌, ◌||◌, [], ◌∷◌, length, Some, None, refl, ap, ◌∙◌, subst, arith, nat_tests, not-false, Point, is_in_range, IsInRange, moved, IsIn, Model, cycle, items_of, content, face_of, tail, point_of, Sound, Has, AllHold, is_lone, lists, zero_first_where, item_there, loop_number, first_fails, AreAccepted, effects, effects_keep_sound, all_hold, listed-from_in, loop_row, not_lone_cycle, none_above, none_found, none_is_lone, none_such, numbers_are_left, loops_of_apart, tail_in, face_of_loop, AreLeft, start, loops_of, corners, vertices_in, least_lone, first_such, taken_in, prism_conditions, prism_refusal, prism_model, sweep_ops, needed_for_sides}
 use Rattle.euler_operators.specs.Table as table
-use Rattle.euler_operators.proofs.Common.{zero_first_where, item_there, loop_number, first_fails}
-use Rattle.euler_laws.specs.Laws.{AreAccepted, effects}
-use Rattle.euler_laws.proofs.Common.{effects_keep_sound, all_hold, listed-from_in, loop_row, not_lone_cycle}
-use Rattle.shapes.proofs.Common.{none_above, none_found, none_is_lone, none_such, numbers_are_left, loops_of_apart, tail_in, face_of_loop}
-use Rattle.shapes.specs.Common.{AreLeft, start, loops_of, corners, vertices_in, least_lone, first_such, taken_in, prism_conditions, prism_refusal, prism_model}
-use Rattle.sweeps_laws.specs.prism.SweepOps.{sweep_ops}
-use Rattle.sweeps_laws.specs.prism.Ready.{needed_for_sides}
 use Rattle.sweeps_laws.proofs.prism.Whole.{Going, loops_swept}
 
 -- ---- a sweep that isn't refused

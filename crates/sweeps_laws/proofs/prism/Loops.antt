@@ -1,19 +1,9 @@
 -- A whole loop swept: the first item raised, the rounds, and the last side closed.
-use Rattle.std.proofs.Common.{◌≡◌, ◌≢◌, ℕ, zero, suc, ◌+◌, ◌-◌, ◌≤◌, ◌<◌, List, [], ◌∷◌, ◌++◌, length, Some, None, refl, sym, ap, ◌∙◌, subst, arith, get_or, drop}
-use Rattle.std.proofs.lemmas.Bool.Decides.{nat_tests}
-use Rattle.std.proofs.lemmas.List.{drop_all}
-use Rattle.euler_operators.specs.Common.{Point, moved, IsIn, canonical, plus, minus, Table, tables, same_table, Model, cycle, tail, solid_of, Sound, first_false, effect}
-use Rattle.euler_operators.proofs.Common.{count-append, tick_other, canonical_same, IsIn-get_or, get-put_here, get-put_other, plus_tail_row, minus_tail_row}
+use Rattle.sweeps_laws.proofs.Prelude.{◌≡◌, ◌≢◌, ℕ, zero, suc, ◌+◌, ◌-◌, ◌≤◌, ◌<◌, List, [], ◌∷◌, ◌++◌, length, Some, None, refl, sym, ap, ◌∙◌, subst, arith, get_or, drop, nat_tests, drop_all, Point, moved, IsIn, canonical, plus, minus, Table, tables, same_table, Model, cycle, tail, solid_of, Sound, first_false, effect, count-append, tick_other, canonical_same, IsIn-get_or, get-put_here, get-put_other, plus_tail_row, minus_tail_row, AreAccepted, effects, effect_keeps_sound, Leads, leads_one, leads_on, leads_sound, Around, apart_xs, start, Taken, riser, top_edge, top_items, next_place, with_side, with_sides, lifted, lifted_part, prism_part, raise, close, close_last, rounds, loop_ops, Ready}
 use Rattle.euler_operators.specs.Table as table
-use Rattle.euler_laws.specs.Laws.{AreAccepted, effects}
-use Rattle.euler_laws.proofs.Common.{effect_keeps_sound, Leads, leads_one, leads_on, leads_sound, Around, apart_xs}
-use Rattle.shapes.specs.Common.{start, Taken, riser, top_edge, top_items, next_place, with_side, with_sides, lifted}
-use Rattle.sweeps_laws.specs.prism.Part.{lifted_part, prism_part}
-use Rattle.sweeps_laws.specs.prism.SweepOps.{raise, close, close_last, rounds, loop_ops}
 use Rattle.sweeps_laws.proofs.prism.Steps.{with_chord, mev_does, mev_fits, mef_does, mef_fits}
 use Rattle.sweeps_laws.proofs.prism.Sides.{fits, next_last, two_items, from_least, drop_next, loop_within, part_loop, part_edge_free, part_face_free, part_loop_free, part_riser, part_solid, round_accepted, round_is}
 use Rattle.sweeps_laws.proofs.swept.Numbers.{riser_cases, top_cases}
-use Rattle.sweeps_laws.specs.prism.Ready.{Ready}
 use Rattle.sweeps_laws.proofs.lamina.Lists.{canonical_first}
 
 -- the top edges rise from the first one

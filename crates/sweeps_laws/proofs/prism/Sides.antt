@@ -1,20 +1,10 @@
 -- One round of the sweep of a loop: the numbers that it takes, what the sides leave as it was, an item raised and the side before it closed.
-use Rattle.std.proofs.Common.{◌≡◌, ◌≢◌, ℕ, suc, ◌+◌, ◌≤◌, ◌<◌, cond, List, [], ◌∷◌, length, is_some, IsTrue, refl, sym, ap, ◌∙◌, subst, arith, ◌++◌, Some, None, eq-eqb, ne_eqb, get_or, drop, append_assoc}
-use Rattle.std.proofs.lemmas.Bool.Decides.{nat_tests}
-use Rattle.euler_operators.specs.Common.{Point, IsIn, canonical, successor, edge_of, plus, minus, Model, cycle, items_of, holds, tail, content, solid_of, loop_of, after, cycle_of, is_number, Has, HasHalf, Sound, moved, Table, tables, same_table, first_false, effect}
-use Rattle.euler_operators.proofs.Common.{tick_same, successor_head, content_row, face_row, in-holds, minus_tail_row, get-put_other, same_solid, in_use_within, get-put_here, put_turned, canonical_same, IsIn-get_or}
+use Rattle.sweeps_laws.proofs.Prelude.{◌≡◌, ◌≢◌, ℕ, suc, ◌+◌, ◌≤◌, ◌<◌, cond, List, [], ◌∷◌, length, is_some, IsTrue, refl, sym, ap, ◌∙◌, subst, arith, ◌++◌, Some, None, eq-eqb, ne_eqb, get_or, drop, append_assoc, nat_tests, Point, IsIn, canonical, successor, edge_of, plus, minus, Model, cycle, items_of, holds, tail, content, solid_of, loop_of, after, cycle_of, is_number, Has, HasHalf, Sound, moved, Table, tables, same_table, first_false, effect, tick_same, successor_head, content_row, face_row, in-holds, minus_tail_row, get-put_other, same_solid, in_use_within, get-put_here, put_turned, canonical_same, IsIn-get_or, start, Taken, riser, top_edge, next_place, with_side, with_sides, top_items, Ready, drop_more, AreAccepted, effects, effect_keeps_sound, same_tail, same_point, Around, apart_xs, lifted_part, prism_part, raise, close}
 use Rattle.euler_operators.specs.Table as table
-use Rattle.shapes.specs.Common.{start, Taken, riser, top_edge, next_place, with_side, with_sides, top_items}
 use Rattle.sweeps_laws.proofs.swept.Bounds.{HasFree, tail_within}
 use Rattle.sweeps_laws.proofs.swept.Filled.{filled_other}
 use Rattle.sweeps_laws.proofs.swept.Numbers.{riser_cases, riser_above, top_cases}
 use Rattle.sweeps_laws.proofs.swept.Sides.{Keeps, start_kept, faces_grown, loops_grown, vertices_grown, edges_other, edges_kept, vertices_kept, keeps_grown}
-use Rattle.sweeps_laws.specs.prism.Ready.{Ready}
-use Rattle.std.proofs.lemmas.List.{drop_more}
-use Rattle.euler_laws.specs.Laws.{AreAccepted, effects}
-use Rattle.euler_laws.proofs.Common.{effect_keeps_sound, same_tail, same_point, Around, apart_xs}
-use Rattle.sweeps_laws.specs.prism.Part.{lifted_part, prism_part}
-use Rattle.sweeps_laws.specs.prism.SweepOps.{raise, close}
 use Rattle.sweeps_laws.proofs.prism.Steps.{with_spur, with_chord, mev_does, mev_fits, mef_does, mef_fits}
 
 -- ---- numbers

@@ -1,11 +1,7 @@
 -- What mev at one corner and mef make of a sound model of which one loop is known.
-use Rattle.std.proofs.Common.{cond, suc, zero, ◌≡◌, ◌≢◌, ℕ, List, [], ◌∷◌, ◌++◌, None, IsTrue, refl, sym, ap, ◌∙◌, arith}
-use Rattle.euler_operators.specs.Common.{Point, IsInRange, At, count, IsIn, IsApart, canonical, rotate_to, upto, onward, insert_before, edge_of, plus, minus, half, Model, EdgeRow, cycle, tail, loop_of, face_of, solid_of, cycle_of, arc, is_number, face_at, first_false, effect, mev_at, mef, with_before, with_tails, edge_row}
-use Rattle.euler_operators.proofs.Common.{count-append, tick_same, tick_other, count-canonical, rotate_at, rotate_to_head, canonical_same, upto_itself, onward_itself, upto_once, count-insert_before, apart_front, nat_eq_itself, plus_row, minus_row, code-half, mate_plus, plus_other, map_one, map_same, map-put, put-put, in-holds, not_held, other_loop}
+use Rattle.sweeps_laws.proofs.Prelude.{cond, suc, zero, ◌≡◌, ◌≢◌, ℕ, List, [], ◌∷◌, ◌++◌, None, IsTrue, refl, sym, ap, ◌∙◌, arith, Point, IsInRange, At, count, IsIn, IsApart, canonical, rotate_to, upto, onward, insert_before, edge_of, plus, minus, half, Model, EdgeRow, cycle, tail, loop_of, face_of, solid_of, cycle_of, arc, is_number, face_at, first_false, effect, mev_at, mef, with_before, with_tails, edge_row, count-append, tick_same, tick_other, count-canonical, rotate_at, rotate_to_head, canonical_same, upto_itself, onward_itself, upto_once, count-insert_before, apart_front, nat_eq_itself, plus_row, minus_row, code-half, mate_plus, plus_other, map_one, map_same, map-put, put-put, in-holds, not_held, other_loop, Mev, Mef, where_held_none, where_held_there, edge_row_plus, both_in, MevGoes, mev_accepted, loops-mef, MefGoes, mef_accepted, Around, face_is, canonical_apart, apart_xs, loop_is, half_is, cycle_is, rotated_canonical}
 use Rattle.euler_operators.specs.Rings as rings
 use Rattle.euler_operators.specs.Table as table
-use Rattle.euler_operators.specs.declared.Op.TheVariants.{Mev, Mef}
-use Rattle.euler_laws.proofs.Common.{where_held_none, where_held_there, edge_row_plus, both_in, MevGoes, mev_accepted, loops-mef, MefGoes, mef_accepted, Around, face_is, canonical_apart, apart_xs, loop_is, half_is, cycle_is, rotated_canonical}
 
 pub arc_itself : (next : ℕ → ℕ) (g n : ℕ) → rings.arc next g g n ≡ []
 arc_itself next g zero = refl

@@ -1,19 +1,10 @@
 -- The steps of a loop's sweep, as they are taken one after the other.
-use Rattle.std.proofs.Common.{◌≡◌, ℕ, suc, ◌+◌, ◌-◌, ◌≤◌, ◌<◌, List, [], ◌∷◌, length, None, is_some, sym, ap, ◌∙◌, subst, arith, get_or}
-use Rattle.euler_operators.specs.Common.{Point, IsInRange, moved, IsIn, At, edge_of, half, plus, Model, HasHalf, first_false, effect}
-use Rattle.euler_operators.proofs.Common.{IsIn-get_or, get-put_other, in_use_within}
-use Rattle.euler_operators.specs.declared.Op.TheVariants.{Mev}
-use Rattle.euler_laws.specs.Laws.{AreAccepted, effects}
-use Rattle.euler_laws.proofs.Common.{AreAccepted-back}
-use Rattle.shapes.specs.Common.{start, Taken, riser}
-use Rattle.sweeps_laws.specs.prism.Part.{prism_part}
-use Rattle.sweeps_laws.specs.prism.SweepOps.{raise_item, raise, close, close_last, rounds}
+use Rattle.sweeps_laws.proofs.Prelude.{◌≡◌, ℕ, suc, ◌+◌, ◌-◌, ◌≤◌, ◌<◌, List, [], ◌∷◌, length, None, is_some, sym, ap, ◌∙◌, subst, arith, get_or, Point, IsInRange, moved, IsIn, At, edge_of, half, plus, Model, HasHalf, first_false, effect, IsIn-get_or, get-put_other, in_use_within, Mev, AreAccepted, effects, AreAccepted-back, start, Taken, riser, prism_part, raise_item, raise, close, close_last, rounds, Ready}
 use Rattle.sweeps_laws.proofs.prism.Sides.{has_free, half_there, old_edge, part_keeps}
 use Rattle.sweeps_laws.proofs.swept.Bounds.{tail_within}
 use Rattle.sweeps_laws.proofs.swept.Numbers.{riser_cases}
 use Rattle.sweeps_laws.proofs.swept.Sides.{start_kept}
 use Rattle.sweeps_laws.proofs.prism.Loops.{rounds_go, loop_swept}
-use Rattle.sweeps_laws.specs.prism.Ready.{Ready}
 
 module _ (M : Model) (c : Taken) (f l : ℕ) (d : Point) (hs : List ℕ) (w : Ready M c f l d hs) where
   -- the model once the item at place i is raised and the sides before it stand

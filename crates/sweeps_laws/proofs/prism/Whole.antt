@@ -1,19 +1,10 @@
 -- The loops of a face swept one after the other.
-use Rattle.std.proofs.Common.{◌≡◌, ◌≢◌, ℕ, zero, suc, ◌+◌, ◌-◌, ◌≤◌, ◌<◌, List, [], ◌∷◌, ◌++◌, length, Some, is_some, refl, sym, ap, ◌∙◌, subst, arith, get_or, map, length-append}
-use Rattle.std.proofs.lemmas.List.{length-map}
-use Rattle.euler_operators.specs.Common.{Point, IsInRange, moved, count, IsIn, IsApart, At, edge_of, half, plus, face_of, Model, cycle, items_of, content, tail, point_of, solid_of, Sound, HasHalf}
-use Rattle.euler_operators.proofs.Common.{tick_same, IsIn-get_or, content_row, face_row, IsIn_rest, IsIn_head, get-put_other, in_use_within}
+use Rattle.sweeps_laws.proofs.Prelude.{◌≡◌, ◌≢◌, ℕ, zero, suc, ◌+◌, ◌-◌, ◌≤◌, ◌<◌, List, [], ◌∷◌, ◌++◌, length, Some, is_some, refl, sym, ap, ◌∙◌, subst, arith, get_or, map, length-append, length-map, Point, IsInRange, moved, count, IsIn, IsApart, At, edge_of, half, plus, face_of, Model, cycle, items_of, content, tail, point_of, solid_of, Sound, HasHalf, tick_same, IsIn-get_or, content_row, face_row, IsIn_rest, IsIn_head, get-put_other, in_use_within, Mev, effects, Leads, leads_none, leads_on, leads_sound, AreFree, AreLeft, start, vertices_on, vertices_in, Taken, riser, top_items, with_sides, lifted, raised, raised_over, prism_from, close, close_last, rounds, loop_ops, taken_after, ops_from, Ready, needed_for_sides}
 use Rattle.euler_operators.specs.Table as table
 use Rattle.euler_operators.specs.declared.Op.{Op}
-use Rattle.euler_operators.specs.declared.Op.TheVariants.{Mev}
-use Rattle.euler_laws.specs.Laws.{effects}
-use Rattle.euler_laws.proofs.Common.{Leads, leads_none, leads_on, leads_sound}
-use Rattle.shapes.specs.Common.{AreFree, AreLeft, start, vertices_on, vertices_in, Taken, riser, top_items, with_sides, lifted, raised, raised_over, prism_from}
-use Rattle.sweeps_laws.specs.prism.SweepOps.{close, close_last, rounds, loop_ops, taken_after, ops_from}
 use Rattle.sweeps_laws.proofs.prism.Sides.{old_edge, old_start, sides_edges, sides_faces, sides_loops, sides_vertices, two_items, loop_within}
 use Rattle.sweeps_laws.proofs.prism.Loops.{loop_leads}
 use Rattle.sweeps_laws.proofs.swept.Numbers.{riser_cases, top_cases}
-use Rattle.sweeps_laws.specs.prism.Ready.{Ready, needed_for_sides}
 
 -- N has grown out of M by sweeping some loops of face f along d; ls are the other ones
 pub record Going (M N : Model) (c : Taken) (f : ℕ) (d : Point) (ls : List ℕ) : Type 0 where

@@ -1,11 +1,7 @@
 -- In a sound model the numbers that rows name lie within those taken, where all above these are free.
-use Rattle.std.proofs.Common.{◌≡◌, ℕ, ◌≤◌, ◌<◌, Bool, true, false, None, unwrap_or, refl, ap, ◌∙◌, arith, inl, inr}
-use Rattle.std.proofs.lemmas.Bool.Decides.{eqb_tells}
-use Rattle.euler_operators.specs.Common.{IsIn, Table, edge_of, is_first, Model, lone, no_face, no_loop, no_edge, items_of, tail, tail_in, content, face_of, outer, Sound}
+use Rattle.sweeps_laws.proofs.Prelude.{◌≡◌, ℕ, ◌≤◌, ◌<◌, Bool, true, false, None, unwrap_or, refl, ap, ◌∙◌, arith, inl, inr, eqb_tells, IsIn, Table, edge_of, is_first, Model, lone, no_face, no_loop, no_edge, items_of, tail, content, face_of, outer, Sound, in-holds, in_use_within, no_row, AreFree, Taken, taken_in, greatest_used, none_above}
+use Rattle.euler_operators.specs.Common.{tail_in}
 use Rattle.euler_operators.specs.Table as table
-use Rattle.euler_operators.proofs.Common.{in-holds, in_use_within, no_row}
-use Rattle.shapes.specs.Common.{AreFree, Taken, taken_in}
-use Rattle.shapes.proofs.Common.{greatest_used, none_above}
 
 -- M is sound, and all numbers above those taken are free
 pub record HasFree (M : Model) (c : Taken) : Type 0 where

@@ -1,10 +1,6 @@
 -- Tables with rows put at the numbers after a, one after the other, and with one row rewritten.
-use Rattle.std.proofs.Common.{◌≡◌, ◌≢◌, ℕ, zero, suc, ◌+◌, ◌-◌, ◌≤◌, ◌<◌, Bool, false, cond, [], ◌∷◌, ◌++◌, Some, refl, ap, ◌∙◌, arith, ◌⊎◌, inl, inr, append-nil}
-use Rattle.std.proofs.lemmas.Bool.Decides.{eqb_tells}
+use Rattle.sweeps_laws.proofs.Prelude.{◌≡◌, ◌≢◌, ℕ, zero, suc, ◌+◌, ◌-◌, ◌≤◌, ◌<◌, Bool, false, cond, [], ◌∷◌, ◌++◌, Some, refl, ap, ◌∙◌, arith, ◌⊎◌, inl, inr, append-nil, eqb_tells, Table, at_most_or_above, get-put_here, get-put_other, all_where-put_last, greatest-put_last}
 use Rattle.euler_operators.specs.Table as table
-use Rattle.euler_operators.specs.Common.{Table}
-use Rattle.euler_operators.proofs.Common.{at_most_or_above, get-put_here, get-put_other}
-use Rattle.shapes.proofs.Common.{all_where-put_last, greatest-put_last}
 
 -- a number is at most a, one of the n after a, or above these
 pub place_cases : (q a n : ℕ) → (q ≤ a) ⊎ (((i : ℕ) × (i < n) × (q ≡ a + 1 + i)) ⊎ (a + n < q))

@@ -1,12 +1,6 @@
 -- One loop of a face swept: what the readers answer of the model after.
-use Rattle.std.proofs.Common.{◌≡◌, ◌≢◌, ℕ, ◌+◌, ◌≤◌, ◌<◌, true, false, cond, not, nat_eq, ◌&&◌, List, [], ◌∷◌, length, get_or, Some, is_some, refl, sym, ap, subst, ◌∙◌, arith, inl, inr, ne_eqb, Bool}
-use Rattle.std.proofs.lemmas.Bool.Decides.{nat_tests, eqb_tells}
-use Rattle.euler_operators.specs.Common.{Point, moved, IsIn, least, canonical, edge_of, plus, minus, map_rows, Model, cycle, LoopRow, items_of, tail, content, face_of, outer, solid_of, point_of, rings_of, Has}
-use Rattle.euler_operators.proofs.Common.{IsIn-get_or, map_one, all_where_none, all_where-map, get-put_here, get-put_other, content_row, face_row, outer_row, plus_tail_row, minus_tail_row, same_content, same_face, same_outer, same_solid, in_use_within, none_but}
+use Rattle.sweeps_laws.proofs.Prelude.{◌≡◌, ◌≢◌, ℕ, ◌+◌, ◌≤◌, ◌<◌, true, false, cond, not, nat_eq, ◌&&◌, List, [], ◌∷◌, length, get_or, Some, is_some, refl, sym, ap, subst, ◌∙◌, arith, inl, inr, ne_eqb, Bool, nat_tests, eqb_tells, Point, moved, IsIn, least, canonical, edge_of, plus, minus, map_rows, Model, cycle, LoopRow, items_of, tail, content, face_of, outer, solid_of, point_of, rings_of, Has, IsIn-get_or, map_one, all_where_none, all_where-map, get-put_here, get-put_other, content_row, face_row, outer_row, plus_tail_row, minus_tail_row, same_content, same_face, same_outer, same_solid, in_use_within, none_but, loop_row, start, finish, Taken, riser, top_edge, top_items, next_place, lifted, at_most_greatest}
 use Rattle.euler_operators.specs.Table as table
-use Rattle.euler_laws.proofs.Common.{loop_row}
-use Rattle.shapes.specs.Common.{start, finish, Taken, riser, top_edge, top_items, next_place, lifted}
-use Rattle.shapes.proofs.Common.{at_most_greatest}
 use Rattle.sweeps_laws.proofs.lamina.Lists.{canonical_least}
 use Rattle.sweeps_laws.proofs.swept.Filled.{place_cases, filled, filled_old, filled_new, filled_past, filled_none, same_search}
 use Rattle.sweeps_laws.proofs.swept.Numbers.{riser_above, top_above, next_within}

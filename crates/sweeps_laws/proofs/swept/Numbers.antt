@@ -1,7 +1,5 @@
 -- The numbers of the edges that a sweep of a loop makes, and their half-edges. e is the greatest edge before, n the number of items.
-use Rattle.std.proofs.Common.{◌≡◌, ◌≢◌, ℕ, ◌+◌, ◌*◌, ◌<◌, cond, ap, arith, ◌⊎◌, inl, inr}
-use Rattle.std.proofs.lemmas.Bool.Decides.{eqb_tells}
-use Rattle.shapes.specs.Common.{riser, top_edge, next_place}
+use Rattle.sweeps_laws.proofs.Prelude.{◌≡◌, ◌≢◌, ℕ, ◌+◌, ◌*◌, ◌<◌, cond, ap, arith, ◌⊎◌, inl, inr, eqb_tells, riser, top_edge, next_place}
 
 pub riser_cases : (e i : ℕ) → ((i ≡ 0) × (riser e i ≡ e + 1)) ⊎ ((i ≢ 0) × (riser e i ≡ e + 2 * i))
 riser_cases e i = elim (eqb_tells i 0) [ inl p ↦ inl (p.1, ap (λ b. cond b (e + 1) (e + 2 * i)) p.0) | inr p ↦ inr (p.1, ap (λ b. cond b (e + 1) (e + 2 * i)) p.0) ]

@@ -1,13 +1,8 @@
 -- The tables of a model to which the sides over some items have been added.
-use Rattle.std.proofs.Common.{◌≡◌, ◌≢◌, ℕ, zero, suc, ◌+◌, ◌≤◌, ◌<◌, List, [], ◌∷◌, length, get_or, Some, refl, sym, ap, subst, ◌∙◌, arith}
-use Rattle.std.proofs.lemmas.Bool.Decides.{eqb_tells}
-use Rattle.euler_operators.specs.Common.{Point, moved, canonical, mate, edge_of, plus, minus, Model, cycle, FaceRow, LoopRow, EdgeRow, tail, point_of}
+use Rattle.sweeps_laws.proofs.Prelude.{◌≡◌, ◌≢◌, ℕ, zero, suc, ◌+◌, ◌≤◌, ◌<◌, List, [], ◌∷◌, length, get_or, Some, refl, sym, ap, subst, ◌∙◌, arith, eqb_tells, Point, moved, canonical, mate, edge_of, plus, minus, Model, cycle, FaceRow, LoopRow, EdgeRow, tail, point_of, edge_of-mate, point_row, get-put_here, get-put_other, start, finish, Taken, riser, top_edge, next_place, with_side, with_sides, same_tail, same_point}
 use Rattle.euler_operators.specs.Table as table
-use Rattle.euler_operators.proofs.Common.{edge_of-mate, point_row, get-put_here, get-put_other}
-use Rattle.shapes.specs.Common.{start, finish, Taken, riser, top_edge, next_place, with_side, with_sides}
 use Rattle.sweeps_laws.proofs.swept.Filled.{filled, filled_old, filled_new}
 use Rattle.sweeps_laws.proofs.swept.Numbers.{riser_above, top_cases, riser_apart, top_apart, riser_no_top}
-use Rattle.euler_laws.proofs.Common.{same_tail, same_point}
 
 -- edges up to e and vertices up to v answer as they did
 pub record Keeps (M N : Model) (e v : ℕ) : Type 0 where

@@ -1,8 +1,6 @@
-use Rattle.std.proofs.Common.{◌≡◌, ◌∷◌, [], List, length, vec_len, refl, sym, ap, subst, ◌∙◌, append_assoc, append-nil, arith}
+use Rattle.call_lists.proofs.Prelude.{◌≡◌, ◌∷◌, [], List, length, refl, sym, ap, subst, ◌∙◌, append_assoc, append-nil, arith, into_iter_items, Call, AreTold}
+use Rattle.std.proofs.Common.{vec_len}
 use Rattle.std.proofs.lemmas.List.{nil_from_length}
-use Rattle.std.specs.Vec.Iter.{into_iter_items}
-use Rattle.call_lists.specs.Common.{Call}
-use Rattle.call_lists.specs.Making.{AreTold}
 use Rattle.call_lists.proofs.Lists.{told_more}
 use Rattle.call_lists.proofs.making.make_all.Goals as goal
 

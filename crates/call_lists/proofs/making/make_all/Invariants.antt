@@ -1,6 +1,5 @@
 use Rattle.std.specs.Prelude.{◌≡◌, ◌++◌, ◌+◌, ◌≤◌, vec_len, length, vec_capacity}
-use Rattle.std.specs.Vec.Iter.{into_iter_items, into_iter_len}
-use Rattle.call_lists.specs.Making.{AreTold}
+use Rattle.call_lists.proofs.Prelude.{into_iter_items, into_iter_len, AreTold}
 use Rattle.call_lists.proofs.making.make_all.Given as goal
 
 abbrev pub invariant-loop-call : goal.invariant-loop-call

@@ -1,8 +1,6 @@
-use Rattle.std.proofs.Common.{List, subst}
-use Rattle.euler_operators.specs.Common.{Point}
+use Rattle.commands.proofs.Prelude.{List, subst, Point, TellsSession, told_of}
 use Rattle.commands.specs.declared.command.Change.TheVariants as change
 use Rattle.commands.specs.declared.command.Command.TheVariants as command
-use Rattle.commands.specs.Telling.{TellsSession, told_of}
 use Rattle.commands.proofs.Settling.{settled, settled_exactly}
 use Rattle.commands.proofs.changing.change_session.Goals as goal
 

@@ -1,10 +1,6 @@
-use Rattle.std.proofs.Common.{w64}
-use Rattle.std.proofs.lemmas.Int.{to_z-of_z}
-use Rattle.sweeps.proofs.BlockSteps.{at_coefficients}
-use Rattle.commands.specs.Common.{held}
+use Rattle.commands.proofs.Prelude.{w64, to_z-of_z, at_coefficients, held, TellsSession, told_of}
 use Rattle.commands.specs.declared.command.Change.TheVariants as change
 use Rattle.commands.specs.declared.command.Command.TheVariants as command
-use Rattle.commands.specs.Telling.{TellsSession, told_of}
 use Rattle.commands.proofs.Knowing.{flat_faces}
 use Rattle.commands.proofs.Settling.{settled}
 use Rattle.commands.proofs.changing.make_split.Goals as goal

@@ -1,9 +1,6 @@
-use Rattle.std.proofs.Common.{List, subst, rules}
-use Rattle.std.proofs.lemmas.Result.{on_ok_weaker}
-use Rattle.euler_operators.specs.Common.{Point}
+use Rattle.commands.proofs.Prelude.{List, subst, rules, on_ok_weaker, Point, TellsDraft, told_of}
 use Rattle.commands.specs.declared.command.Change.TheVariants as change
 use Rattle.commands.specs.declared.command.Command.TheVariants as command
-use Rattle.commands.specs.Telling.{TellsDraft, told_of}
 use Rattle.commands.proofs.Settling.{settled, settled_exactly}
 use Rattle.commands.proofs.drafting.change_in.Goals as goal
 

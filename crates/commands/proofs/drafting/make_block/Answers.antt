@@ -1,10 +1,6 @@
-use Rattle.std.proofs.Common.{w64}
-use Rattle.std.proofs.lemmas.Int.{to_z-of_z}
-use Rattle.std.proofs.lemmas.Result.{on_ok_weaker}
-use Rattle.sweeps.proofs.BlockSteps.{at_sizes}
+use Rattle.commands.proofs.Prelude.{w64, to_z-of_z, on_ok_weaker, at_sizes, TellsDraft, told_of}
 use Rattle.commands.specs.declared.command.Change.TheVariants as change
 use Rattle.commands.specs.declared.command.Command.TheVariants as command
-use Rattle.commands.specs.Telling.{TellsDraft, told_of}
 use Rattle.commands.proofs.Settling.{settled_exactly}
 use Rattle.commands.proofs.drafting.make_block.Goals as goal
 

@@ -1,9 +1,7 @@
-use Rattle.std.proofs.Common.{refl, sym, subst}
-use Rattle.commands.specs.Common.{Drafting, OpenDraft, Session, Stage}
+use Rattle.commands.proofs.Prelude.{refl, sym, subst, Drafting, OpenDraft, Session, Stage, Tells, told_of}
 use Rattle.commands.specs.declared.command.Call.TheVariants as call
 use Rattle.commands.specs.declared.command.Change.TheVariants as change
 use Rattle.commands.specs.declared.command.Command.TheVariants as command
-use Rattle.commands.specs.Telling.{Tells, told_of}
 use Rattle.commands.proofs.making.act.Goals as goal
 
 pub returns-in-Session : goal.returns-in-Session

@@ -1,5 +1,4 @@
-use Rattle.std.proofs.Common.{ap, refl}
-use Rattle.commands.specs.Common.{DraftJournal, Drafting}
+use Rattle.commands.proofs.Prelude.{ap, refl, DraftJournal, Drafting}
 use Rattle.commands.proofs.making.back.Goals as goal
 
 pub returns : goal.returns

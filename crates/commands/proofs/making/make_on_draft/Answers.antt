@@ -1,5 +1,4 @@
-use Rattle.std.proofs.Common.{ap, refl}
-use Rattle.commands.specs.Common.{Session}
+use Rattle.commands.proofs.Prelude.{ap, refl, Session}
 use Rattle.commands.proofs.making.make_on_draft.Goals as goal
 
 pub returns-in-Abandon : goal.returns-in-Abandon

@@ -1,5 +1,4 @@
-use Rattle.std.proofs.Common.{inr, refl, ap, ◌∙◌}
-use Rattle.commands.specs.Common.{Session}
+use Rattle.commands.proofs.Prelude.{inr, refl, ap, ◌∙◌, Session}
 use Rattle.commands.proofs.making.open.Goals as goal
 
 pub returns-in-Err : goal.returns-in-Err

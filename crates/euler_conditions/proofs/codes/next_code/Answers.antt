@@ -1,6 +1,4 @@
-use Rattle.std.proofs.Common.{◌≡◌, ap, sym, subst, ◌∙◌}
-use Rattle.euler_operators.specs.Common.{code, after, has_half, HasHalf}
-use Rattle.euler_laws.proofs.Common.{half_after}
+use Rattle.euler_conditions.proofs.Prelude.{◌≡◌, ap, sym, subst, ◌∙◌, code, after, has_half, HasHalf, half_after}
 use Rattle.euler_conditions.proofs.Known.{in_a_loop}
 use Rattle.euler_conditions.proofs.Coded.{coded, edge_fits}
 use Rattle.euler_conditions.proofs.codes.next_code.Goals as goal

@@ -1,6 +1,4 @@
-use Rattle.std.proofs.Common.{ap, ◌∙◌}
-use Rattle.euler_operators.specs.Common.{after, has_half}
-use Rattle.euler_operators.proofs.Common.{mate_there}
+use Rattle.euler_conditions.proofs.Prelude.{ap, ◌∙◌, after, has_half, mate_there}
 use Rattle.euler_conditions.proofs.codes.round_code.Goals as goal
 
 pub next_code-requires-clause-there : goal.next_code-requires-clause-there

@@ -1,5 +1,4 @@
-use Rattle.std.proofs.Common.{ap, ◌∙◌}
-use Rattle.euler_operators.specs.Common.{has_half, tail}
+use Rattle.euler_conditions.proofs.Prelude.{ap, ◌∙◌, has_half, tail}
 use Rattle.euler_conditions.proofs.Coded.{coded}
 use Rattle.euler_conditions.proofs.codes.tail_of_code.Goals as goal
 

@@ -1,6 +1,4 @@
-use Rattle.std.proofs.Common.{sym, ap, ◌∙◌, eqb-true}
-use Rattle.euler_operators.specs.Common.{At}
-use Rattle.euler_operators.proofs.Common.{same_code}
+use Rattle.euler_conditions.proofs.Prelude.{sym, ap, ◌∙◌, eqb-true, At, same_code}
 use Rattle.euler_conditions.proofs.corners.are_one.Goals as goal
 
 pub returns-in-At-to : goal.returns-in-At-to

@@ -1,5 +1,4 @@
-use Rattle.std.proofs.Common.{◌≡◌, true, subst}
-use Rattle.euler_operators.specs.Common.{corner_known}
+use Rattle.euler_conditions.proofs.Prelude.{◌≡◌, true, subst, corner_known}
 use Rattle.euler_conditions.proofs.Known.{filled}
 use Rattle.euler_conditions.proofs.corners.vertex.Goals as goal
 

@@ -1,5 +1,4 @@
-use Rattle.std.proofs.Common.{◌≡◌, true, not, nat_eq, ◌&&◌, sym, ap, ◌∙◌}
-use Rattle.euler_operators.specs.Common.{code, mate, after}
+use Rattle.euler_conditions.proofs.Prelude.{◌≡◌, true, not, nat_eq, ◌&&◌, sym, ap, ◌∙◌, code, mate, after}
 use Rattle.euler_conditions.proofs.ends.kept_end_bare.Goals as goal
 
 pub returns-then-same : goal.returns-then-same

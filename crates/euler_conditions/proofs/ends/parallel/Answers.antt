@@ -1,9 +1,6 @@
-use Rattle.std.proofs.Common.{◌≡◌, ℕ, ◌+◌, ◌-◌, sym, ap, ◌∙◌, subst, arith}
-use Rattle.euler_operators.specs.Common.{mate, has_half, tail, parallel}
-use Rattle.euler_operators.proofs.Common.{mate-mate}
+use Rattle.euler_conditions.proofs.Prelude.{◌≡◌, ℕ, ◌+◌, ◌-◌, sym, ap, ◌∙◌, subst, arith, mate, has_half, tail, parallel, mate-mate, steps, steps_are, half_of}
 use Rattle.euler_conditions.proofs.Coded.{edge_fits}
 use Rattle.euler_conditions.proofs.Parallel.{HalfSeen, walk_start, walk_ended, step_closed, step_more, parallel_turned, mate_there}
-use Rattle.euler_laws.proofs.Common.{steps, steps_are, half_of}
 use Rattle.euler_conditions.proofs.ends.parallel.Goals as goal
 
 pub code-code-requires : goal.code-code-requires

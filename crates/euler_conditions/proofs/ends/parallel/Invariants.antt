@@ -1,6 +1,5 @@
-use Rattle.std.proofs.Common.{◌-◌}
+use Rattle.euler_conditions.proofs.Prelude.{◌-◌, steps}
 use Rattle.euler_conditions.proofs.Parallel.{HalfSeen}
-use Rattle.euler_laws.proofs.Common.{steps}
 use Rattle.euler_conditions.proofs.ends.parallel.Given as goal
 
 abbrev pub invariant-round : goal.invariant-round

@@ -1,6 +1,4 @@
-use Rattle.std.proofs.Common.{ap, ◌∙◌}
-use Rattle.euler_operators.specs.Common.{has_half, tail}
-use Rattle.euler_operators.proofs.Common.{mate_there}
+use Rattle.euler_conditions.proofs.Prelude.{ap, ◌∙◌, has_half, tail, mate_there}
 use Rattle.euler_conditions.proofs.Known.{found_then}
 use Rattle.euler_conditions.proofs.ends.seen.Goals as goal
 

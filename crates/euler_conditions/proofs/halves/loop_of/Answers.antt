@@ -1,9 +1,6 @@
-use Rattle.std.proofs.Common.{ap, ◌∙◌}
-use Rattle.euler_operators.specs.Common.{code}
+use Rattle.euler_conditions.proofs.Prelude.{ap, ◌∙◌, code, loop_there, half_of}
 use Rattle.euler_operators.specs.Table as table
-use Rattle.euler_operators.proofs.Common.{loop_there}
 use Rattle.euler_conditions.proofs.halves.loop_of.Goals as goal
-use Rattle.euler_laws.proofs.Common.{half_of}
 
 pub loop_of-requires : goal.loop_of-requires
 loop_of-requires c = half_of c.args.arena.now.model c.args.h c.requires.there

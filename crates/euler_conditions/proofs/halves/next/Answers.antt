@@ -1,8 +1,6 @@
-use Rattle.std.proofs.Common.{◌≡◌, subst, sym}
-use Rattle.euler_operators.specs.Common.{code, after, HasHalf}
+use Rattle.euler_conditions.proofs.Prelude.{◌≡◌, subst, sym, code, after, HasHalf, half_after, half_of, of_half}
 use Rattle.euler_conditions.proofs.Known.{in_a_loop}
 use Rattle.euler_conditions.proofs.halves.next.Goals as goal
-use Rattle.euler_laws.proofs.Common.{half_after, half_of, of_half}
 
 pub next-requires : goal.next-requires
 next-requires c = half_of c.args.arena.now.model c.args.h c.requires.there

@@ -1,6 +1,4 @@
-use Rattle.std.proofs.Common.{◌≡◌, not, [], ◌∷◌, sym, ap, ◌∙◌}
-use Rattle.euler_operators.specs.Common.{code, mate, conditions, first_false, numbers_in_range, face_at, has_rings}
-use Rattle.euler_operators.specs.declared.Why.TheVariants.{SameFace, HasRings}
+use Rattle.euler_conditions.proofs.Prelude.{◌≡◌, not, [], ◌∷◌, sym, ap, ◌∙◌, code, mate, conditions, first_false, numbers_in_range, face_at, has_rings, SameFace, HasRings}
 use Rattle.euler_conditions.proofs.Tests.{refuses, all_pass, passes, fails, same_numbers, other_numbers}
 use Rattle.euler_conditions.proofs.killing.check_kef.Goals as goal
 

@@ -1,6 +1,4 @@
-use Rattle.std.proofs.Common.{◌≡◌, not, [], ◌∷◌, sym, ap, ◌∙◌, ne_eqb}
-use Rattle.euler_operators.specs.Common.{code, mate, loop_of, conditions, first_false, numbers_in_range}
-use Rattle.euler_operators.specs.declared.Why.TheVariants.{DifferentLoops}
+use Rattle.euler_conditions.proofs.Prelude.{◌≡◌, not, [], ◌∷◌, sym, ap, ◌∙◌, ne_eqb, code, mate, loop_of, conditions, first_false, numbers_in_range, DifferentLoops}
 use Rattle.euler_conditions.proofs.Tests.{refuses, all_pass, passes, fails}
 use Rattle.euler_conditions.proofs.killing.check_kemr.Goals as goal
 

@@ -1,6 +1,4 @@
-use Rattle.std.proofs.Common.{not, [], ◌∷◌, sym, ap, ◌∙◌, eq-eqb}
-use Rattle.euler_operators.specs.Common.{conditions, first_false, numbers_in_range}
-use Rattle.euler_operators.specs.declared.Why.TheVariants.{SameTail}
+use Rattle.euler_conditions.proofs.Prelude.{not, [], ◌∷◌, sym, ap, ◌∙◌, eq-eqb, conditions, first_false, numbers_in_range, SameTail}
 use Rattle.euler_conditions.proofs.Tests.{refuses, all_pass, passes, fails, same_numbers, other_numbers}
 use Rattle.euler_conditions.proofs.making.check_mef.Goals as goal
 

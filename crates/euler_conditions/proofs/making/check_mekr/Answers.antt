@@ -1,8 +1,4 @@
-use Rattle.std.proofs.Common.{◌≡◌, ℕ, ◌∙◌, not, nat_eq, refl, sym, ap, List, [], ◌∷◌, Ok, Err, ne_eqb, eq-eqb}
-use Rattle.std.proofs.lemmas.Result.{err_from_is_err_and}
-use Rattle.euler_operators.specs.Common.{Condition, Corner, Model, face_of, is_ring_of, conditions, first_false, first_refusal, verdict, numbers_in_range, need, never, corner_number, corner_known, corner_lone, corner_loop, corner_tail}
-use Rattle.euler_operators.specs.declared.Why.TheVariants.{DifferentFaces, NotRing, SameTail}
-use Rattle.euler_operators.specs.declared.Op.TheVariants.{Mekr}
+use Rattle.euler_conditions.proofs.Prelude.{◌≡◌, ℕ, ◌∙◌, not, nat_eq, refl, sym, ap, List, [], ◌∷◌, Ok, Err, ne_eqb, eq-eqb, err_from_is_err_and, Condition, Corner, Model, face_of, is_ring_of, conditions, first_false, first_refusal, verdict, numbers_in_range, need, never, corner_number, corner_known, corner_lone, corner_loop, corner_tail, DifferentFaces, NotRing, SameTail, Mekr}
 use Rattle.euler_conditions.proofs.Orders.{answer_refuses, middle_refuses}
 use Rattle.euler_conditions.proofs.Tests.{refuses, passes, fails, all_pass, answer_holds, same_numbers, other_numbers}
 use Rattle.euler_conditions.proofs.making.check_mekr.Goals as goal

@@ -1,8 +1,4 @@
-use Rattle.std.proofs.Common.{◌≡◌, ℕ, ◌∙◌, not, refl, sym, ap, [], ◌∷◌, Ok, Err, ne_eqb}
-use Rattle.std.proofs.lemmas.Result.{err_from_is_err_and}
-use Rattle.euler_operators.specs.declared.Op.TheVariants.{Mev}
-use Rattle.euler_operators.specs.Common.{conditions, first_false, first_refusal, verdict, numbers_in_range, corner_number, corner_known, corner_lone, corner_tail}
-use Rattle.euler_operators.specs.declared.Why.TheVariants.{DifferentTails}
+use Rattle.euler_conditions.proofs.Prelude.{◌≡◌, ℕ, ◌∙◌, not, refl, sym, ap, [], ◌∷◌, Ok, Err, ne_eqb, err_from_is_err_and, Mev, conditions, first_false, first_refusal, verdict, numbers_in_range, corner_number, corner_known, corner_lone, corner_tail, DifferentTails}
 use Rattle.euler_conditions.proofs.Orders.{answer_refuses, middle_refuses}
 use Rattle.euler_conditions.proofs.Tests.{refuses, passes, fails, all_pass, answer_holds}
 use Rattle.euler_conditions.proofs.making.check_mev.Goals as goal

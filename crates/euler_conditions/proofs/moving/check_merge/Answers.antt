@@ -1,5 +1,4 @@
-use Rattle.std.proofs.Common.{[], ◌∷◌, sym, ◌∙◌}
-use Rattle.euler_operators.specs.Common.{conditions, first_false, numbers_in_range}
+use Rattle.euler_conditions.proofs.Prelude.{[], ◌∷◌, sym, ◌∙◌, conditions, first_false, numbers_in_range}
 use Rattle.euler_conditions.proofs.Tests.{all_pass, passes, fails}
 use Rattle.euler_conditions.proofs.moving.check_merge.Goals as goal
 

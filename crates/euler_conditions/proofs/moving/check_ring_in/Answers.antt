@@ -1,7 +1,4 @@
-use Rattle.std.proofs.Common.{◌∙◌, sym, ap, [], ◌∷◌, Err, nat_eq}
-use Rattle.std.proofs.lemmas.Result.{err_from_is_err_and}
-use Rattle.euler_operators.specs.Common.{conditions, first_false, ring_and_face, never, face_of}
-use Rattle.euler_operators.specs.declared.Why.TheVariants.{SameFace}
+use Rattle.euler_conditions.proofs.Prelude.{◌∙◌, sym, ap, [], ◌∷◌, Err, nat_eq, err_from_is_err_and, conditions, first_false, ring_and_face, never, face_of, SameFace}
 use Rattle.euler_conditions.proofs.Orders.{part_refuses}
 use Rattle.euler_conditions.proofs.moving.check_ring_in.Goals as goal
 

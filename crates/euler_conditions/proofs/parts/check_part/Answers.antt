@@ -1,5 +1,4 @@
-use Rattle.std.proofs.Common.{Err, true, false, sym, ap, ◌∙◌}
-use Rattle.std.proofs.lemmas.Result.{err_from_is_err_and}
+use Rattle.euler_conditions.proofs.Prelude.{Err, true, false, sym, ap, ◌∙◌, err_from_is_err_and}
 use Rattle.euler_conditions.proofs.Borders.{part_refused, part_left, are_faces}
 use Rattle.euler_conditions.proofs.parts.check_part.Goals as goal
 

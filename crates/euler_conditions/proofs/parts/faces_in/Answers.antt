@@ -1,6 +1,4 @@
-use Rattle.std.proofs.Common.{◌<◌, length, ap, ◌∙◌, arith}
-use Rattle.euler_operators.specs.Common.{lists}
-use Rattle.euler_laws.proofs.Common.{listed_at}
+use Rattle.euler_conditions.proofs.Prelude.{◌<◌, length, ap, ◌∙◌, arith, lists, listed_at}
 use Rattle.euler_conditions.proofs.parts.faces_in.Goals as goal
 
 pub solid_of-requires : goal.solid_of-requires

@@ -1,5 +1,4 @@
-use Rattle.std.proofs.Common.{◌≡◌, drop}
-use Rattle.euler_operators.specs.Common.{first_refusal, faces_in}
+use Rattle.euler_conditions.proofs.Prelude.{◌≡◌, drop, first_refusal, faces_in}
 use Rattle.euler_conditions.proofs.parts.faces_in.Given as goal
 
 abbrev pub invariant-faces : goal.invariant-faces

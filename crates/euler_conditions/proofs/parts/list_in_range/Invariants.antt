@@ -1,5 +1,4 @@
-use Rattle.std.proofs.Common.{◌≡◌, drop}
-use Rattle.euler_operators.specs.Common.{first_refusal, numbers_in_range}
+use Rattle.euler_conditions.proofs.Prelude.{◌≡◌, drop, first_refusal, numbers_in_range}
 use Rattle.euler_conditions.proofs.parts.list_in_range.Given as goal
 
 abbrev pub invariant-faces : goal.invariant-faces

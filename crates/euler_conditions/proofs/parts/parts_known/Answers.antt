@@ -1,7 +1,4 @@
-use Rattle.std.proofs.Common.{◌≡◌, not, Err, sym, ap, ◌∙◌}
-use Rattle.std.proofs.lemmas.Result.{err_from_is_err_and}
-use Rattle.euler_operators.specs.Common.{first_refusal, verdict, faces_known, faces_in}
-use Rattle.euler_conditions.specs.Parts.{parts_known}
+use Rattle.euler_conditions.proofs.Prelude.{◌≡◌, not, Err, sym, ap, ◌∙◌, err_from_is_err_and, first_refusal, verdict, faces_known, faces_in, parts_known}
 use Rattle.euler_conditions.proofs.Orders.{part_refuses, part_holds}
 use Rattle.euler_conditions.proofs.Tests.{passes, fails}
 use Rattle.euler_conditions.proofs.Borders.{solids_and_faces, list_refused, numbers_held, known_there}

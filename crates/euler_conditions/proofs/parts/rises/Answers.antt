@@ -1,5 +1,4 @@
-use Rattle.std.proofs.Common.{◌-◌, drop, sym, ◌∙◌, arith, length-drop}
-use Rattle.euler_laws.proofs.Common.{short_rises}
+use Rattle.euler_conditions.proofs.Prelude.{◌-◌, drop, sym, ◌∙◌, arith, length-drop, short_rises}
 use Rattle.euler_conditions.proofs.parts.rises.Goals as goal
 
 pub returns : goal.returns

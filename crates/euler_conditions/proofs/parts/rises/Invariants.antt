@@ -1,5 +1,4 @@
-use Rattle.std.proofs.Common.{◌≡◌, ◌-◌, drop}
-use Rattle.euler_operators.specs.Common.{strictly_rises}
+use Rattle.euler_conditions.proofs.Prelude.{◌≡◌, ◌-◌, drop, strictly_rises}
 use Rattle.euler_conditions.proofs.parts.rises.Given as goal
 
 abbrev pub invariant-faces : goal.invariant-faces

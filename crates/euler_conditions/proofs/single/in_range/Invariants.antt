@@ -1,5 +1,4 @@
-use Rattle.std.proofs.Common.{◌≡◌, length}
-use Rattle.euler_operators.specs.Common.{numbers_in_range, first_refusal}
+use Rattle.euler_conditions.proofs.Prelude.{◌≡◌, length, numbers_in_range, first_refusal}
 use Rattle.euler_conditions.proofs.single.in_range.Given as goal
 
 abbrev pub invariant-numbers : goal.invariant-numbers

@@ -1,5 +1,4 @@
-use Rattle.std.proofs.Common.{sym, subst, ◌∙◌}
-use Rattle.euler_conditions.specs.Parts.{StaysIn}
+use Rattle.euler_conditions.proofs.Prelude.{sym, subst, ◌∙◌, StaysIn}
 use Rattle.euler_conditions.proofs.Borders.{face_stays, outer_stays}
 use Rattle.euler_conditions.proofs.torn.face_leads_out.Goals as goal
 

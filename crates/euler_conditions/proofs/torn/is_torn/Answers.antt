@@ -1,8 +1,4 @@
-use Rattle.std.proofs.Common.{◌<◌, length, get_or, sym, ap, subst, ◌∙◌, arith, inl, inr}
-use Rattle.std.proofs.lemmas.Bool.Decides.{eqb_tells}
-use Rattle.euler_operators.specs.Common.{lists}
-use Rattle.euler_conditions.specs.Parts.{FaceStaysIn}
-use Rattle.euler_laws.proofs.Common.{listed_at, place_of}
+use Rattle.euler_conditions.proofs.Prelude.{◌<◌, length, get_or, sym, ap, subst, ◌∙◌, arith, inl, inr, eqb_tells, lists, FaceStaysIn, listed_at, place_of}
 use Rattle.euler_conditions.proofs.Borders.{out_torn, none_torn}
 use Rattle.euler_conditions.proofs.torn.is_torn.Goals as goal
 

@@ -1,5 +1,4 @@
-use Rattle.std.proofs.Common.{ℕ, ◌<◌, get_or}
-use Rattle.euler_conditions.specs.Parts.{FaceStaysIn}
+use Rattle.euler_conditions.proofs.Prelude.{ℕ, ◌<◌, get_or, FaceStaysIn}
 use Rattle.euler_conditions.proofs.torn.is_torn.Given as goal
 
 abbrev pub invariant-faces : goal.invariant-faces

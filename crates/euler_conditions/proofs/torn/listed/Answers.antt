@@ -1,6 +1,4 @@
-use Rattle.std.proofs.Common.{ℕ, ◌+◌, ◌-◌, ◌/◌, ◌<◌, ◌≤◌, length, get_or, sym, ap, ◌∙◌, arith}
-use Rattle.euler_operators.specs.Common.{lists}
-use Rattle.euler_laws.proofs.Common.{listed_at, below_middle, above_middle, not_found}
+use Rattle.euler_conditions.proofs.Prelude.{ℕ, ◌+◌, ◌-◌, ◌/◌, ◌<◌, ◌≤◌, length, get_or, sym, ap, ◌∙◌, arith, lists, listed_at, below_middle, above_middle, not_found}
 use Rattle.euler_conditions.proofs.torn.listed.Goals as goal
 
 pub returns-then-face-f : goal.returns-then-face-f

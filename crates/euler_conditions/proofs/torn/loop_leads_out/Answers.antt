@@ -1,8 +1,5 @@
-use Rattle.std.proofs.Common.{ℕ, ◌+◌, ◌-◌, sym, subst, ◌∙◌, arith, eqb-true}
-use Rattle.std.proofs.lemmas.Bool.{not-false, eqb-false}
-use Rattle.euler_operators.specs.Common.{code, mate, content, lists, face_at}
+use Rattle.euler_conditions.proofs.Prelude.{ℕ, ◌+◌, ◌-◌, sym, subst, ◌∙◌, arith, eqb-true, not-false, eqb-false, code, mate, content, lists, face_at, steps, steps_are, of_half}
 use Rattle.euler_conditions.proofs.Known.{filled}
-use Rattle.euler_laws.proofs.Common.{steps, steps_are, of_half}
 use Rattle.euler_conditions.proofs.Around.{HalfRound, round_start, round_closed, round_more, round_ended}
 use Rattle.euler_conditions.proofs.Borders.{ring_has}
 use Rattle.euler_conditions.proofs.torn.loop_leads_out.Goals as goal

@@ -1,6 +1,4 @@
-use Rattle.std.proofs.Common.{◌-◌}
-use Rattle.euler_operators.specs.Common.{code}
-use Rattle.euler_laws.proofs.Common.{steps}
+use Rattle.euler_conditions.proofs.Prelude.{◌-◌, code, steps}
 use Rattle.euler_conditions.proofs.Around.{HalfRound}
 use Rattle.euler_conditions.proofs.torn.loop_leads_out.Given as goal
 

@@ -1,6 +1,4 @@
-use Rattle.std.proofs.Common.{ℕ, ◌≡◌, ◌≤◌, ◌-◌, true}
-use Rattle.euler_operators.specs.Common.{is_ring_of}
-use Rattle.euler_conditions.specs.Parts.{StaysIn}
+use Rattle.euler_conditions.proofs.Prelude.{ℕ, ◌≡◌, ◌≤◌, ◌-◌, true, is_ring_of, StaysIn}
 use Rattle.euler_conditions.proofs.torn.rings_lead_out.Given as goal
 
 abbrev pub invariant-rings : goal.invariant-rings

@@ -1,5 +1,4 @@
-use Rattle.std.proofs.Common.{sym, ap, ◌∙◌}
-use Rattle.gluing.specs.glue_checks.Conditions.{early_refusal}
+use Rattle.gluing.proofs.Prelude.{sym, ap, ◌∙◌, early_refusal}
 use Rattle.gluing.proofs.glue_checks_laws.Conditions.{none_early}
 use Rattle.gluing.proofs.command.glue_in.Goals as goal
 

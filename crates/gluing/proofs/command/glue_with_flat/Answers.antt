@@ -1,10 +1,5 @@
-use Rattle.std.proofs.Common.{rules, ap, sym, ◌∙◌}
+use Rattle.gluing.proofs.Prelude.{rules, ap, sym, ◌∙◌, glue_model, glue_ops, Journal, DraftJournal, accepted, further_recorded, further_session, steps_recorded, early_refusal}
 use Rattle.shapes.specs.glue.Glue as shapes
-use Rattle.shapes.specs.Common.{glue_model, glue_ops}
-use Rattle.undo_journal.specs.Journal.{Journal, DraftJournal}
-use Rattle.undo_journal.specs.Machine.{accepted}
-use Rattle.undo_journal.proofs.Marks.{further_recorded, further_session, steps_recorded}
-use Rattle.gluing.specs.glue_checks.Conditions.{early_refusal}
 use Rattle.gluing.proofs.glue_checks_laws.Conditions.{none_early}
 use Rattle.gluing.proofs.command.glue_with_flat.Goals as goal
 

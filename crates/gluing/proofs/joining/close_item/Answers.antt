@@ -1,11 +1,4 @@
-use Rattle.std.proofs.Common.{refl, ap, ◌∙◌, [], ◌∷◌}
-use Rattle.std.proofs.lemmas.Result.{on_ok_weaker}
-use Rattle.euler_operators.specs.Common.{code, half, mate, minus}
-use Rattle.euler_operators.proofs.Common.{code-half}
-use Rattle.euler_operators.specs.declared.Op.TheVariants.{Mef, Kev, Kef}
-use Rattle.undo_journal.specs.Journal.{DraftJournal, after_steps}
-use Rattle.euler_laws.proofs.Common.{next_goes, next_taken}
-use Rattle.undo_journal.proofs.Marks.{first_step, step_after}
+use Rattle.gluing.proofs.Prelude.{refl, ap, ◌∙◌, [], ◌∷◌, on_ok_weaker, code, half, mate, minus, code-half, Mef, Kev, Kef, DraftJournal, after_steps, next_goes, next_taken, first_step, step_after}
 use Rattle.gluing.proofs.Remaining.{closing_is, closing_left}
 use Rattle.gluing.proofs.joining.close_item.Goals as goal
 

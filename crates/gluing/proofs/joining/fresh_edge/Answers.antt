@@ -1,7 +1,4 @@
-use Rattle.std.proofs.Common.{◌≡◌, ℕ, ◌+◌, ap, sym, arith}
-use Rattle.euler_operators.specs.Common.{greatest, Model}
-use Rattle.shapes.specs.Common.{taken_in, fresh_edge}
-use Rattle.shapes.proofs.Common.{greatest_is}
+use Rattle.gluing.proofs.Prelude.{◌≡◌, ℕ, ◌+◌, ap, sym, arith, greatest, Model, taken_in, fresh_edge, greatest_is}
 use Rattle.gluing.proofs.joining.fresh_edge.Goals as goal
 
 counted : (M : Model) (n : ℕ) → greatest M.edges ≡ n → n + 1 ≡ fresh_edge M

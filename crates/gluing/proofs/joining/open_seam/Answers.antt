@@ -1,10 +1,4 @@
-use Rattle.std.proofs.Common.{refl, ap, ◌∙◌, [], ◌∷◌}
-use Rattle.std.proofs.lemmas.Result.{on_ok_weaker}
-use Rattle.euler_operators.specs.Common.{At, half, plus, solid_of}
-use Rattle.euler_operators.specs.declared.Op.TheVariants.{Merge, Kfmrh, Mekr, Kev}
-use Rattle.undo_journal.specs.Journal.{DraftJournal, after_steps}
-use Rattle.euler_laws.proofs.Common.{next_goes, next_taken}
-use Rattle.undo_journal.proofs.Marks.{first_step, step_after}
+use Rattle.gluing.proofs.Prelude.{refl, ap, ◌∙◌, [], ◌∷◌, on_ok_weaker, At, half, plus, solid_of, Merge, Kfmrh, Mekr, Kev, DraftJournal, after_steps, next_goes, next_taken, first_step, step_after}
 use Rattle.gluing.proofs.Remaining.{opening_is, opening_left}
 use Rattle.gluing.proofs.joining.open_seam.Goals as goal
 

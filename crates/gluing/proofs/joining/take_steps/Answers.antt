@@ -1,13 +1,5 @@
-use Rattle.std.proofs.Common.{◌≡◌, None, ◌∙◌, ap, sym, subst}
-use Rattle.std.proofs.lemmas.Result.{on_ok_weaker}
-use Rattle.euler_operators.specs.Common.{head_or, last_or, code, half, before, after, outer, point_of, Sound, Has, HasHalf}
-use Rattle.euler_operators.proofs.Common.{half-code}
-use Rattle.euler_operators.specs.declared.Op.TheVariants.{Kef}
-use Rattle.shapes.specs.Common.{start, rim, partner, glue_refusal, fresh_edge}
+use Rattle.gluing.proofs.Prelude.{◌≡◌, None, ◌∙◌, ap, sym, subst, on_ok_weaker, head_or, last_or, code, half, before, after, outer, point_of, Sound, Has, HasHalf, half-code, Kef, start, rim, partner, glue_refusal, fresh_edge, DraftJournal, further_on, steps_make, glue_is_glued}
 use Rattle.solid_walks.proofs.face_walks_laws.HalfCodes.{codes_same, codes_differ}
-use Rattle.undo_journal.specs.Journal.{DraftJournal}
-use Rattle.undo_journal.proofs.Marks.{further_on, steps_make}
-use Rattle.gluing_laws.proofs.glue.Glued.{glue_is_glued}
 use Rattle.gluing.proofs.Opened as opened
 use Rattle.gluing.proofs.Joined as joined
 use Rattle.gluing.proofs.joining.take_steps.Goals as goal

@@ -1,6 +1,4 @@
-use Rattle.std.proofs.Common.{length}
-use Rattle.euler_operators.specs.Common.{code, cycle_of}
-use Rattle.undo_journal.specs.Journal.{IsFurther}
+use Rattle.gluing.proofs.Prelude.{length, code, cycle_of, IsFurther}
 use Rattle.gluing.proofs.Joined.{Halfway}
 use Rattle.gluing.proofs.joining.take_steps.Given as goal
 

@@ -1,6 +1,4 @@
-use Rattle.std.proofs.Common.{ap, ◌∙◌}
-use Rattle.shapes.specs.Common.{glue_model, glue_ops, glue_refusal}
-use Rattle.undo_journal.specs.Journal.{DraftJournal, after_steps}
+use Rattle.gluing.proofs.Prelude.{ap, ◌∙◌, glue_model, glue_ops, glue_refusal, DraftJournal, after_steps}
 use Rattle.gluing.proofs.joining.try_join.Goals as goal
 
 pub take_steps-requires : goal.take_steps-requires

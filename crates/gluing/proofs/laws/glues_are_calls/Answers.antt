@@ -1,8 +1,5 @@
-use Rattle.std.proofs.Common.{ap, ◌∙◌}
-use Rattle.shapes.specs.Common.{glue_ops}
-use Rattle.undo_journal.specs.Machine.{held, accepted}
+use Rattle.gluing.proofs.Prelude.{ap, ◌∙◌, glue_ops, held, accepted, glue_accepted, glue_is_glued}
 use Rattle.undo_journal.proofs.Consistent.{larger_commands_are_calls}
-use Rattle.gluing_laws.proofs.glue.Glued.{glue_accepted, glue_is_glued}
 use Rattle.gluing.proofs.laws.glues_are_calls.Goals as goal
 
 pub returns : goal.returns

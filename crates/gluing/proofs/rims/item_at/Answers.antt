@@ -1,12 +1,5 @@
-use Rattle.std.proofs.Common.{◌∙◌, ℕ, Bool, ap, sym, subst, rules, tests, of_calls, is_some, unwrap_or, option_map}
-use Rattle.std.proofs.lemmas.Iterator.Consumers.{YieldsList-from_first}
+use Rattle.gluing.proofs.Prelude.{◌∙◌, ℕ, Bool, ap, sym, subst, rules, tests, of_calls, is_some, unwrap_or, option_map, YieldsList-from_first, IsIn, same_point, code, content, outer, same_as, start, rim, serves_listed, first_is, item_at}
 use Rattle.std.proofs.lemmas.Iterator.Search.{find_from_yields_List}
-use Rattle.euler_operators.specs.Common.{IsIn, same_point, code, content, outer}
-use Rattle.euler_operators.proofs.Common.{same_as}
-use Rattle.shapes.specs.Common.{start, rim}
-use Rattle.solid_walks.proofs.face_walks_laws.Yielded.{serves_listed}
-use Rattle.solid_walks.proofs.lone_laws.Searches.{first_is}
-use Rattle.gluing.specs.Rims.{item_at}
 use Rattle.gluing.proofs.Found.{rim_held, rim_there, is_found, some_mapped}
 use Rattle.gluing.proofs.rims.item_at.Goals as goal
 

@@ -1,9 +1,5 @@
-use Rattle.std.proofs.Common.{◌∙◌, subst, rules, tests, of_calls}
+use Rattle.gluing.proofs.Prelude.{◌∙◌, subst, rules, tests, of_calls, YieldsList-from_first, YieldsList-at, code, IsIn, start, rim, serves_listed}
 use Rattle.std.proofs.lemmas.Iterator.{YieldsList-from_map, items_from_collect}
-use Rattle.std.proofs.lemmas.Iterator.Consumers.{YieldsList-from_first, YieldsList-at}
-use Rattle.euler_operators.specs.Common.{code, IsIn}
-use Rattle.shapes.specs.Common.{start, rim}
-use Rattle.solid_walks.proofs.face_walks_laws.Yielded.{serves_listed}
 use Rattle.gluing.proofs.Found.{rim_there}
 use Rattle.gluing.proofs.rims.outline.Goals as goal
 

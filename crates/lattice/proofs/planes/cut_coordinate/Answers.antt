@@ -1,6 +1,5 @@
-use Rattle.std.proofs.Common.{sym, ap, ◌∙◌, Some}
+use Rattle.lattice.proofs.Prelude.{sym, ap, ◌∙◌, Some, cast_signed}
 use mir.Syntax.{w64}
-use Rattle.std.specs.Int.{cast_signed}
 use Rattle.lattice.proofs.Crossings.{opposite_apart}
 use Rattle.lattice.proofs.Cuts.{gap_told, multiple_range, multiple_quotient}
 use Rattle.lattice.proofs.Magnitudes.{coordinate_is}

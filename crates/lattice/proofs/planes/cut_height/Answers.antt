@@ -1,8 +1,5 @@
-use Rattle.std.proofs.Common.{◌≡◌, sym, ap, ◌∙◌, subst, arith, FitsSigned}
-use Rattle.std.proofs.lemmas.Int.{to_z-of_z, fits_signed_from_abs}
+use Rattle.lattice.proofs.Prelude.{◌≡◌, sym, ap, ◌∙◌, subst, arith, FitsSigned, to_z-of_z, fits_signed_from_abs, IsWithin, height}
 use mir.Syntax.{w64}
-use Rattle.lattice.specs.Ranges.{IsWithin}
-use Rattle.lattice.specs.Vectors.{height}
 use Rattle.lattice.proofs.Magnitudes.{fits, held, held_as, held_short}
 use Rattle.lattice.proofs.Cuts.{height_within}
 use Rattle.lattice.proofs.planes.cut_height.Goals as goal

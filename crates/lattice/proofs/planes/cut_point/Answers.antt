@@ -1,5 +1,4 @@
-use Rattle.std.proofs.Common.{◌∙◌, arith}
-use Rattle.lattice.specs.Vectors.{height}
+use Rattle.lattice.proofs.Prelude.{◌∙◌, arith, height}
 use Rattle.lattice.proofs.Magnitudes.{coordinates, coordinate_held, held_within}
 use Rattle.lattice.proofs.Coordinates.{coordinate_told, opposite_told, range_told, off_x, off_y, off_z, on_all}
 use Rattle.lattice.proofs.planes.cut_point.Goals as goal

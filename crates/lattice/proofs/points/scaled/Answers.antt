@@ -1,5 +1,4 @@
-use Rattle.std.proofs.Common.{refl, arith, ◌*ℤ◌}
-use Rattle.lattice.specs.Ranges.{normal_limit}
+use Rattle.lattice.proofs.Prelude.{refl, arith, ◌*ℤ◌, normal_limit}
 use Rattle.lattice.proofs.Magnitudes.{IsExactWithin, held, scaled_told}
 use Rattle.lattice.proofs.points.scaled.Goals as goal
 

@@ -1,6 +1,5 @@
-use Rattle.std.proofs.Common.{rules, FitsSigned}
+use Rattle.lattice.proofs.Prelude.{rules, FitsSigned, moved}
 use mir.Syntax.{w64}
-use Rattle.lattice.specs.Vectors.{moved}
 use Rattle.lattice.proofs.Magnitudes.{coordinates, coordinate_sum, coordinate_sum_fits}
 use Rattle.lattice.proofs.points.sum.Goals as goal
 

@@ -1,5 +1,4 @@
-use Rattle.std.proofs.Common.{subst, sym, ap, ◌∙◌}
-use Rattle.euler_conditions.specs.Ready.{Accepts, after}
+use Rattle.low_euler.proofs.Prelude.{subst, sym, ap, ◌∙◌, Accepts, after}
 use Rattle.low_euler.proofs.Undone.{inverse_accepted, inverse_back}
 use Rattle.low_euler.proofs.applying.apply.Goals as goal
 

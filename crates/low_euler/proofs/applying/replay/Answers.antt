@@ -1,5 +1,4 @@
-use Rattle.euler_conditions.specs.Ready.{IsReady}
-use Rattle.std.proofs.Common.{subst, sym}
+use Rattle.low_euler.proofs.Prelude.{IsReady, subst, sym}
 use Rattle.low_euler.proofs.Undone.{ready_after}
 use Rattle.low_euler.proofs.applying.replay.Goals as goal
 

@@ -1,7 +1,5 @@
-use Rattle.std.proofs.Common.{ap, ◌∙◌}
+use Rattle.low_euler.proofs.Prelude.{ap, ◌∙◌, kef_goes, of_half, mate_edge_there}
 use Rattle.euler_operators.specs.Table as table
-use Rattle.euler_laws.proofs.Common.{kef_goes, of_half}
-use Rattle.euler_conditions.proofs.Known.{mate_edge_there}
 use Rattle.low_euler.proofs.Inverses.{half_then, kef_inverse}
 use Rattle.low_euler.proofs.inverse.kef.Goals as goal
 

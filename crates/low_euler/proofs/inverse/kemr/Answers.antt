@@ -1,5 +1,4 @@
-use Rattle.euler_laws.proofs.Common.{kemr_goes, of_half}
-use Rattle.euler_conditions.proofs.Known.{mate_edge_there}
+use Rattle.low_euler.proofs.Prelude.{kemr_goes, of_half, mate_edge_there}
 use Rattle.low_euler.proofs.Inverses.{kemr_inverse}
 use Rattle.low_euler.proofs.inverse.kemr.Goals as goal
 

@@ -1,8 +1,5 @@
-use Rattle.std.proofs.Common.{ap, ◌∙◌}
-use Rattle.euler_operators.specs.Common.{code}
+use Rattle.low_euler.proofs.Prelude.{ap, ◌∙◌, code, kev_goes, half_of, of_half, mate_edge_there}
 use Rattle.euler_operators.specs.Table as table
-use Rattle.euler_laws.proofs.Common.{kev_goes, half_of, of_half}
-use Rattle.euler_conditions.proofs.Known.{mate_edge_there}
 use Rattle.low_euler.proofs.Inverses.{kev_inverse}
 use Rattle.low_euler.proofs.inverse.kev.Goals as goal
 

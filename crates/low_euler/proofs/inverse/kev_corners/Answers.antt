@@ -1,6 +1,4 @@
-use Rattle.euler_laws.proofs.Common.{kev_goes, of_half}
-use Rattle.euler_conditions.proofs.Known.{mate_edge_there}
-use Rattle.std.proofs.Common.{true, false, refl, sym, ◌∙◌}
+use Rattle.low_euler.proofs.Prelude.{kev_goes, of_half, mate_edge_there, true, false, refl, sym, ◌∙◌}
 use Rattle.low_euler.proofs.Inverses.{corners}
 use Rattle.low_euler.proofs.inverse.kev_corners.Goals as goal
 

@@ -1,7 +1,4 @@
-use Rattle.std.proofs.Common.{ap}
-use Rattle.euler_operators.specs.Common.{inverse}
-use Rattle.euler_operators.specs.declared.Op.TheVariants.{Mfkrh}
-use Rattle.euler_laws.proofs.Common.{kfmrh_goes}
+use Rattle.low_euler.proofs.Prelude.{ap, inverse, Mfkrh, kfmrh_goes}
 use Rattle.low_euler.proofs.inverse.kfmrh.Goals as goal
 
 pub outer-ring-requires : goal.outer-ring-requires

@@ -1,6 +1,5 @@
-use Rattle.std.proofs.Common.{is_some, true≢false, sym, ap, ◌∙◌}
+use Rattle.low_euler.proofs.Prelude.{is_some, true≢false, sym, ap, ◌∙◌, content, is_lone, lone_vertex}
 use Rattle.euler_operators.specs.Table as table
-use Rattle.euler_operators.specs.Common.{content, is_lone, lone_vertex}
 use Rattle.low_euler.proofs.vertex_operators_laws.SolidRows as rows
 use Rattle.low_euler.proofs.Inverses.{kvfs_inverse}
 use Rattle.low_euler.proofs.inverse.kvfs.Goals as goal

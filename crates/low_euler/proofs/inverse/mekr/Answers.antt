@@ -1,7 +1,4 @@
-use Rattle.std.proofs.Common.{ap}
-use Rattle.euler_operators.specs.Common.{inverse}
-use Rattle.euler_operators.specs.declared.Op.TheVariants.{Kemr}
-use Rattle.euler_laws.proofs.Common.{mekr_holds}
+use Rattle.low_euler.proofs.Prelude.{ap, inverse, Kemr, mekr_holds}
 use Rattle.low_euler.proofs.inverse.mekr.Goals as goal
 
 pub corner_loop-ring-requires-clause-known : goal.corner_loop-ring-requires-clause-known

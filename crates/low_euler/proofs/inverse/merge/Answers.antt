@@ -1,7 +1,4 @@
-use Rattle.std.proofs.Common.{ap}
-use Rattle.euler_operators.specs.Common.{inverse}
-use Rattle.euler_operators.specs.declared.Op.TheVariants.{Part}
-use Rattle.euler_laws.proofs.Common.{merge_goes}
+use Rattle.low_euler.proofs.Prelude.{ap, inverse, Part, merge_goes}
 use Rattle.low_euler.proofs.inverse.merge.Goals as goal
 
 pub in_use-requires : goal.in_use-requires

@@ -1,7 +1,4 @@
-use Rattle.std.proofs.Common.{ap}
-use Rattle.euler_operators.specs.Common.{inverse}
-use Rattle.euler_operators.specs.declared.Op.TheVariants.{Kfmrh}
-use Rattle.euler_laws.proofs.Common.{mfkrh_goes}
+use Rattle.low_euler.proofs.Prelude.{ap, inverse, Kfmrh, mfkrh_goes}
 use Rattle.low_euler.proofs.inverse.mfkrh.Goals as goal
 
 pub face_of-requires : goal.face_of-requires

@@ -1,8 +1,5 @@
-use Rattle.std.proofs.Common.{ap, ◌∙◌}
-use Rattle.euler_operators.specs.Common.{inverse, outer}
+use Rattle.low_euler.proofs.Prelude.{ap, ◌∙◌, inverse, outer, RingOut, outer_goes_so}
 use Rattle.euler_operators.specs.Table as table
-use Rattle.euler_operators.specs.declared.Op.TheVariants.{RingOut}
-use Rattle.euler_laws.proofs.Common.{outer_goes_so}
 use Rattle.low_euler.proofs.inverse.outer.Goals as goal
 
 pub face_of-home-requires : goal.face_of-home-requires

@@ -1,7 +1,4 @@
-use Rattle.std.proofs.Common.{ap, ◌∙◌}
-use Rattle.euler_operators.specs.Common.{inverse, outer}
-use Rattle.euler_operators.specs.declared.Op.TheVariants.{Outer}
-use Rattle.euler_laws.proofs.Common.{ring_out_goes}
+use Rattle.low_euler.proofs.Prelude.{ap, ◌∙◌, inverse, outer, Outer, ring_out_goes}
 use Rattle.low_euler.proofs.inverse.ring_out.Goals as goal
 
 pub outer-old-requires : goal.outer-old-requires

@@ -1,6 +1,4 @@
-use Rattle.std.proofs.Common.{ℕ, ap, sym, subst, ◌∙◌, ◌≡◌, List, IfOk}
-use Rattle.euler_operators.specs.declared.Op.{Op}
-use Rattle.low_euler.specs.Room.{faces_for}
+use Rattle.low_euler.proofs.Prelude.{ℕ, ap, sym, subst, ◌∙◌, ◌≡◌, List, IfOk, Op, faces_for}
 use Rattle.low_euler.proofs.making.faces_for.Goals as goal
 
 pub returns-in-Merge-clause-listed : goal.returns-in-Merge-clause-listed

@@ -1,5 +1,4 @@
-use Rattle.std.proofs.lemmas.Result.{on_ok_weaker}
-use Rattle.euler_operators.proofs.Common.{number_fits}
+use Rattle.low_euler.proofs.Prelude.{on_ok_weaker, number_fits}
 use Rattle.low_euler.proofs.Made.{least}
 use Rattle.low_euler.proofs.making.grow.Goals as goal
 

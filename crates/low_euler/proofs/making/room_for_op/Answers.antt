@@ -1,7 +1,4 @@
-use Rattle.std.proofs.Common.{refl, sym, subst, OnOk}
-use Rattle.euler_operators.specs.declared.Op.{Op}
-use Rattle.euler_conditions.specs.Ready.{HasRoomFor, made}
-use Rattle.low_euler.specs.Room.{AllFit}
+use Rattle.low_euler.proofs.Prelude.{refl, sym, subst, OnOk, Op, HasRoomFor, made, AllFit}
 use Rattle.low_euler.proofs.Made.{made_fit}
 use Rattle.low_euler.proofs.making.room_for_op.Goals as goal
 

@@ -1,6 +1,5 @@
 use Rattle.std.specs.Prelude.{[], ◌∷◌}
-use Rattle.std.proofs.lemmas.Bool.{false≢true}
-use Rattle.euler_operators.specs.Common.{Solid, Face, Loop, Vertex}
+use Rattle.low_euler.proofs.Prelude.{false≢true, Solid, Face, Loop, Vertex}
 use Rattle.low_euler.proofs.Made.{makes_more}
 use Rattle.low_euler.proofs.making.room_for_solid.Goals as goal
 

@@ -1,7 +1,4 @@
-use Rattle.std.proofs.Common.{◌++◌, ◌∷◌, [], List, ℕ, sym, ap, subst, ◌∙◌, append_assoc}
-use Rattle.euler_operators.specs.Common.{faces_of}
-use Rattle.euler_operators.proofs.Common.{no_cons, both_empty}
-use Rattle.euler_conditions.specs.Store.{IsNextFace}
+use Rattle.low_euler.proofs.Prelude.{◌++◌, ◌∷◌, [], List, ℕ, sym, ap, subst, ◌∙◌, append_assoc, faces_of, no_cons, both_empty, IsNextFace}
 use Rattle.low_euler.proofs.Faces.{faces_above, next_faces, no_faces, all_faces, all_met}
 use Rattle.low_euler.proofs.moving.faces_of.Goals as goal
 

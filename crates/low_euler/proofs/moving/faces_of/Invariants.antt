@@ -1,5 +1,4 @@
-use Rattle.std.proofs.Common.{◌≡◌, ◌-◌, ◌++◌}
-use Rattle.euler_operators.specs.Common.{faces_of}
+use Rattle.low_euler.proofs.Prelude.{◌≡◌, ◌-◌, ◌++◌, faces_of}
 use Rattle.low_euler.proofs.Faces.{faces_above}
 use Rattle.low_euler.proofs.moving.faces_of.Given as goal
 

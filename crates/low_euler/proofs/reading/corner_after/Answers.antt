@@ -1,5 +1,5 @@
-use Rattle.std.proofs.Common.{◌≡◌, true, false, cond, nat_eq, sym, ap, ◌∙◌}
-use Rattle.euler_operators.specs.Common.{code, half, after, At, Lone}
+use Rattle.low_euler.proofs.Prelude.{◌≡◌, true, false, cond, nat_eq, sym, ap, ◌∙◌, code, half, At, Lone}
+use Rattle.euler_operators.specs.Common.{after}
 use Rattle.low_euler.proofs.Inverses.{half_then}
 use Rattle.low_euler.proofs.reading.corner_after.Goals as goal
 

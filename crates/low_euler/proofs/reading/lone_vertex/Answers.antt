@@ -1,7 +1,5 @@
-use Rattle.std.proofs.Common.{◌≡◌, ℕ, true, true≢false, sym, ap, ◌∙◌}
-use Rattle.euler_operators.specs.Common.{LoopContent, lone, cycle, is_lone, lone_vertex, HalfEdge}
+use Rattle.low_euler.proofs.Prelude.{◌≡◌, ℕ, true, true≢false, sym, ap, ◌∙◌, LoopContent, lone, cycle, is_lone, lone_vertex, HalfEdge, Tells}
 use Rattle.euler_operators.specs.declared.Content.TheVariants as Content
-use Rattle.euler_conditions.specs.Store.{Tells}
 use Rattle.low_euler.proofs.reading.lone_vertex.Goals as goal
 
 told : (k : LoopContent) (v : ℕ) → Tells k (Content.Lone v) → v ≡ lone_vertex k

@@ -1,7 +1,4 @@
-use Rattle.std.proofs.Common.{◌≡◌, Some, Result, IfErr, ap, subst, ◌∙◌}
-use Rattle.euler_operators.specs.Common.{first_refusal}
-use Rattle.euler_operators.specs.declared.Refusal.{Refusal}
-use Rattle.shapes.specs.Common.{first_conditions}
+use Rattle.plane_split.proofs.Prelude.{◌≡◌, Some, Result, IfErr, ap, subst, ◌∙◌, first_refusal, Refusal, first_conditions}
 use Rattle.split_drawing.specs.declared.Cuts.{Cuts}
 use Rattle.plane_split.proofs.Conditions.{same_refusal, refused_first}
 use Rattle.plane_split.proofs.command.admit.Goals as goal

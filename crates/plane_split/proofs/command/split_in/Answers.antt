@@ -1,8 +1,5 @@
-use Rattle.std.proofs.Common.{◌≡◌, sym, ◌∙◌}
+use Rattle.plane_split.proofs.Prelude.{◌≡◌, sym, ◌∙◌, split_refusal, early_refusal, none_early}
 use Rattle.undo_journal.specs.declared.session.Failure.TheVariants as failure
-use Rattle.shapes.specs.Common.{split_refusal}
-use Rattle.split_checks.specs.begin_checks.Conditions.{early_refusal}
-use Rattle.split_checks.proofs.begin_checks_laws.Stages.{none_early}
 use Rattle.plane_split.proofs.Conditions.{same_failure}
 use Rattle.plane_split.proofs.Planes.{plane_is}
 use Rattle.plane_split.proofs.command.split_in.Goals as goal

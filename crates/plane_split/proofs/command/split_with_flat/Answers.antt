@@ -1,12 +1,5 @@
-use Rattle.std.proofs.Common.{◌≡◌, sym, ap, ◌∙◌}
+use Rattle.plane_split.proofs.Prelude.{◌≡◌, sym, ap, ◌∙◌, accepted, Journal, after_steps, split_ops, split_refusal, split_model, early_refusal, none_early, further_recorded, further_session, steps_recorded}
 use Rattle.undo_journal.specs.declared.session.Failure.TheVariants as failure
-use Rattle.undo_journal.specs.Machine.{accepted}
-use Rattle.undo_journal.specs.Journal.{Journal, after_steps}
-use Rattle.split_laws.specs.SplitOps.{split_ops}
-use Rattle.shapes.specs.Common.{split_refusal, split_model}
-use Rattle.split_checks.specs.begin_checks.Conditions.{early_refusal}
-use Rattle.split_checks.proofs.begin_checks_laws.Stages.{none_early}
-use Rattle.undo_journal.proofs.Marks.{further_recorded, further_session, steps_recorded}
 use Rattle.plane_split.proofs.Conditions.{same_failure}
 use Rattle.plane_split.proofs.Planes.{plane_is}
 use Rattle.plane_split.proofs.command.split_with_flat.Goals as goal

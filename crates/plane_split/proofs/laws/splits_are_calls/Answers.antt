@@ -1,8 +1,5 @@
-use Rattle.std.proofs.Common.{ap, ◌∙◌}
-use Rattle.split_laws.specs.SplitOps.{split_ops}
-use Rattle.undo_journal.specs.Machine.{held, accepted}
+use Rattle.plane_split.proofs.Prelude.{ap, ◌∙◌, split_ops, held, accepted, split_accepted, split_made}
 use Rattle.undo_journal.proofs.Consistent.{larger_commands_are_calls}
-use Rattle.split_laws.proofs.Whole.{split_accepted, split_made}
 use Rattle.plane_split.proofs.laws.splits_are_calls.Goals as goal
 
 pub returns : goal.returns

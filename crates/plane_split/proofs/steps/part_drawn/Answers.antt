@@ -1,8 +1,4 @@
-use Rattle.std.proofs.Common.{◌∙◌, ap}
-use Rattle.std.proofs.lemmas.Result.{on_ok_weaker}
-use Rattle.undo_journal.specs.Journal.{after_steps}
-use Rattle.undo_journal.proofs.Marks.{steps_after}
-use Rattle.plane_split.specs.solid_opening.Capped.{all_caps}
+use Rattle.plane_split.proofs.Prelude.{◌∙◌, ap, on_ok_weaker, after_steps, steps_after, all_caps}
 use Rattle.plane_split.proofs.Parted.{section_opens, upper_leads, later_ops_are}
 use Rattle.plane_split.proofs.steps.part_drawn.Goals as goal
 

@@ -1,12 +1,5 @@
-use Rattle.std.proofs.Common.{[], Ok, sym, ap, subst, ◌∙◌}
-use Rattle.euler_operators.specs.Common.{verdict}
-use Rattle.shapes.proofs.split.Facts.{split_begins}
-use Rattle.split_laws.proofs.Whole.{split_made}
-use Rattle.undo_journal.specs.Journal.{after_steps}
-use Rattle.undo_journal.proofs.Marks.{steps_after, steps_make}
+use Rattle.plane_split.proofs.Prelude.{[], Ok, sym, ap, subst, ◌∙◌, verdict, split_begins, split_made, after_steps, steps_after, steps_make, drawing_of, IsSection}
 use Rattle.split_drawing.specs.Noted.{AreSides}
-use Rattle.split_drawing.specs.Progress.{drawing_of}
-use Rattle.split_sections.specs.section_checks.Sections.{IsSection}
 use Rattle.plane_split.proofs.Conditions.{still_there, later_decide}
 use Rattle.plane_split.proofs.Parted.{split_ops_are}
 use Rattle.plane_split.proofs.steps.take_steps.Goals as goal

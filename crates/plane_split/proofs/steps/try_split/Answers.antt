@@ -1,9 +1,4 @@
-use Rattle.std.proofs.Common.{Ok, Err, sym, ap, ◌∙◌}
-use Rattle.euler_operators.specs.Common.{verdict}
-use Rattle.shapes.specs.Common.{split_refusal, split_model}
-use Rattle.undo_journal.specs.Journal.{DraftJournal, after_steps}
-use Rattle.split_laws.specs.SplitOps.{split_ops}
-use Rattle.euler_laws.proofs.Common.{verdict_passed, verdict_failed}
+use Rattle.plane_split.proofs.Prelude.{Ok, Err, sym, ap, ◌∙◌, verdict, split_refusal, split_model, DraftJournal, after_steps, split_ops, verdict_passed, verdict_failed}
 use Rattle.plane_split.proofs.Conditions.{same_refusal}
 use Rattle.plane_split.proofs.steps.try_split.Goals as goal
 

@@ -35,17 +35,12 @@ use denote.Triple.Entry.{on_entry}
 use denote.Triple.Spec.{Meets, triple_of}
 use denote.Triple.Table.{entered}
 use denote.Triple.Walked.{says, needs, Stays, stay_dropped, walk_of, ends_at, Goes-dropped, walk_Meets}
-use Rattle.std_alloc.proofs.VecSteps.Shapes.{after}
-use Rattle.std_alloc.proofs.RcSteps.{Good, word, word-Good}
+use Rattle.raw_cells.proofs.Prelude.{after, Good, word, word-Good, IfOk, Ok, Err, El, R, elτ, as_written, slots, sz, mark, word_made, Al, second, Answer-typed, takes_key, Takes, at_takes, Answered, Takes-goes, Takes-gives, answers, uncapped, block_ty, block_size, block_align, P, head, arm_body, first_Good, three_val, three_of, of_room}
 use lib.ListN.{length}
 use types.Kit.{flt_l, flt_i}
 use types.Run.{bin}
 use denote.Builtin.{usize}
-use Rattle.std.specs.Prelude.{None, IfOk, Ok, Err}
-use Rattle.core.proofs.mem.Param.{El, R, elτ}
-use Rattle.std_alloc.proofs.RawLayout.{as_written}
-use Rattle.circular_buffer.specs.Ownership.{slots}
-use Rattle.circular_buffer.proofs.Memory.{sz, mark, word_made}
+use Rattle.std.specs.Prelude.{None}
 use Rattle.raw_cells.proofs.Memory.{Pl, Bs, Mark, mark_made}
 use base.Fml.{Incl-trans}
 use lib.ListN.{replicate, length-replicate}
@@ -70,12 +65,8 @@ use denote.Triple.Call.{calls_at}
 use Rattle.std.specs.Vec.Ownership.{FitsInBlock}
 use Rattle.core.specs.contracts.result.Result as RS
 use Rattle.core.specs.contracts.alloc.AllocError as AE
-use Rattle.core.proofs.alloc.Calls.{Al, second, Answer-typed, takes_key, Takes, at_takes, Answered, Takes-goes, Takes-gives, answers}
-use Rattle.core.proofs.slots.Leases.{uncapped, block_ty, block_size, block_align, args, P}
-use Rattle.std_alloc.proofs.VecSteps.Shapes.{head, arm_body}
+use Rattle.core.proofs.slots.Leases.{args}
 use Rattle.std_alloc.proofs.ResultValues.{ok_of, err_of}
-use Rattle.std_alloc.proofs.RcSteps.{first_Good}
-use Rattle.circular_buffer.proofs.Memory.{three_val, three_of, of_room}
 use Rattle.raw_cells.specs.contracts.block.Deed as D-type
 use Rattle.raw_cells.specs.contracts.block.allocate as F
 use Rattle.raw_cells.specs.contracts.block.allocate.Key.{name as #self}

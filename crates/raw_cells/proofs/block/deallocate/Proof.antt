@@ -31,18 +31,11 @@ use denote.Triple.Entry.{on_entry}
 use denote.Triple.Spec.{Meets, triple_of}
 use denote.Triple.Table.{entered}
 use denote.Triple.Walked.{needs, Stays, stay_dropped, walk_of, ends_at, Goes-dropped, walk_Meets}
-use Rattle.core.proofs.alloc.Calls.{Goes-blank}
-use Rattle.std_alloc.proofs.VecSteps.Shapes.{after}
-use Rattle.std_alloc.proofs.RcSteps.{word, word-Good}
+use Rattle.raw_cells.proofs.Prelude.{Goes-blank, after, word, word-Good, El, R, elτ, as_raw, slots, places_own, sz, mark, word_had, Al, second, token, gives_key, Gives, at_gives, Gives-goes, Gives-Gives, uncapped, block_ty, block_size, block_align, P, deed_owns, to_room}
 use types.Kit.{flt_l}
 use types.Run.{bin}
 use denote.Builtin.{usize}
 use Rattle.std.specs.Prelude.{None}
-use Rattle.core.proofs.mem.Param.{El, R, elτ}
-use Rattle.std_alloc.proofs.RawLayout.{as_raw}
-use Rattle.circular_buffer.specs.Ownership.{slots}
-use Rattle.raw_cells.specs.Ownership.{places_own}
-use Rattle.circular_buffer.proofs.Memory.{sz, mark, word_had}
 use Rattle.raw_cells.proofs.Memory.{Pl, Bs, mark_had, no_places, emptied}
 use base.Fml.{Incl-trans}
 use lib.Dec.{T}
@@ -59,10 +52,7 @@ use types.Run.{size_word, align_word}
 use types.ByLocal.{lands_last}
 use denote.Triple.Statement.{Triple}
 use denote.Triple.Call.{calls_at_last}
-use Rattle.core.proofs.alloc.Calls.{Al, second, token, gives_key, Gives, at_gives, Gives-goes, Gives-Gives}
-use Rattle.core.proofs.slots.Leases.{uncapped, block_ty, block_size, block_align, args, P}
-use Rattle.raw_cells.specs.Ownership.{deed_owns}
-use Rattle.circular_buffer.proofs.Memory.{to_room}
+use Rattle.core.proofs.slots.Leases.{args}
 use Rattle.raw_cells.specs.contracts.block.Deed as D-type
 use Rattle.raw_cells.specs.contracts.block.deallocate as F
 use Rattle.raw_cells.specs.contracts.block.deallocate.Key.{name as #self}

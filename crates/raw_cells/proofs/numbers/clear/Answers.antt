@@ -1,5 +1,4 @@
-use Rattle.std.proofs.Common.{◌*◌, ◌/◌, ◌%◌, ◌^◌, bit_and, w64, length-set, get_or-set_other}
-use Rattle.std.specs.Int.{bit_not}
+use Rattle.raw_cells.proofs.Prelude.{◌*◌, ◌/◌, ◌%◌, ◌^◌, bit_and, w64, length-set, get_or-set_other, bit_not}
 use Rattle.raw_cells.proofs.numbers_laws.Words.{uses_cleared}
 use Rattle.raw_cells.proofs.numbers.clear.Goals as goal
 

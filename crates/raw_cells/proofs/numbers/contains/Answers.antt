@@ -1,7 +1,4 @@
-use Rattle.std.proofs.Common.{sym, ap, ◌∙◌, ◌%◌, ◌/◌, ◌≤◌, ◌<◌, length, arith}
-use Rattle.std.proofs.lemmas.Bool.Decides.{nat_tests}
-use Rattle.std.proofs.lemmas.Grind.{get_or_default_zero}
-use Rattle.raw_cells.specs.Numbers.{is_set}
+use Rattle.raw_cells.proofs.Prelude.{sym, ap, ◌∙◌, ◌%◌, ◌/◌, ◌≤◌, ◌<◌, length, arith, nat_tests, get_or_default_zero, is_set}
 use Rattle.raw_cells.proofs.numbers_laws.Words.{uses_is, uses_past}
 use Rattle.raw_cells.proofs.numbers.contains.Goals as goal
 

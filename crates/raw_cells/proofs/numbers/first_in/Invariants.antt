@@ -1,5 +1,4 @@
-use Rattle.std.proofs.Common.{◌≡◌, ◌≤◌, ◌<◌, ℕ, false}
-use Rattle.raw_cells.specs.Numbers.{has_bits}
+use Rattle.raw_cells.proofs.Prelude.{◌≡◌, ◌≤◌, ◌<◌, ℕ, false, has_bits}
 use Rattle.raw_cells.proofs.numbers.first_in.Given as goal
 
 abbrev pub invariant-loop-i : goal.invariant-loop-i

@@ -1,5 +1,4 @@
-use Rattle.std.proofs.Common.{◌<◌, ap, arith, subst, ◌∙◌}
-use Rattle.raw_cells.specs.Numbers.{is_set}
+use Rattle.raw_cells.proofs.Prelude.{◌<◌, ap, arith, subst, ◌∙◌, is_set}
 use Rattle.raw_cells.proofs.numbers_laws.Bits.{highest_turned, highest_set, highest_none}
 use Rattle.raw_cells.proofs.numbers.highest.Goals as goal
 

@@ -1,5 +1,4 @@
-use Rattle.std.proofs.Common.{◌≡◌, ◌≤◌, ◌<◌, ℕ, false, length}
-use Rattle.raw_cells.specs.Numbers.{has_bits}
+use Rattle.raw_cells.proofs.Prelude.{◌≡◌, ◌≤◌, ◌<◌, ℕ, false, length, has_bits}
 use Rattle.raw_cells.proofs.numbers.last_sought.Given as goal
 
 abbrev pub invariant-down : goal.invariant-down

@@ -1,6 +1,4 @@
-use Rattle.std.proofs.Common.{ap, ◌∙◌, arith}
-use Rattle.std.specs.ControlFlow.{continue_value}
-use Rattle.raw_cells.specs.Numbers.{uses}
+use Rattle.raw_cells.proofs.Prelude.{ap, ◌∙◌, arith, continue_value, uses}
 use Rattle.raw_cells.proofs.numbers_laws.Levels.{next_end, next_on}
 use Rattle.raw_cells.proofs.numbers_laws.Words.{uses_past}
 use Rattle.raw_cells.proofs.numbers_laws.Summed.{has_summary}

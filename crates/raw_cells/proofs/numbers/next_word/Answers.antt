@@ -1,6 +1,4 @@
-use Rattle.std.proofs.Common.{ap, ◌∙◌}
-use Rattle.std.specs.ControlFlow.{continue_value}
-use Rattle.raw_cells.specs.Numbers.{uses, has_bits}
+use Rattle.raw_cells.proofs.Prelude.{ap, ◌∙◌, continue_value, uses, has_bits}
 use Rattle.raw_cells.proofs.numbers_laws.Levels.{next_end, next_on}
 use Rattle.raw_cells.proofs.numbers_laws.Summed.{none_in_word, next_of_all}
 use Rattle.raw_cells.proofs.numbers.next_word.Goals as goal

@@ -1,6 +1,4 @@
-use Rattle.std.proofs.Common.{◌≡◌, ◌<◌, ◌/◌, arith, ◌∙◌}
-use Rattle.std.proofs.lemmas.Grind.{get_or_default_zero}
-use Rattle.raw_cells.specs.Numbers.{word_at}
+use Rattle.raw_cells.proofs.Prelude.{◌≡◌, ◌<◌, ◌/◌, arith, ◌∙◌, get_or_default_zero, word_at}
 use Rattle.raw_cells.proofs.numbers_laws.Summed.{put-kept, put-turned}
 use Rattle.raw_cells.proofs.numbers.put.Goals as goal
 

@@ -1,5 +1,4 @@
-use Rattle.std.proofs.Common.{ap, length, arith}
-use Rattle.raw_cells.specs.Numbers.{word_at}
+use Rattle.raw_cells.proofs.Prelude.{ap, length, arith, word_at}
 use Rattle.raw_cells.proofs.numbers.reach.Goals as goal
 
 pub returns-in_err-resize-clause-same : goal.returns-in_err-resize-clause-same

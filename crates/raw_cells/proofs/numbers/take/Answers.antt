@@ -1,6 +1,4 @@
-use Rattle.std.proofs.Common.{◌≡◌, ◌<◌, ◌/◌, length, sym, arith, ◌∙◌}
-use Rattle.std.proofs.lemmas.Grind.{get_or_default_zero}
-use Rattle.raw_cells.specs.Numbers.{word_at}
+use Rattle.raw_cells.proofs.Prelude.{◌≡◌, ◌<◌, ◌/◌, length, sym, arith, ◌∙◌, get_or_default_zero, word_at}
 use Rattle.raw_cells.proofs.numbers_laws.Summed.{take-kept, take-turned}
 use Rattle.raw_cells.proofs.numbers.take.Goals as goal
 

@@ -1,7 +1,4 @@
-use Rattle.std.proofs.Common.{◌∙◌, arith, refl, inl, inr, ap, sym}
-use Rattle.std.proofs.lemmas.Bool.{cases_eq}
-use Rattle.raw_cells.specs.Numbers.{uses}
-use Rattle.raw_cells.specs.Rows.{row_at}
+use Rattle.raw_cells.proofs.Prelude.{◌∙◌, arith, refl, inl, inr, ap, sym, cases_eq, uses, row_at}
 use Rattle.raw_cells.proofs.rows.copy_rows.Goals as goal
 
 pub rows-init : goal.rows-init

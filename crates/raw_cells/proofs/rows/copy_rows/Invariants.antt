@@ -1,6 +1,4 @@
-use Rattle.std.proofs.Common.{◌≡◌, ℕ, ◌<◌, true, length}
-use Rattle.raw_cells.specs.Numbers.{uses}
-use Rattle.raw_cells.specs.Rows.{row_at}
+use Rattle.raw_cells.proofs.Prelude.{◌≡◌, ℕ, ◌<◌, true, length, uses, row_at}
 use Rattle.raw_cells.proofs.rows.copy_rows.Given as goal
 
 abbrev pub invariant-rows : goal.invariant-rows

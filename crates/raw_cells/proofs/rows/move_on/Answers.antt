@@ -1,5 +1,4 @@
-use Rattle.std.proofs.Common.{ap, ◌∙◌, length, arith}
-use Rattle.std.proofs.lemmas.List.{length-replicate}
+use Rattle.raw_cells.proofs.Prelude.{ap, ◌∙◌, length, arith, length-replicate}
 use Rattle.raw_cells.proofs.rows.move_on.Goals as goal
 
 pub with_count-requires : goal.with_count-requires

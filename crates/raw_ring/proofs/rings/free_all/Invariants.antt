@@ -1,5 +1,4 @@
-use Rattle.std.proofs.Common.{◌+◌, ◌-◌, length}
-use Rattle.raw_ring.specs.Tied.{IsLeft}
+use Rattle.raw_ring.proofs.Prelude.{◌+◌, ◌-◌, length, IsLeft}
 use Rattle.raw_ring.proofs.rings.free_all.Given as goal
 
 abbrev pub invariant-codes : goal.invariant-codes

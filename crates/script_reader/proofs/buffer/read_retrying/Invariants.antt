@@ -1,5 +1,4 @@
-use Rattle.std.proofs.Common.{◌≡◌, length}
-use Rattle.std.specs.Io.KnownBytes.{Keeps}
+use Rattle.script_reader.proofs.Prelude.{◌≡◌, length, Keeps}
 use Rattle.script_reader.proofs.buffer.read_retrying.Given as goal
 
 abbrev pub invariant-tries : goal.invariant-tries

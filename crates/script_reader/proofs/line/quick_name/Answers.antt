@@ -1,6 +1,4 @@
-use Rattle.std.proofs.Common.{ap}
-use Rattle.script_reader.specs.Grammar.{opening_of}
-use Rattle.script_reader.specs.Words.{words}
+use Rattle.script_reader.proofs.Prelude.{ap, opening_of, words}
 use Rattle.script_reader.proofs.NameLaws.{begins_four}
 use Rattle.script_reader.proofs.line.quick_name.Goals as goal
 

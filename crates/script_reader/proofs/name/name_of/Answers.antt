@@ -1,5 +1,4 @@
-use Rattle.std.proofs.Common.{sym, ap}
-use Rattle.script_reader.specs.Grammar.{name_of}
+use Rattle.script_reader.proofs.Prelude.{sym, ap, name_of}
 use Rattle.script_reader.proofs.NameLaws.{of_three, of_four, of_five, of_six}
 use Rattle.script_reader.proofs.name.name_of.Goals as goal
 

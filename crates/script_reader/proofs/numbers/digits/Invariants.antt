@@ -1,5 +1,4 @@
-use Rattle.std.proofs.Common.{◌≡◌, ◌^◌, length}
-use Rattle.script_reader.specs.Numbers.{digits_after}
+use Rattle.script_reader.proofs.Prelude.{◌≡◌, ◌^◌, length, digits_after}
 use Rattle.script_reader.proofs.numbers.digits.Given as goal
 
 abbrev pub invariant-loop-rest : goal.invariant-loop-rest

@@ -1,6 +1,4 @@
-use Rattle.std.proofs.Common.{◌≡◌, Some, rules}
-use Rattle.script_reader.specs.Words.{first_by}
-use Rattle.script_reader.specs.Numbers.{integer_of}
+use Rattle.script_reader.proofs.Prelude.{◌≡◌, Some, rules, first_by, integer_of}
 use Rattle.script_reader.proofs.NumberLaws.{minus}
 use Rattle.script_reader.proofs.numbers.integer_of.Goals as goal
 

@@ -1,8 +1,5 @@
-use Rattle.std.proofs.Common.{rules, arith, ◌≢◌, [], length, ◌<◌, length-append}
+use Rattle.script_reader.proofs.Prelude.{rules, arith, ◌≢◌, [], length, ◌<◌, length-append, common_steps, words, points_of}
 use Rattle.std.proofs.lemmas.Result.{err_from_is_err_and}
-use Rattle.std.proofs.lemmas.Grind.{common_steps}
-use Rattle.script_reader.specs.Words.{words}
-use Rattle.script_reader.specs.Places.{points_of}
 use Rattle.script_reader.proofs.PointLaws.{goes_on, ends, begins}
 use Rattle.script_reader.proofs.places.points.Goals as goal
 

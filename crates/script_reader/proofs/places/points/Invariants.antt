@@ -1,6 +1,4 @@
-use Rattle.std.proofs.Common.{◌≡◌, ◌≤◌, ◌-◌, length}
-use Rattle.script_reader.specs.Words.{words}
-use Rattle.script_reader.specs.Places.{points_of}
+use Rattle.script_reader.proofs.Prelude.{◌≡◌, ◌≤◌, ◌-◌, length, words, points_of}
 use Rattle.script_reader.proofs.PointLaws.{with_front}
 use Rattle.script_reader.proofs.places.points.Given as goal
 

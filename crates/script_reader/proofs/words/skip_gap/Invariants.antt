@@ -1,5 +1,4 @@
-use Rattle.std.proofs.Common.{◌≡◌, length}
-use Rattle.script_reader.specs.Words.{words}
+use Rattle.script_reader.proofs.Prelude.{◌≡◌, length, words}
 use Rattle.script_reader.proofs.words.skip_gap.Given as goal
 
 abbrev pub invariant-loop-rest : goal.invariant-loop-rest

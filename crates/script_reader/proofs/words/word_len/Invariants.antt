@@ -1,5 +1,4 @@
-use Rattle.std.proofs.Common.{◌≡◌, ◌+◌, drop}
-use Rattle.script_reader.specs.Words.{word_len}
+use Rattle.script_reader.proofs.Prelude.{◌≡◌, ◌+◌, drop, word_len}
 use Rattle.script_reader.proofs.words.word_len.Given as goal
 
 abbrev pub invariant-loop-i : goal.invariant-loop-i

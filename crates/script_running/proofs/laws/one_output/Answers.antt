@@ -1,7 +1,4 @@
-use Rattle.std.proofs.Common.{ℕ, List, sym, subst}
-use Rattle.script_running.specs.Outs.{Outs}
-use Rattle.script_running.specs.Output.{summary_from}
-use Rattle.script_running.specs.Common.{Summary}
+use Rattle.script_running.proofs.Prelude.{ℕ, List, sym, subst, Outs, summary_from, Summary}
 use Rattle.script_running.proofs.Outputs.{outs_so, outs_to, summary_quiet}
 use Rattle.script_running.proofs.laws.one_output.Goals as goal
 

@@ -1,7 +1,4 @@
-use Rattle.std.proofs.Common.{Ok}
-use Rattle.std.proofs.KnownBytes.{Appends-kept}
-use Rattle.script_running.specs.Common.{RunFault}
-use Rattle.solid_listing.proofs.TellingLaws.{released}
+use Rattle.script_running.proofs.Prelude.{Ok, Appends-kept, RunFault, released}
 use Rattle.script_running.proofs.running.bring_out.Goals as goal
 
 pub returns-in-Ok-hand_on-clause-tells : goal.returns-in-Ok-hand_on-clause-tells

@@ -1,5 +1,4 @@
-use Rattle.std.proofs.Common.{Ok, rules}
-use Rattle.std.proofs.KnownBytes.{Consumes-nil}
+use Rattle.script_running.proofs.Prelude.{Ok, rules, Consumes-nil}
 use Rattle.script_running.proofs.Reaching.{finished as reached_at_the_end}
 use Rattle.script_running.proofs.RunLaws.{from_start, finished, nothing_begins}
 use Rattle.script_running.proofs.running.run_in.Goals as goal

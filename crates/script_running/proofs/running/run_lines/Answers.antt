@@ -1,6 +1,4 @@
-use Rattle.std.proofs.Common.{◌≡◌, ◌+◌, ℕ, refl, sym, ap, subst, ◌∙◌, arith}
-use Rattle.script_running.specs.Common.{Summary, new_journal, outgoing, reader_of}
-use Rattle.script_running.specs.script_judging.Judging.{no_lines}
+use Rattle.script_running.proofs.Prelude.{◌≡◌, ◌+◌, ℕ, refl, sym, ap, subst, ◌∙◌, arith, Summary, new_journal, outgoing, reader_of, no_lines}
 use Rattle.script_running.proofs.Counting.{IsWithin, same_counts, counted_within, one_more}
 use Rattle.script_running.proofs.RunLaws.{Progress, Heard, begins, flushed, turn_of, goes_on, heard_line, heard_long, ends, read_fails, too_long, telling_fails, stops_there, flush_fails, falls}
 use Rattle.script_running.proofs.running.run_lines.Goals.{in-Line, in-Long}

@@ -1,5 +1,4 @@
-use Rattle.std.proofs.Common.{◌+◌, ◌≤◌}
-use Rattle.script_running.specs.Common.{outgoing, reader_of, taken_of, to_come, unread_of}
+use Rattle.script_running.proofs.Prelude.{◌+◌, ◌≤◌, outgoing, reader_of, taken_of, to_come, unread_of}
 use Rattle.script_running.proofs.Counting.{IsWithin}
 use Rattle.script_running.proofs.RunLaws.{IsAt}
 use Rattle.script_running.proofs.running.run_lines.Given as goal

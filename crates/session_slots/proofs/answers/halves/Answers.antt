@@ -1,5 +1,4 @@
-use Rattle.std.proofs.Common.{arith}
-use Rattle.std.proofs.lemmas.Grind.{common_steps}
+use Rattle.session_slots.proofs.Prelude.{arith, common_steps}
 use Rattle.session_slots.proofs.answers.halves.Goals as goal
 
 pub returns-else-number-ge0 : goal.returns-else-number-ge0

@@ -1,5 +1,4 @@
-use Rattle.std.proofs.Common.{ap}
-use Rattle.session_slots.specs.Common.{HalfEdge, Op}
+use Rattle.session_slots.proofs.Prelude.{ap, HalfEdge, Op}
 use Rattle.session_slots.proofs.arguments.kev.Goals as goal
 
 pub returns : goal.returns

@@ -1,5 +1,4 @@
-use Rattle.std.proofs.Common.{arith}
-use Rattle.std.proofs.lemmas.Grind.{common_steps}
+use Rattle.session_slots.proofs.Prelude.{arith, common_steps}
 use Rattle.session_slots.proofs.arguments.polygon.Goals as goal
 
 pub places-preserved : goal.places-preserved

@@ -1,5 +1,4 @@
-use Rattle.std.proofs.Common.{◌≡◌, ◌+◌, ◌++◌, length}
-use Rattle.session_slots.specs.Common.{polygon_of}
+use Rattle.session_slots.proofs.Prelude.{◌≡◌, ◌+◌, ◌++◌, length, polygon_of}
 use Rattle.session_slots.proofs.arguments.polygon.Given as goal
 
 abbrev pub invariant-places : goal.invariant-places

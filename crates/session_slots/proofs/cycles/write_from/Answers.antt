@@ -1,5 +1,4 @@
-use Rattle.std.proofs.Common.{◌∙◌, sym, ap, subst, ◌+◌, slice_set, arith}
-use Rattle.euler_operators.specs.Common.{face_of}
+use Rattle.session_slots.proofs.Prelude.{◌∙◌, sym, ap, subst, ◌+◌, slice_set, arith, face_of}
 use Rattle.session_slots.proofs.CycleRounds.{CycleRound, round_start, at_there, at_loop, count_short, round_shorter, round_more, count_is, cycle_laid}
 use Rattle.session_slots.proofs.cycles.write_from.Goals as goal
 

@@ -1,6 +1,4 @@
-use Rattle.std.proofs.Common.{length}
-use Rattle.euler_operators.specs.Common.{cycle_of}
-use Rattle.solid_walks.proofs.face_walks_laws.CycleWalks.{to_come}
+use Rattle.session_slots.proofs.Prelude.{length, cycle_of, to_come}
 use Rattle.session_slots.proofs.CycleRounds.{CycleRound}
 use Rattle.session_slots.proofs.cycles.write_from.Given as goal
 

@@ -1,7 +1,4 @@
-use Rattle.std.proofs.Common.{◌∙◌, sym, ap, subst}
-use Rattle.euler_operators.specs.Common.{content, loop_of, cycle_of, HasHalf}
-use Rattle.solid_listing.proofs.Contents.{not_empty, told_there}
-use Rattle.solid_walks.proofs.face_walks_laws.HalfCodes.{edge_fits}
+use Rattle.session_slots.proofs.Prelude.{◌∙◌, sym, ap, subst, content, loop_of, cycle_of, HasHalf, not_empty, told_there, edge_fits}
 use Rattle.session_slots.proofs.Numbers.{told_cycle, told_loop, lone_items}
 use Rattle.session_slots.proofs.Overlaid.{writes_none, writes_from}
 use Rattle.session_slots.proofs.cycles.write_loop.Goals as goal

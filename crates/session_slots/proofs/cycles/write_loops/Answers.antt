@@ -1,5 +1,4 @@
-use Rattle.std.proofs.Common.{◌∙◌, sym, subst, List, ℕ}
-use Rattle.euler_operators.specs.Common.{IsIn}
+use Rattle.session_slots.proofs.Prelude.{◌∙◌, sym, subst, List, ℕ, IsIn}
 use Rattle.solid_walks.proofs.face_walks_laws.FaceWalks.{loop_in}
 use Rattle.solid_walks.proofs.face_walks_laws.Yielded.{yielded_in}
 use Rattle.session_slots.proofs.FaceRows.{FaceRound, face_start, rows_short, face_more, face_ended}

@@ -1,7 +1,5 @@
-use Rattle.std.proofs.Common.{◌∙◌, ap, subst}
+use Rattle.session_slots.proofs.Prelude.{◌∙◌, ap, subst, WritesFrom, AreTold, row_of}
 use Rattle.euler_operators.specs.Table as table
-use Rattle.session_slots.specs.Written.{WritesFrom}
-use Rattle.session_slots.specs.Reading.{AreTold, row_of}
 use Rattle.session_slots.proofs.FaceRows.{face_outer}
 use Rattle.session_slots.proofs.cycles.write_outer.Goals as goal
 

@@ -1,5 +1,4 @@
-use Rattle.std.proofs.Common.{Option, false, refl, sym, subst}
-use Rattle.session_slots.specs.Common.{Slot, Opened}
+use Rattle.session_slots.proofs.Prelude.{Option, false, refl, sym, subst, Slot, Opened}
 use Rattle.session_slots.proofs.handle.begin.Goals as goal
 
 pub returns-in-Some : goal.returns-in-Some

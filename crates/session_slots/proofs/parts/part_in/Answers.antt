@@ -1,5 +1,4 @@
-use Rattle.std.proofs.Common.{get_or, refl, subst}
-use Rattle.session_slots.specs.Common.{face_refusal, Stage, shown, told_of, part_of, Moves_faces}
+use Rattle.session_slots.proofs.Prelude.{get_or, refl, subst, face_refusal, Stage, shown, told_of, part_of, Moves_faces}
 use Rattle.script_running.proofs.Acting.{the_same}
 use Rattle.session_slots.proofs.parts.part_in.Goals as goal
 

@@ -1,5 +1,4 @@
-use Rattle.std.proofs.Common.{◌≡◌, inl, ◌∙◌, get_or, Option, Some, None, refl, sym, ap, subst}
-use Rattle.session_slots.specs.Common.{Op, Refusal, Model, solid_of, face_refusal, Told, shown, Tells, act_of, told_of, part_of, Moves_faces}
+use Rattle.session_slots.proofs.Prelude.{◌≡◌, inl, ◌∙◌, get_or, Option, Some, None, refl, sym, ap, subst, Op, Refusal, Model, solid_of, face_refusal, Told, shown, Tells, act_of, told_of, part_of, Moves_faces}
 use Rattle.session_slots.proofs.Queried.{is_refused, is_told}
 use Rattle.session_slots.proofs.parts.part_on.Goals as goal
 

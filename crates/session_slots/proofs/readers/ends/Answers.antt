@@ -1,7 +1,4 @@
-use Rattle.std.proofs.Common.{◌≡◌, ◌∙◌, ap}
-use Rattle.session_slots.specs.Common.{plus, minus, tail, has_half}
-use Rattle.euler_operators.proofs.Common.{mate_there}
-use Rattle.solid_walks.proofs.face_walks_laws.HalfCodes.{code_plus, mate_plus, plus_there}
+use Rattle.session_slots.proofs.Prelude.{◌≡◌, ◌∙◌, ap, plus, minus, tail, has_half, mate_there, code_plus, mate_plus, plus_there}
 use Rattle.session_slots.proofs.readers.ends.Goals as goal
 
 pub tail-requires : goal.tail-requires

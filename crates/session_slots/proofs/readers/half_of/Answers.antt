@@ -1,6 +1,4 @@
-use Rattle.std.proofs.Common.{◌∙◌, ap, sym}
-use Rattle.session_slots.specs.Common.{code, edge_of}
-use Rattle.euler_operators.proofs.Common.{code-half, edge_of-code}
+use Rattle.session_slots.proofs.Prelude.{◌∙◌, ap, sym, code, edge_of, code-half, edge_of-code}
 use Rattle.session_slots.proofs.readers.half_of.Goals as goal
 
 pub returns : goal.returns

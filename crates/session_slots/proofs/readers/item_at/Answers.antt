@@ -1,8 +1,5 @@
-use Rattle.std.proofs.Common.{Some, subst, sym, ℕ}
-use Rattle.session_slots.specs.Common.{content, IsItemOf}
-use Rattle.euler_conditions.proofs.Known.{filled}
-use Rattle.solid_listing.proofs.Contents.{told_there}
-use Rattle.solid_walks.proofs.face_walks_laws.HalfCodes.{edge_fits}
+use Rattle.session_slots.proofs.Prelude.{Some, subst, sym, ℕ, IsItemOf, filled, told_there, edge_fits}
+use Rattle.session_slots.specs.Common.{content}
 use Rattle.session_slots.proofs.Numbers.{ring_item}
 use Rattle.session_slots.proofs.readers.item_at.Goals as goal
 

@@ -1,5 +1,4 @@
-use Rattle.std.proofs.Common.{◌+◌, ◌*◌, ap}
-use Rattle.session_slots.specs.Common.{tail, EdgeRow}
+use Rattle.session_slots.proofs.Prelude.{◌+◌, ◌*◌, ap, tail, EdgeRow}
 use Rattle.session_slots.proofs.Spoken.{first, second, starts, neither}
 use Rattle.session_slots.proofs.spokes.start_of.Goals as goal
 

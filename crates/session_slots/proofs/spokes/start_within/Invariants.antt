@@ -1,5 +1,4 @@
-use Rattle.std.proofs.Common.{◌-◌, None}
-use Rattle.session_slots.specs.Common.{IsStartWithin}
+use Rattle.session_slots.proofs.Prelude.{◌-◌, None, IsStartWithin}
 use Rattle.session_slots.proofs.spokes.start_within.Given as goal
 
 abbrev pub invariant-edges : goal.invariant-edges

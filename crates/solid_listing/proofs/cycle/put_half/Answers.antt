@@ -1,8 +1,4 @@
-use Rattle.std.proofs.Common.{◌≡◌, ◌∙◌, sym, ap, subst, ℕ, List, [], ◌∷◌, decimal, cond, refl}
-use Rattle.std.proofs.lemmas.Result.{err_from_is_err_and}
-use Rattle.euler_operators.specs.Common.{HalfEdge, code, edge_of}
-use Rattle.euler_operators.proofs.Common.{edge_of-code, is_first-code}
-use Rattle.solid_listing.specs.Common.{half_word, Gathers, outgoing, Tells}
+use Rattle.solid_listing.proofs.Prelude.{◌≡◌, ◌∙◌, sym, ap, subst, ℕ, List, [], ◌∷◌, decimal, cond, refl, err_from_is_err_and, HalfEdge, code, edge_of, edge_of-code, is_first-code, half_word, Gathers, outgoing, Tells}
 use Rattle.solid_listing.proofs.TellingLaws.{Breaks, Breaks-longer, tells_after}
 use Rattle.solid_listing.proofs.cycle.put_half.Goals as goal
 use Rattle.solid_listing.proofs.cycle.put_half.Goals.{then-h, else-h}

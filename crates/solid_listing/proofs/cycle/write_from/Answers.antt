@@ -1,9 +1,4 @@
-use Rattle.std.proofs.Common.{◌∙◌, ap, sym, ◌∷◌, map, length, arith, refl}
-use Rattle.std.proofs.lemmas.Result.{err_from_is_err_and}
-use Rattle.euler_operators.specs.Common.{code}
-use Rattle.solid_listing.specs.Common.{spaced, half_word, outgoing}
-use Rattle.solid_walks.proofs.face_walks_laws.HalfCodes.{codes_same, codes_differ}
-use Rattle.solid_walks.proofs.face_walks_laws.CycleWalks.{item_there, item_in, from_least, goes_on, comes_back}
+use Rattle.solid_listing.proofs.Prelude.{◌∙◌, ap, sym, ◌∷◌, map, length, arith, refl, err_from_is_err_and, code, spaced, half_word, outgoing, codes_same, codes_differ, item_there, item_in, from_least, goes_on, comes_back}
 use Rattle.solid_listing.proofs.TellingLaws.{none_yet, told_more, breaks_inside, all_told}
 use Rattle.solid_listing.proofs.cycle.write_from.Goals as goal
 

@@ -1,7 +1,4 @@
-use Rattle.std.proofs.Common.{◌∷◌, length, map}
-use Rattle.euler_operators.specs.Common.{IsIn, code, cycle_of}
-use Rattle.solid_listing.specs.Common.{spaced, half_word, outgoing}
-use Rattle.solid_walks.proofs.face_walks_laws.CycleWalks.{to_come}
+use Rattle.solid_listing.proofs.Prelude.{◌∷◌, length, map, IsIn, code, cycle_of, spaced, half_word, outgoing, to_come}
 use Rattle.solid_listing.proofs.TellingLaws.{Telling}
 use Rattle.solid_listing.proofs.cycle.write_from.Given as goal
 

@@ -1,6 +1,4 @@
-use Rattle.std.proofs.Common.{ap, subst, ℕ, List}
-use Rattle.euler_operators.specs.Common.{content}
-use Rattle.solid_listing.specs.Common.{spaced, content_words, outgoing, Tells}
+use Rattle.solid_listing.proofs.Prelude.{ap, subst, ℕ, List, content, spaced, content_words, outgoing, Tells}
 use Rattle.solid_listing.proofs.Contents.{lone_told, not_empty, told_there, told_words}
 use Rattle.solid_listing.proofs.entry.write_content.Goals as goal
 

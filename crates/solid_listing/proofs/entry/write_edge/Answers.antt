@@ -1,8 +1,4 @@
-use Rattle.std.proofs.Common.{◌≡◌, ◌∙◌, ap, subst, List, ℕ, [], ◌∷◌, map, decimal, codes}
-use Rattle.euler_operators.specs.Common.{plus, minus, tail, has_half}
-use Rattle.euler_operators.proofs.Common.{mate_there}
-use Rattle.solid_listing.specs.Common.{line_text, outgoing, Tells}
-use Rattle.solid_walks.proofs.face_walks_laws.HalfCodes.{code_plus, mate_plus, plus_there}
+use Rattle.solid_listing.proofs.Prelude.{◌≡◌, ◌∙◌, ap, subst, List, ℕ, [], ◌∷◌, map, decimal, codes, plus, minus, tail, has_half, mate_there, line_text, outgoing, Tells, code_plus, mate_plus, plus_there}
 use Rattle.solid_listing.proofs.entry.write_edge.Goals as goal
 
 pub tail-requires : goal.tail-requires

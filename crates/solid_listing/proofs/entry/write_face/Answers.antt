@@ -1,7 +1,4 @@
-use Rattle.std.proofs.Common.{◌≡◌, sym, subst, ℕ, List, [], ◌∷◌, ◌++◌, map, codes, decimal}
-use Rattle.std.proofs.lemmas.Result.{err_from_is_err_and}
-use Rattle.euler_operators.specs.Common.{Face, Model, solid_of, outer, rings_of}
-use Rattle.solid_listing.specs.Common.{spaced, line_text, line, Gathers, outgoing}
+use Rattle.solid_listing.proofs.Prelude.{◌≡◌, sym, subst, ℕ, List, [], ◌∷◌, ◌++◌, map, codes, decimal, err_from_is_err_and, Face, Model, solid_of, outer, rings_of, spaced, line_text, line, Gathers, outgoing}
 use Rattle.solid_listing.proofs.LineLaws.{line_parts}
 use Rattle.solid_listing.proofs.TellingLaws.{Breaks, Breaks-longer, Breaks-after, tells_as, tells_after}
 use Rattle.solid_listing.proofs.entry.write_face.Goals as goal

@@ -1,7 +1,4 @@
-use Rattle.std.proofs.Common.{◌≡◌, sym, subst, ℕ, List, [], ◌∷◌, ◌++◌, codes, decimal}
-use Rattle.std.proofs.lemmas.Result.{err_from_is_err_and}
-use Rattle.euler_operators.specs.Common.{Loop, Model, content}
-use Rattle.solid_listing.specs.Common.{spaced, line_text, line, content_words, outgoing}
+use Rattle.solid_listing.proofs.Prelude.{◌≡◌, sym, subst, ℕ, List, [], ◌∷◌, ◌++◌, codes, decimal, err_from_is_err_and, Loop, Model, content, spaced, line_text, line, content_words, outgoing}
 use Rattle.solid_listing.proofs.LineLaws.{line_parts}
 use Rattle.solid_listing.proofs.TellingLaws.{Breaks, Breaks-longer, Breaks-after, tells_as, tells_after}
 use Rattle.solid_listing.proofs.entry.write_loop.Goals as goal

@@ -1,8 +1,4 @@
-use Rattle.std.proofs.Common.{◌≡◌, ◌∙◌, ap, sym, subst, ℕ, List, [], ◌∷◌, map, length, decimal, arith, refl}
-use Rattle.std.proofs.lemmas.Result.{err_from_is_err_and}
-use Rattle.euler_operators.specs.Common.{rings_of}
-use Rattle.solid_listing.specs.Common.{spaced, Gathers, outgoing}
-use Rattle.solid_walks.proofs.face_walks_laws.RingWalks.{next_ring, no_ring, rings_from_zero}
+use Rattle.solid_listing.proofs.Prelude.{◌≡◌, ◌∙◌, ap, sym, subst, ℕ, List, [], ◌∷◌, map, length, decimal, arith, refl, err_from_is_err_and, rings_of, spaced, Gathers, outgoing, next_ring, no_ring, rings_from_zero}
 use Rattle.solid_listing.proofs.TellingLaws.{Gathers-nil, none_yet, told_more, breaks_inside, all_told}
 use Rattle.solid_listing.proofs.entry.write_rings.Goals as goal
 

@@ -1,7 +1,4 @@
-use Rattle.std.proofs.Common.{length, map, decimal}
-use Rattle.euler_operators.specs.Common.{rings_of}
-use Rattle.solid_listing.specs.Common.{spaced, outgoing}
-use Rattle.solid_walks.proofs.face_walks_laws.Above.{above}
+use Rattle.solid_listing.proofs.Prelude.{length, map, decimal, rings_of, spaced, outgoing, above}
 use Rattle.solid_listing.proofs.TellingLaws.{Telling}
 use Rattle.solid_listing.proofs.entry.write_rings.Given as goal
 

@@ -1,6 +1,4 @@
-use Rattle.std.proofs.Common.{sym, subst, List, ℕ}
-use Rattle.euler_operators.specs.Common.{Solid}
-use Rattle.euler_conditions.specs.Store.{IsGreatest}
+use Rattle.solid_listing.proofs.Prelude.{sym, subst, List, ℕ, Solid, IsGreatest}
 use Rattle.solid_listing.specs.Writing.{outgoing, Tells}
 use Rattle.solid_listing.proofs.EmptyModels.{empty_text, lines_text}
 use Rattle.solid_listing.proofs.listing.tell_listing.Goals as goal

@@ -1,6 +1,4 @@
-use Rattle.std.proofs.Common.{ap, sym, map, length, arith}
-use Rattle.std.proofs.lemmas.Result.{err_from_is_err_and}
-use Rattle.solid_listing.specs.Common.{line_text, text_of, line, outgoing}
+use Rattle.solid_listing.proofs.Prelude.{ap, sym, map, length, arith, err_from_is_err_and, line_text, text_of, line, outgoing}
 use Rattle.solid_listing.proofs.Walks.{next_number, no_number, from_zero}
 use Rattle.solid_listing.proofs.TellingLaws.{none_yet, told_more, breaks_inside, all_told}
 use Rattle.solid_listing.proofs.listing.write_kind.Goals as goal

@@ -1,6 +1,5 @@
-use Rattle.std.proofs.Common.{length, map}
-use Rattle.solid_listing.specs.Common.{text_of, line, kind_lines, numbers_of, outgoing}
-use Rattle.solid_walks.proofs.face_walks_laws.Above.{above}
+use Rattle.solid_listing.proofs.Prelude.{length, map, text_of, line, kind_lines, outgoing, above}
+use Rattle.solid_listing.specs.Common.{numbers_of}
 use Rattle.solid_listing.proofs.TellingLaws.{Telling}
 use Rattle.solid_listing.proofs.listing.write_kind.Given as goal
 

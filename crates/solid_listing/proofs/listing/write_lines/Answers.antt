@@ -1,9 +1,5 @@
-use Rattle.std.proofs.Common.{◌≡◌, ◌∙◌, ◌<◌, ◌+◌, ap, refl, ℕ, List, ◌++◌, drop, get_or, arith, flat_map}
-use Rattle.std.proofs.lemmas.List.{drop_more}
+use Rattle.solid_listing.proofs.Prelude.{◌≡◌, ◌∙◌, ◌<◌, ◌+◌, ap, refl, ℕ, List, ◌++◌, drop, get_or, arith, flat_map, drop_more, err_from_is_err_and, Solid, Model, line_text, text_of, kind_lines, kinds, lines, outgoing}
 use Rattle.std.proofs.lemmas.List.Concat.{flat_map-append}
-use Rattle.std.proofs.lemmas.Result.{err_from_is_err_and}
-use Rattle.euler_operators.specs.Common.{Solid, Model}
-use Rattle.solid_listing.specs.Common.{line_text, text_of, kind_lines, kinds, lines, outgoing}
 use Rattle.solid_listing.proofs.TellingLaws.{none_yet, told_more, breaks_inside, all_told}
 use Rattle.solid_listing.proofs.listing.write_lines.Goals as goal
 

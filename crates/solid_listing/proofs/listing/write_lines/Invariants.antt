@@ -1,5 +1,4 @@
-use Rattle.std.proofs.Common.{drop, flat_map}
-use Rattle.solid_listing.specs.Common.{text_of, kind_lines, kinds, lines, outgoing}
+use Rattle.solid_listing.proofs.Prelude.{drop, flat_map, text_of, kind_lines, kinds, lines, outgoing}
 use Rattle.solid_listing.proofs.TellingLaws.{Telling}
 use Rattle.solid_listing.proofs.listing.write_lines.Given as goal
 

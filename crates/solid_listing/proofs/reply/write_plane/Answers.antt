@@ -1,6 +1,5 @@
-use Rattle.std.proofs.Common.{◌≡◌, subst, List, ℕ, ◌++◌, ◌∷◌, [], codes, cond, refl}
-use Rattle.std.proofs.lemmas.Result.{err_from_is_err_and}
-use Rattle.solid_listing.specs.Common.{spaced, coefficient_words, reply_text, outgoing, Tells}
+use Rattle.solid_listing.proofs.Prelude.{◌≡◌, subst, List, ℕ, ◌++◌, ◌∷◌, [], codes, cond, refl, err_from_is_err_and, spaced, coefficient_words, outgoing, Tells}
+use Rattle.solid_listing.specs.Common.{reply_text}
 use Rattle.solid_listing.proofs.LineLaws.{last_word}
 use Rattle.solid_listing.proofs.TellingLaws.{Breaks, Breaks-longer, tells_after}
 use Rattle.solid_listing.proofs.reply.write_plane.Goals as goal

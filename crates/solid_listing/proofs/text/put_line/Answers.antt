@@ -1,6 +1,4 @@
-use Rattle.std.proofs.Common.{List, ℕ, [], ◌∷◌, ◌++◌, map, subst, append_assoc}
-use Rattle.std.proofs.lemmas.Result.{err_from_is_err_and}
-use Rattle.solid_listing.specs.Common.{spaced, outgoing, Tells}
+use Rattle.solid_listing.proofs.Prelude.{List, ℕ, [], ◌∷◌, ◌++◌, map, subst, append_assoc, err_from_is_err_and, spaced, outgoing, Tells}
 use Rattle.solid_listing.proofs.TellingLaws.{Breaks, Breaks-longer, tells_after}
 use Rattle.solid_listing.proofs.text.put_line.Goals as goal
 

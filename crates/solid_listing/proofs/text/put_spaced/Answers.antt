@@ -1,5 +1,4 @@
-use Rattle.std.proofs.Common.{[], ◌∷◌}
-use Rattle.std.proofs.lemmas.Result.{err_from_is_err_and}
+use Rattle.solid_listing.proofs.Prelude.{[], ◌∷◌, err_from_is_err_and}
 use Rattle.solid_listing.proofs.TellingLaws.{Breaks-longer, tells_after}
 use Rattle.solid_listing.specs.Writing.{outgoing}
 use Rattle.solid_listing.proofs.text.put_spaced.Goals as goal

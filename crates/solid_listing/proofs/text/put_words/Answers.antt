@@ -1,6 +1,4 @@
-use Rattle.std.proofs.Common.{◌∷◌}
-use Rattle.std.proofs.lemmas.Result.{err_from_is_err_and}
-use Rattle.solid_listing.specs.Common.{outgoing}
+use Rattle.solid_listing.proofs.Prelude.{◌∷◌, err_from_is_err_and, outgoing}
 use Rattle.solid_listing.proofs.LineLaws.{spaced_next}
 use Rattle.solid_listing.proofs.TellingLaws.{told_more, breaks_inside}
 use Rattle.solid_listing.proofs.text.put_words.Goals as goal

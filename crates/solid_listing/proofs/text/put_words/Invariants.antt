@@ -1,5 +1,4 @@
-use Rattle.std.proofs.Common.{◌++◌, map, drop}
-use Rattle.solid_listing.specs.Common.{spaced, outgoing}
+use Rattle.solid_listing.proofs.Prelude.{◌++◌, map, drop, spaced, outgoing}
 use Rattle.solid_listing.proofs.TellingLaws.{Telling}
 use Rattle.solid_listing.proofs.text.put_words.Given as goal
 

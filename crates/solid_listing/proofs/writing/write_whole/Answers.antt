@@ -1,5 +1,4 @@
-use Rattle.std.proofs.Common.{◌∙◌, ◌-◌, ap, sym, ◌++◌, take, drop, length, List, ℕ, take-append-drop}
-use Rattle.std.proofs.lemmas.List.{take_rest}
+use Rattle.solid_listing.proofs.Prelude.{◌∙◌, ◌-◌, ap, sym, ◌++◌, take, drop, length, List, ℕ, take-append-drop, take_rest}
 use Rattle.solid_listing.proofs.WritingLaws.{wrote_more}
 use Rattle.solid_listing.proofs.writing.write_whole.Goals as goal
 

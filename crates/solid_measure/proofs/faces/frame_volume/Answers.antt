@@ -1,7 +1,4 @@
-use Rattle.std.proofs.Common.{ap, ◌∙◌, arith}
-use Rattle.euler_operators.specs.Common.{dot}
-use Rattle.euler_operators.proofs.Common.{fits, held_is, dot_turned}
-use Rattle.solid_measure.specs.Measure.{read}
+use Rattle.solid_measure.proofs.Prelude.{ap, ◌∙◌, arith, dot, fits, held_is, dot_turned, read}
 use Rattle.solid_measure.proofs.Planes.{held_vector_is}
 use Rattle.solid_measure.proofs.faces.frame_volume.Goals as goal
 

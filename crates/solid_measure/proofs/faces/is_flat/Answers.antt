@@ -1,7 +1,4 @@
-use Rattle.std.proofs.Common.{sym, ◌∙◌, not}
-use Rattle.std.specs.List.{list_all}
-use Rattle.euler_operators.specs.Common.{is_on, same_point, direction, origin, point_of}
-use Rattle.shapes.specs.Common.{corners}
+use Rattle.solid_measure.proofs.Prelude.{sym, ◌∙◌, not, list_all, is_on, same_point, direction, origin, point_of, corners}
 use Rattle.solid_measure.proofs.FlatFaces.{flat_as, flat_then, flat_else}
 use Rattle.solid_measure.proofs.faces.is_flat.Goals as goal
 

@@ -1,10 +1,5 @@
-use Rattle.std.proofs.Common.{◌≡◌, refl, ap, ◌∙◌}
-use Rattle.euler_operators.specs.Common.{Content, HalfEdge, head_or, Model, LoopContent, lone, cycle, content, items_of, point_of, moved, origin}
+use Rattle.solid_measure.proofs.Prelude.{◌≡◌, refl, ap, ◌∙◌, Content, HalfEdge, head_or, Model, LoopContent, lone, cycle, content, items_of, point_of, moved, origin, Tells, filled, start, area, first_vertex}
 use Rattle.euler_operators.specs.Table as table
-use Rattle.solid_walks.specs.Store.{Tells}
-use Rattle.solid_walks.proofs.Known.{filled}
-use Rattle.shapes.specs.Common.{start}
-use Rattle.solid_measure.specs.Measure.{area, first_vertex}
 use Rattle.solid_measure.proofs.faces.outer_frame.Goals as goal
 
 pub content-requires-clause-filled : goal.content-requires-clause-filled

@@ -1,7 +1,4 @@
-use Rattle.std.proofs.Common.{sym, ap, subst, ◌∙◌, arith}
-use Rattle.euler_operators.specs.Common.{IsVectorWithin, moved, items_of, content}
-use Rattle.euler_laws.proofs.Common.{ring_there, ring_number}
-use Rattle.solid_measure.specs.Measure.{area, area_limit}
+use Rattle.solid_measure.proofs.Prelude.{sym, ap, subst, ◌∙◌, arith, IsVectorWithin, moved, items_of, content, ring_there, ring_number, area, area_limit}
 use Rattle.solid_measure.proofs.Boundaries.{area_to_limited, area_to_start, area_to_next, area_to_end}
 use Rattle.solid_measure.proofs.faces.rings_added.Goals as goal
 

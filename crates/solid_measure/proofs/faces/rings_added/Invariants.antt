@@ -1,5 +1,4 @@
-use Rattle.std.proofs.Common.{◌≡◌, ◌≤◌, ◌-◌}
-use Rattle.solid_measure.specs.Measure.{read}
+use Rattle.solid_measure.proofs.Prelude.{◌≡◌, ◌≤◌, ◌-◌, read}
 use Rattle.solid_measure.proofs.Boundaries.{area_to}
 use Rattle.solid_measure.proofs.faces.rings_added.Given as goal
 

@@ -1,11 +1,4 @@
-use Rattle.std.proofs.Common.{subst, rules, tests, of_calls}
-use Rattle.std.specs.List.{list_all}
-use Rattle.std.proofs.lemmas.Iterator.Consumers.{YieldsList-from_first}
-use Rattle.std.proofs.lemmas.Iterator.Search.{all_from_yields_List}
-use Rattle.euler_operators.specs.Common.{is_on, content, point_of, rings_of, IsIn}
-use Rattle.shapes.specs.Common.{vertices_on}
-use Rattle.solid_walks.proofs.face_walks_laws.FaceWalks.{loop_in}
-use Rattle.solid_walks.proofs.face_walks_laws.Yielded.{serves_listed}
+use Rattle.solid_measure.proofs.Prelude.{subst, rules, tests, of_calls, list_all, YieldsList-from_first, all_from_yields_List, is_on, content, point_of, rings_of, IsIn, vertices_on, loop_in, serves_listed}
 use Rattle.solid_measure.proofs.FlatFaces.{ring_in}
 use Rattle.solid_measure.proofs.faces.rings_lie_on.Goals as goal
 

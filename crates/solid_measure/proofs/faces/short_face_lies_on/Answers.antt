@@ -1,7 +1,4 @@
-use Rattle.std.proofs.Common.{◌∙◌, ap, sym, arith}
-use Rattle.std.specs.List.{list_all}
-use Rattle.euler_operators.specs.Common.{is_on, has, content, point_of, rings_of}
-use Rattle.shapes.specs.Common.{vertices_on}
+use Rattle.solid_measure.proofs.Prelude.{◌∙◌, ap, sym, arith, list_all, is_on, has, content, point_of, rings_of, vertices_on}
 use Rattle.solid_measure.proofs.FlatFaces.{all_parts, none_fails, first_fails, first_passes}
 use Rattle.solid_measure.proofs.faces.short_face_lies_on.Goals as goal
 

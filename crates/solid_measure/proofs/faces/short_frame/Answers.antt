@@ -1,9 +1,4 @@
-use Rattle.std.proofs.Common.{ℕ, Option, Some, None, IfSome, sym, subst, ◌∙◌}
-use Rattle.euler_operators.specs.Common.{IsVectorWithin, Model, Sound}
-use Rattle.solid_walks.specs.Store.{IsNextRing}
-use Rattle.solid_measure.specs.declared.faces.Frame.{Frame}
-use Rattle.solid_measure.specs.Measure.{area_limit}
-use Rattle.solid_measure.specs.Frames.{IsFrame, IsOuterFrame}
+use Rattle.solid_measure.proofs.Prelude.{ℕ, Option, Some, None, IfSome, sym, subst, ◌∙◌, IsVectorWithin, Model, Sound, IsNextRing, Frame, area_limit, IsFrame, IsOuterFrame}
 use Rattle.solid_measure.proofs.Boundaries.{area_to_limited, area_to_start, area_to_end}
 use Rattle.solid_measure.proofs.faces.short_frame.Goals as goal
 

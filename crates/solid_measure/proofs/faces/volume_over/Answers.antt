@@ -1,5 +1,4 @@
-use Rattle.std.proofs.Common.{◌∙◌, arith}
-use Rattle.euler_operators.proofs.Common.{fits, held_is}
+use Rattle.solid_measure.proofs.Prelude.{◌∙◌, arith, fits, held_is}
 use Rattle.solid_measure.proofs.Volumes.{face_volume}
 use Rattle.solid_measure.proofs.faces.volume_over.Goals as goal
 

@@ -1,7 +1,4 @@
-use Rattle.euler_operators.specs.Common.{content}
-use Rattle.solid_walks.proofs.Known.{filled}
-use Rattle.solid_walks.proofs.Borders.{ring_has}
-use Rattle.solid_measure.specs.Measure.{read}
+use Rattle.solid_measure.proofs.Prelude.{content, filled, ring_has, read}
 use Rattle.solid_measure.proofs.AreaRounds.{lone_adds}
 use Rattle.solid_measure.proofs.loops.loop_added.Goals as goal
 

@@ -1,11 +1,4 @@
-use Rattle.std.proofs.Common.{◌∙◌, sym, subst, rules, tests, of_calls}
-use Rattle.std.proofs.lemmas.Iterator.Consumers.{YieldsList-from_first}
-use Rattle.std.proofs.lemmas.Iterator.Search.{all_from_yields_List}
-use Rattle.euler_operators.specs.Common.{is_on, rotate_to, code, cycle_of, point_of, tail, IsIn}
-use Rattle.euler_operators.proofs.Common.{rotate_to-rotates}
-use Rattle.shapes.specs.Common.{start}
-use Rattle.solid_walks.proofs.face_walks_laws.CycleWalks.{round_there}
-use Rattle.solid_walks.proofs.face_walks_laws.Yielded.{serves_listed}
+use Rattle.solid_measure.proofs.Prelude.{◌∙◌, sym, subst, rules, tests, of_calls, YieldsList-from_first, all_from_yields_List, is_on, rotate_to, code, cycle_of, point_of, tail, IsIn, rotate_to-rotates, start, round_there, serves_listed}
 use Rattle.solid_measure.proofs.FlatFaces.{all_turned, all_mapped}
 use Rattle.solid_measure.proofs.loops.ring_lies_on.Goals as goal
 

@@ -1,9 +1,4 @@
-use Rattle.std.proofs.Common.{◌∙◌, ap, map}
-use Rattle.std.specs.List.{list_all}
-use Rattle.euler_operators.specs.Common.{is_on, code, content, point_of, tail}
-use Rattle.solid_walks.proofs.Known.{filled}
-use Rattle.solid_walks.proofs.Borders.{ring_has}
-use Rattle.solid_walks.proofs.face_walks_laws.CycleWalks.{item_of}
+use Rattle.solid_measure.proofs.Prelude.{◌∙◌, ap, map, list_all, is_on, code, content, point_of, tail, filled, ring_has, item_of}
 use Rattle.solid_measure.proofs.FlatFaces.{ring_vertices}
 use Rattle.solid_measure.proofs.loops.short_loop_lies_on.Goals as goal
 

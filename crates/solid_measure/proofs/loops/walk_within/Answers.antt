@@ -1,8 +1,4 @@
-use Rattle.std.proofs.Common.{◌≢◌, ℕ, ◌+◌, ◌-◌, refl, sym, ap, subst, ◌∙◌, arith}
-use Rattle.euler_operators.specs.Common.{code, origin, has_half}
-use Rattle.euler_laws.proofs.Common.{steps, steps_are, half_in}
-use Rattle.solid_walks.proofs.face_walks_laws.HalfCodes.{edge_fits}
-use Rattle.solid_measure.specs.Measure.{read}
+use Rattle.solid_measure.proofs.Prelude.{◌≢◌, ℕ, ◌+◌, ◌-◌, refl, sym, ap, subst, ◌∙◌, arith, code, origin, has_half, steps, steps_are, half_in, edge_fits, read}
 use Rattle.solid_measure.proofs.AreaRounds.{area_ended}
 use Rattle.solid_measure.proofs.SweptRounds.{SweptRound, swept_start, swept_fits, swept_few, swept_items, swept_next, swept_closed, swept_room, swept_on}
 use Rattle.solid_measure.proofs.LeastRounds.{LeastRound, least_start, least_closed, least_more, least_ended, lower_item}

@@ -1,8 +1,4 @@
-use Rattle.std.proofs.Common.{◌≡◌, ◌-◌}
-use Rattle.euler_operators.specs.Common.{IsInRange, code}
-use Rattle.euler_laws.proofs.Common.{steps}
-use Rattle.shapes.specs.Common.{start}
-use Rattle.solid_measure.specs.Measure.{read}
+use Rattle.solid_measure.proofs.Prelude.{◌≡◌, ◌-◌, IsInRange, code, steps, start, read}
 use Rattle.solid_measure.proofs.SweptRounds.{SweptRound}
 use Rattle.solid_measure.proofs.LeastRounds.{LeastRound}
 use Rattle.solid_measure.proofs.loops.walk_within.Given as goal

@@ -1,7 +1,6 @@
-use Rattle.std.proofs.Common.{◌∙◌, arith}
+use Rattle.solid_measure.proofs.Prelude.{◌∙◌, arith, next_face}
 use mir.Syntax.{w128}
 use mir.Val.{to_z}
-use Rattle.solid_walks.proofs.NextFace.{next_face}
 use Rattle.solid_measure.proofs.Volumes.{volume_start, volume_end, sum_fits, sum_held}
 use Rattle.solid_measure.proofs.measures.volume_of.Goals as goal
 

@@ -1,5 +1,4 @@
-use Rattle.std.proofs.Common.{refl, arith}
-use Rattle.euler_operators.proofs.Common.{minor_fits}
+use Rattle.solid_measure.proofs.Prelude.{refl, arith, minor_fits}
 use Rattle.solid_measure.proofs.ShortNumbers.{held_as, minor_short, sum_fits, sum_short}
 use Rattle.solid_measure.proofs.short.minor_added.Goals as goal
 

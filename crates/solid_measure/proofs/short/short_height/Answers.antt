@@ -1,5 +1,4 @@
-use Rattle.std.proofs.Common.{refl, arith}
-use Rattle.euler_operators.proofs.Common.{coordinate_held, coordinates}
+use Rattle.solid_measure.proofs.Prelude.{refl, arith, coordinate_held, coordinates}
 use Rattle.solid_measure.proofs.ShortNumbers.{held_as, scaled_short, sum_fits, sum_short}
 use Rattle.solid_measure.proofs.short.short_height.Goals as goal
 

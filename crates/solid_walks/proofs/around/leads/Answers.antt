@@ -1,6 +1,4 @@
-use Rattle.std.proofs.Common.{ℕ, ◌+◌, ◌-◌, ◌≤◌, ◌<◌, sym, ap, subst, ◌∙◌, arith}
-use Rattle.euler_operators.specs.Common.{edge_of, mate, round}
-use Rattle.euler_laws.proofs.Common.{steps, steps_are}
+use Rattle.solid_walks.proofs.Prelude.{ℕ, ◌+◌, ◌-◌, ◌≤◌, ◌<◌, sym, ap, subst, ◌∙◌, arith, edge_of, mate, round, steps, steps_are}
 use Rattle.solid_walks.proofs.TwoWays.{Unseen, unseen_start, unseen_ended, faced_there, met_back, lesser_back, step_back, met_ahead, lesser_ahead, step_ahead, not_less, less}
 use Rattle.solid_walks.proofs.around.leads.Goals as goal
 

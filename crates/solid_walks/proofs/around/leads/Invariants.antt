@@ -1,5 +1,4 @@
-use Rattle.std.proofs.Common.{◌-◌}
-use Rattle.euler_laws.proofs.Common.{steps}
+use Rattle.solid_walks.proofs.Prelude.{◌-◌, steps}
 use Rattle.solid_walks.proofs.TwoWays.{Facing}
 use Rattle.solid_walks.proofs.around.leads.Given as goal
 

@@ -1,5 +1,4 @@
-use Rattle.std.proofs.Common.{ap, ◌∙◌}
-use Rattle.euler_operators.specs.Common.{mate}
+use Rattle.solid_walks.proofs.Prelude.{ap, ◌∙◌, mate}
 use Rattle.solid_walks.proofs.codes.back.Goals as goal
 
 pub returns : goal.returns

@@ -1,5 +1,4 @@
-use Rattle.std.proofs.Common.{ap, ◌∙◌}
-use Rattle.euler_operators.specs.Common.{before, has_half}
+use Rattle.solid_walks.proofs.Prelude.{ap, ◌∙◌, before, has_half}
 use Rattle.solid_walks.proofs.face_walks_laws.HalfCodes.{coded, edge_fits}
 use Rattle.solid_walks.proofs.codes.previous_code.Goals as goal
 

@@ -1,6 +1,4 @@
-use Rattle.std.proofs.Common.{ap, ◌∙◌}
-use Rattle.euler_operators.specs.Common.{has_half}
-use Rattle.shapes.specs.Common.{start}
+use Rattle.solid_walks.proofs.Prelude.{ap, ◌∙◌, has_half, start}
 use Rattle.solid_walks.proofs.face_walks_laws.HalfCodes.{coded}
 use Rattle.solid_walks.proofs.codes.start_of_code.Goals as goal
 

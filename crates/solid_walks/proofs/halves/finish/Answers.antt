@@ -1,7 +1,5 @@
-use Rattle.std.proofs.Common.{ap, ◌∙◌}
-use Rattle.euler_operators.specs.Common.{code, has_half}
+use Rattle.solid_walks.proofs.Prelude.{ap, ◌∙◌, code, has_half, edge_of-mate}
 use Rattle.euler_operators.specs.Table as table
-use Rattle.euler_operators.proofs.Common.{edge_of-mate}
 use Rattle.solid_walks.proofs.halves.finish.Goals as goal
 
 pub start-requires-clause-there : goal.start-requires-clause-there

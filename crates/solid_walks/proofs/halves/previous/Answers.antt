@@ -1,5 +1,4 @@
-use Rattle.std.proofs.Common.{subst, sym}
-use Rattle.euler_operators.specs.Common.{code, HasHalf}
+use Rattle.solid_walks.proofs.Prelude.{subst, sym, code, HasHalf}
 use Rattle.euler_conditions.proofs.Known.{in_a_loop}
 use Rattle.solid_walks.proofs.TwoWays.{before_there}
 use Rattle.solid_walks.proofs.halves.previous.Goals as goal

@@ -1,5 +1,4 @@
-use Rattle.std.proofs.Common.{ap, ◌∙◌}
-use Rattle.euler_operators.specs.Common.{code}
+use Rattle.solid_walks.proofs.Prelude.{ap, ◌∙◌, code}
 use Rattle.euler_operators.specs.Table as table
 use Rattle.solid_walks.proofs.halves.start.Goals as goal
 

@@ -1,6 +1,4 @@
-use Rattle.std.proofs.Common.{◌≡◌, ◌≤◌, ◌<◌, ℕ, Bool, true, false, cond, nat_le, Option, Some, sym, ap, ◌∙◌, arith}
-use Rattle.std.proofs.lemmas.Bool.Decides.{nat_tests}
-use Rattle.solid_walks.specs.Least.{lesser}
+use Rattle.solid_walks.proofs.Prelude.{◌≡◌, ◌≤◌, ◌<◌, ℕ, Bool, true, false, cond, nat_le, Option, Some, sym, ap, ◌∙◌, arith, nat_tests, lesser}
 use Rattle.solid_walks.proofs.least.lesser.Goals as goal
 
 -- the lesser of two numbers that are there, by their order

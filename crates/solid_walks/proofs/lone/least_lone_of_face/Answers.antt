@@ -1,6 +1,4 @@
-use Rattle.std.proofs.Common.{◌∙◌, ap, sym, arith}
-use Rattle.euler_operators.specs.Common.{has}
-use Rattle.solid_walks.specs.Least.{only}
+use Rattle.solid_walks.proofs.Prelude.{◌∙◌, ap, sym, arith, has, only}
 use Rattle.solid_walks.proofs.lone_laws.LoneLoops.{lone_at, ringless_lone}
 use Rattle.solid_walks.proofs.lone.least_lone_of_face.Goals as goal
 

@@ -1,8 +1,4 @@
-use Rattle.std.proofs.Common.{◌∙◌, refl, subst, rules, tests, of_calls, None}
-use Rattle.std.proofs.lemmas.Iterator.Consumers.{YieldsList-from_first, fold_from_yields_List}
-use Rattle.shapes.specs.Common.{loops_of}
-use Rattle.euler_operators.specs.Common.{IsIn}
-use Rattle.solid_walks.specs.Least.{lesser, only}
+use Rattle.solid_walks.proofs.Prelude.{◌∙◌, refl, subst, rules, tests, of_calls, None, YieldsList-from_first, fold_from_yields_List, loops_of, IsIn, lesser, only}
 use Rattle.solid_walks.proofs.face_walks_laws.FaceWalks.{loop_in}
 use Rattle.solid_walks.proofs.face_walks_laws.Yielded.{serves_folding}
 use Rattle.solid_walks.proofs.lone_laws.Searches.{fold_lesser}

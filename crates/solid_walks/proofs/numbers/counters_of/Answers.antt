@@ -1,6 +1,4 @@
-use Rattle.std.proofs.Common.{sym}
-use Rattle.shapes.specs.Common.{taken_in}
-use Rattle.shapes.proofs.Common.{greatest_is}
+use Rattle.solid_walks.proofs.Prelude.{sym, taken_in, greatest_is}
 use Rattle.solid_walks.proofs.numbers.counters_of.Goals as goal
 
 pub returns-clause-is : goal.returns-clause-is

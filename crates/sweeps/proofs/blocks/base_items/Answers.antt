@@ -1,5 +1,4 @@
-use Rattle.std.proofs.Common.{ℕ, ◌≡◌, ◌+◌, [], ◌∷◌, ap, ◌∙◌, arith}
-use Rattle.euler_operators.specs.Common.{plus}
+use Rattle.sweeps.proofs.Prelude.{ℕ, ◌≡◌, ◌+◌, [], ◌∷◌, ap, ◌∙◌, arith, plus}
 use Rattle.solid_walks.proofs.face_walks_laws.HalfCodes.{coded}
 use Rattle.sweeps.proofs.blocks.base_items.Goals as goal
 

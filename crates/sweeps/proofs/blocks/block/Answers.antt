@@ -1,8 +1,4 @@
-use Rattle.std.proofs.Common.{◌≡◌, None, Some, Err, OnOk, w64, ◌↔◌}
-use Rattle.std.proofs.lemmas.Int.{to_z-of_z}
-use Rattle.sweeps_laws.specs.block.BlockOps.{block_operators}
-use Rattle.undo_journal.specs.Journal.{record_of, recorded}
-use Rattle.undo_journal.specs.Machine.{held}
+use Rattle.sweeps.proofs.Prelude.{◌≡◌, None, Some, Err, OnOk, w64, ◌↔◌, to_z-of_z, block_operators, record_of, recorded, held}
 use Rattle.undo_journal.specs.declared.session.Failure.TheVariants as failure
 use Rattle.sweeps.specs.Machine.{block, block_refusal}
 use Rattle.sweeps.proofs.BlockSteps.{at_sizes}

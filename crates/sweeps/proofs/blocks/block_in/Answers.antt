@@ -1,8 +1,4 @@
-use Rattle.std.proofs.Common.{◌≡◌, None, Some, Err, OnOk, w64, ◌↔◌}
-use Rattle.std.proofs.lemmas.Int.{to_z-of_z}
-use Rattle.shapes.specs.Common.{block_refusal, block_model}
-use Rattle.sweeps_laws.specs.block.BlockOps.{block_operators}
-use Rattle.undo_journal.specs.Journal.{after_steps}
+use Rattle.sweeps.proofs.Prelude.{◌≡◌, None, Some, Err, OnOk, w64, ◌↔◌, to_z-of_z, block_refusal, block_model, block_operators, after_steps}
 use Rattle.undo_journal.specs.declared.session.Failure.TheVariants as failure
 use Rattle.sweeps.proofs.BlockSteps.{at_sizes}
 use Rattle.sweeps.proofs.blocks.block_in.Goals as goal

@@ -1,14 +1,4 @@
-use Rattle.std.proofs.Common.{◌≡◌, ℕ, List, ap, arith, length, map, subst, sym, refl, ◌∙◌}
-use Rattle.std.proofs.lemmas.Result.{on_ok_weaker}
-use Rattle.euler_operators.specs.Common.{Point, code, plus, Model}
-use Rattle.shapes.specs.Common.{AreLeft, Taken, numbers_after, taken_in, lamina_refusal, lamina_model}
-use Rattle.sweeps_laws.specs.lamina.Path.{lamina_operators}
-use Rattle.sweeps_laws.proofs.BlockOps.{operators_make_blocks}
-use Rattle.undo_journal.specs.Journal.{DraftJournal, after_steps}
-use Rattle.undo_journal.proofs.Marks.{further_on, further_same, steps_after, steps_make}
-use Rattle.solid_walks.specs.declared.numbers.Counters.{Counters}
-use Rattle.solid_walks.specs.Counters.{taken_of}
-use Rattle.sweeps.specs.Raising.{with_lamina}
+use Rattle.sweeps.proofs.Prelude.{◌≡◌, ℕ, List, ap, arith, length, map, subst, sym, refl, ◌∙◌, on_ok_weaker, Point, code, plus, Model, AreLeft, Taken, numbers_after, taken_in, lamina_refusal, lamina_model, lamina_operators, operators_make_blocks, DraftJournal, after_steps, further_on, further_same, steps_after, steps_make, Counters, taken_of, with_lamina}
 use Rattle.sweeps.proofs.BlockSteps.{corner_fits, base_left, base_goes, block_rises, block_ops}
 use Rattle.sweeps.proofs.blocks.draw_block.Goals as goal
 

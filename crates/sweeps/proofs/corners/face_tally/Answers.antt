@@ -1,10 +1,5 @@
-use Rattle.std.proofs.Common.{◌∙◌, [], refl, ap, subst, rules, tests, of_calls, fold}
-use Rattle.std.proofs.lemmas.Iterator.Consumers.{YieldsList-from_first, fold_from_yields_List}
-use Rattle.euler_operators.specs.Common.{IsIn, content}
-use Rattle.shapes.specs.Common.{corners, loops_of, vertices_in, vertices_on}
+use Rattle.sweeps.proofs.Prelude.{◌∙◌, [], refl, ap, subst, rules, tests, of_calls, fold, YieldsList-from_first, fold_from_yields_List, IsIn, content, corners, loops_of, vertices_in, vertices_on, serves_folding, joined, tally}
 use Rattle.solid_walks.proofs.face_walks_laws.FaceWalks.{loop_in}
-use Rattle.solid_walks.proofs.face_walks_laws.Yielded.{serves_folding}
-use Rattle.sweeps.specs.Corners.{joined, tally}
 use Rattle.sweeps.proofs.Tallies.{tally_none, fold_tallies}
 use Rattle.sweeps.proofs.corners.face_tally.Goals as goal
 

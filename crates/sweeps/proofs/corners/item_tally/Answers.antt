@@ -1,6 +1,4 @@
-use Rattle.std.proofs.Common.{[], ◌∷◌, ap, subst, sym, ◌∙◌}
-use Rattle.euler_operators.specs.Common.{code, Has}
-use Rattle.sweeps.specs.Corners.{tally}
+use Rattle.sweeps.proofs.Prelude.{[], ◌∷◌, ap, subst, sym, ◌∙◌, code, Has, tally}
 use Rattle.sweeps.proofs.corners.item_tally.Goals as goal
 
 pub corner_tally-requires-clause-there : goal.corner_tally-requires-clause-there

@@ -1,6 +1,4 @@
-use Rattle.std.proofs.Common.{arith}
-use Rattle.std.proofs.lemmas.Grind.{common_steps}
-use Rattle.sweeps.specs.Corners.{joined}
+use Rattle.sweeps.proofs.Prelude.{arith, common_steps, joined}
 use Rattle.sweeps.proofs.corners.joined.Goals as goal
 
 pub returns : goal.returns

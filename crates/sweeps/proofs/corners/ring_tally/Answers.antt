@@ -1,9 +1,5 @@
-use Rattle.std.proofs.Common.{◌∙◌, [], ◌∷◌, refl, ap, subst, rules, tests, of_calls, fold, map}
-use Rattle.std.proofs.lemmas.Iterator.Consumers.{YieldsList-from_first, fold_from_yields_List}
-use Rattle.euler_operators.specs.Common.{IsIn, code, cycle_of, tail}
+use Rattle.sweeps.proofs.Prelude.{◌∙◌, [], ◌∷◌, refl, ap, subst, rules, tests, of_calls, fold, map, YieldsList-from_first, fold_from_yields_List, IsIn, code, cycle_of, tail, serves_folding, joined, tally}
 use Rattle.solid_walks.proofs.face_walks_laws.CycleWalks.{item_there}
-use Rattle.solid_walks.proofs.face_walks_laws.Yielded.{serves_folding}
-use Rattle.sweeps.specs.Corners.{joined, tally}
 use Rattle.sweeps.proofs.Tallies.{tally_none, fold_tallies}
 use Rattle.sweeps.proofs.corners.ring_tally.Goals as goal
 

@@ -1,5 +1,4 @@
-use Rattle.std.proofs.Common.{rules, tests}
-use Rattle.shapes.specs.Common.{lamina_conditions}
+use Rattle.sweeps.proofs.Prelude.{rules, tests, lamina_conditions}
 use Rattle.sweeps.proofs.laminas.check_lamina.Goals as goal
 
 pub returns-then-not-is_number : goal.returns-then-not-is_number

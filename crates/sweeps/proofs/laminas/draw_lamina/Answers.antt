@@ -1,12 +1,6 @@
-use Rattle.std.proofs.Common.{rules, arith, ◌≡◌, ◌<◌, ◌+◌, length, ap, refl, ◌∙◌}
+use Rattle.sweeps.proofs.Prelude.{rules, arith, ◌≡◌, ◌<◌, ◌+◌, length, ap, refl, ◌∙◌, on_ok_weaker, Mef, half-plus, half-minus, DraftJournal, operators_make_lamina, further_on}
 use Rattle.std.proofs.lemmas.Bool.Decides.{nat_tests}
-use Rattle.std.proofs.lemmas.Result.{on_ok_weaker}
-use Rattle.euler_operators.specs.declared.Op.TheVariants.{Mef}
-use Rattle.euler_operators.proofs.Common.{half-plus, half-minus}
-use Rattle.undo_journal.specs.Journal.{DraftJournal}
-use Rattle.sweeps_laws.proofs.lamina.Walk.{operators_make_lamina}
 use Rattle.sweeps.proofs.Drawing.{begun, first_is, first_goes, first_along, next_goes, next_along, last_goes, last_steps}
-use Rattle.undo_journal.proofs.Marks.{further_on}
 use Rattle.sweeps.proofs.laminas.draw_lamina.Goals as goal
 
 pub point_at-first-requires : goal.point_at-first-requires

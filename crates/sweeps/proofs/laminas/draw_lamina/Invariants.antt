@@ -1,6 +1,5 @@
-use Rattle.solid_walks.specs.Counters.{taken_of}
+use Rattle.sweeps.proofs.Prelude.{taken_of, IsFurther}
 use Rattle.sweeps.proofs.Drawing.{Along}
-use Rattle.undo_journal.specs.Journal.{IsFurther}
 use Rattle.sweeps.proofs.laminas.draw_lamina.Given as goal
 
 abbrev pub invariant-further : goal.invariant-further

@@ -1,5 +1,4 @@
-use Rattle.std.proofs.Common.{◌≡◌, ◌+◌, length}
-use Rattle.shapes.specs.Common.{first_far}
+use Rattle.sweeps.proofs.Prelude.{◌≡◌, ◌+◌, length, first_far}
 use Rattle.sweeps.proofs.laminas.first_far.Given as goal
 
 abbrev pub invariant-points : goal.invariant-points

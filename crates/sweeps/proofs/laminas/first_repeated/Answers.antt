@@ -1,5 +1,4 @@
-use Rattle.std.proofs.Common.{arith}
-use Rattle.std.proofs.lemmas.Grind.{common_steps}
+use Rattle.sweeps.proofs.Prelude.{arith, common_steps}
 use Rattle.sweeps.proofs.laminas.first_repeated.Goals as goal
 
 pub points-preserved : goal.points-preserved

@@ -1,5 +1,4 @@
-use Rattle.std.proofs.Common.{◌≡◌, ◌≤◌, [], length, take, drop, ◌-◌}
-use Rattle.shapes.specs.Common.{first_repeated}
+use Rattle.sweeps.proofs.Prelude.{◌≡◌, ◌≤◌, [], length, take, drop, ◌-◌, first_repeated}
 use Rattle.sweeps.proofs.laminas.first_repeated.Given as goal
 
 abbrev pub invariant-points : goal.invariant-points

@@ -1,6 +1,5 @@
-use Rattle.std.proofs.Common.{◌≡◌, length}
+use Rattle.sweeps.proofs.Prelude.{◌≡◌, length, same_point}
 use Rattle.std.specs.List.{list_any}
-use Rattle.euler_operators.specs.Common.{same_point}
 use Rattle.sweeps.proofs.laminas.is_among.Given as goal
 
 abbrev pub invariant-others : goal.invariant-others

@@ -1,10 +1,4 @@
-use Rattle.std.proofs.Common.{rules, ap, sym, ◌∙◌}
-use Rattle.shapes.specs.Common.{taken_in, lamina_refusal, lamina_model}
-use Rattle.sweeps_laws.specs.lamina.Path.{lamina_operators}
-use Rattle.undo_journal.specs.Journal.{Journal, DraftJournal, after_steps}
-use Rattle.undo_journal.specs.Machine.{accepted}
-use Rattle.euler_laws.proofs.Common.{verdict_passed}
-use Rattle.undo_journal.proofs.Marks.{further_recorded, further_session, steps_recorded}
+use Rattle.sweeps.proofs.Prelude.{rules, ap, sym, ◌∙◌, taken_in, lamina_refusal, lamina_model, lamina_operators, Journal, DraftJournal, after_steps, accepted, verdict_passed, further_recorded, further_session, steps_recorded}
 use Rattle.sweeps.proofs.laminas.lamina.Goals as goal
 
 pub draw_lamina-requires-clause-accepted : goal.draw_lamina-requires-clause-accepted

@@ -1,5 +1,4 @@
-use Rattle.std.proofs.Common.{◌∙◌}
-use Rattle.undo_journal.proofs.Marks.{back_at_mark, further_back}
+use Rattle.sweeps.proofs.Prelude.{◌∙◌, back_at_mark, further_back}
 use Rattle.sweeps.proofs.laminas.lamina_in.Goals as goal
 
 pub returns-in-Err-draw_lamina-clause-further : goal.returns-in-Err-draw_lamina-clause-further

@@ -1,7 +1,4 @@
-use Rattle.std.proofs.Common.{ap, ◌∙◌}
-use Rattle.undo_journal.specs.Machine.{held}
-use Rattle.shapes.specs.Common.{six_volume}
-use Rattle.sweeps_laws.proofs.Block.{block_volume, block_keeps_others}
+use Rattle.sweeps.proofs.Prelude.{ap, ◌∙◌, held, six_volume, block_volume, block_keeps_others}
 use Rattle.sweeps.proofs.laws.block_measures.Goals as goal
 
 pub returns : goal.returns

@@ -1,8 +1,4 @@
-use Rattle.std.proofs.Common.{◌≡◌, pos, ◌-ℤ◌, true, sym, ap, subst, ◌∙◌, get_or}
-use Rattle.euler_operators.specs.Common.{dot, no_point}
-use Rattle.undo_journal.specs.Machine.{held}
-use Rattle.shapes.specs.Common.{lamina_face, normal, is_flat, six_volume}
-use Rattle.sweeps_laws.proofs.Block.{lamina_measures, flat_laminas_measure_nothing, lamina_keeps_others}
+use Rattle.sweeps.proofs.Prelude.{◌≡◌, pos, ◌-ℤ◌, true, sym, ap, subst, ◌∙◌, get_or, dot, no_point, held, lamina_face, normal, is_flat, six_volume, lamina_measures, flat_laminas_measure_nothing, lamina_keeps_others}
 use Rattle.sweeps.proofs.laws.lamina_measures.Goals as goal
 
 pub returns : goal.returns

@@ -1,12 +1,5 @@
-use Rattle.std.proofs.Common.{ap, ◌∙◌}
+use Rattle.sweeps.proofs.Prelude.{ap, ◌∙◌, blocks_are_accepted, operators_make_blocks, operators_are_accepted, operators_make_lamina, sweep_accepted, sweep_is_prism, block_operators, lamina_operators, sweep_ops, held, accepted}
 use Rattle.sweeps.specs.Calls.{LaminasAreCalls, BlocksAreCalls, SweepsAreCalls}
-use Rattle.sweeps_laws.proofs.BlockOps.{blocks_are_accepted, operators_make_blocks}
-use Rattle.sweeps_laws.proofs.lamina.Walk.{operators_are_accepted, operators_make_lamina}
-use Rattle.sweeps_laws.proofs.prism.Accepted.{sweep_accepted, sweep_is_prism}
-use Rattle.sweeps_laws.specs.block.BlockOps.{block_operators}
-use Rattle.sweeps_laws.specs.lamina.Path.{lamina_operators}
-use Rattle.sweeps_laws.specs.prism.SweepOps.{sweep_ops}
-use Rattle.undo_journal.specs.Machine.{held, accepted}
 use Rattle.undo_journal.proofs.Consistent as histories
 use Rattle.sweeps.proofs.laws.larger_commands_are_calls.Goals as goal
 

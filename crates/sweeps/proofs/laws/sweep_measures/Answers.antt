@@ -1,7 +1,4 @@
-use Rattle.std.proofs.Common.{ap, ◌∙◌}
-use Rattle.euler_operators.specs.Common.{solid_of}
-use Rattle.undo_journal.specs.Machine.{held}
-use Rattle.shapes.specs.Common.{six_volume}
+use Rattle.sweeps.proofs.Prelude.{ap, ◌∙◌, solid_of, held, six_volume}
 use Rattle.sweeps_laws.proofs.Whole.{sweep_adds, sweep_keeps_others}
 use Rattle.sweeps.proofs.laws.sweep_measures.Goals as goal
 

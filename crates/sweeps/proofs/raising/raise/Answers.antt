@@ -1,13 +1,7 @@
-use Rattle.std.proofs.Common.{◌≡◌, ◌∙◌, Ok, ap, sym, subst, true, ◌∷◌, arith}
+use Rattle.sweeps.proofs.Prelude.{◌≡◌, ◌∙◌, Ok, ap, sym, subst, true, ◌∷◌, arith, YieldsList-from_first, has, rings_of, Sound, taken_in, face_there, sweep_is_prism, taken_of, further_none, further_on, steps_make}
 use Rattle.std.proofs.lemmas.Iterator.{items_from_collect}
-use Rattle.std.proofs.lemmas.Iterator.Consumers.{YieldsList-from_first}
-use Rattle.euler_operators.specs.Common.{has, rings_of, Sound}
-use Rattle.shapes.specs.Common.{taken_in}
-use Rattle.sweeps_laws.proofs.prism.Accepted.{face_there, sweep_is_prism}
-use Rattle.solid_walks.specs.Counters.{taken_of}
 use Rattle.sweeps.proofs.RaisedLoops as raised
 use Rattle.sweeps.proofs.RaisedLoops.{Sweeping}
-use Rattle.undo_journal.proofs.Marks.{further_none, further_on, steps_make}
 use Rattle.sweeps.proofs.raising.raise.Goals as goal
 use Rattle.sweeps.proofs.raising.raise.Goals.{In_ok-rings}
 

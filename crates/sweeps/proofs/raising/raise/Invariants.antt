@@ -1,6 +1,4 @@
-use Rattle.std.proofs.Common.{length}
-use Rattle.solid_walks.specs.Counters.{taken_of}
-use Rattle.undo_journal.specs.Journal.{IsFurther}
+use Rattle.sweeps.proofs.Prelude.{length, taken_of, IsFurther}
 use Rattle.sweeps.proofs.RaisedLoops.{Sweeping}
 use Rattle.sweeps.proofs.raising.raise.Given as goal
 

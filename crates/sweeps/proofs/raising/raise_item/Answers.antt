@@ -1,8 +1,4 @@
-use Rattle.std.proofs.Common.{◌≡◌, ◌∙◌, ap, sym, subst, true, OnOk}
-use Rattle.euler_operators.specs.Common.{moved, code, half, plus, has_half, point_of, Has, first_false}
-use Rattle.shapes.specs.Common.{start}
-use Rattle.undo_journal.specs.Journal.{after_step}
-use Rattle.solid_walks.specs.Counters.{taken_of}
+use Rattle.sweeps.proofs.Prelude.{◌≡◌, ◌∙◌, ap, sym, subst, true, OnOk, moved, code, half, plus, has_half, point_of, Has, first_false, start, after_step, taken_of}
 use Rattle.sweeps.proofs.RaisedItems.{same_raise}
 use Rattle.sweeps.proofs.raising.raise_item.Goals as goal
 

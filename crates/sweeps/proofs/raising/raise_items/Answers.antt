@@ -1,12 +1,5 @@
-use Rattle.std.proofs.Common.{◌≡◌, ◌∙◌, ap, refl, ℕ, ◌+◌, ◌-◌, ◌<◌, ◌≤◌, arith}
-use Rattle.std.proofs.lemmas.Result.{on_ok_weaker}
-use Rattle.euler_operators.specs.Common.{first_false}
-use Rattle.undo_journal.specs.Journal.{DraftJournal, after_steps}
-use Rattle.sweeps_laws.specs.prism.SweepOps.{close, close_last}
-use Rattle.sweeps_laws.proofs.prism.Sides.{two_items}
-use Rattle.solid_walks.specs.Counters.{taken_of}
+use Rattle.sweeps.proofs.Prelude.{◌≡◌, ◌∙◌, ap, refl, ℕ, ◌+◌, ◌-◌, ◌<◌, ◌≤◌, arith, on_ok_weaker, first_false, DraftJournal, after_steps, close, close_last, two_items, taken_of, further_on, step_after, steps_make}
 use Rattle.sweeps.proofs.RaisedItems as raised
-use Rattle.undo_journal.proofs.Marks.{further_on, step_after, steps_make}
 use Rattle.sweeps.proofs.raising.raise_items.Goals as goal
 
 pub item_at-requires : goal.item_at-requires

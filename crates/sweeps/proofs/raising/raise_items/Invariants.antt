@@ -1,8 +1,4 @@
-use Rattle.std.proofs.Common.{◌≡◌, ◌<◌, ◌-◌, length, map}
-use Rattle.euler_operators.specs.Common.{code}
-use Rattle.sweeps_laws.specs.prism.SweepOps.{rounds}
-use Rattle.solid_walks.specs.Counters.{taken_of}
-use Rattle.undo_journal.specs.Journal.{IsFurther, after_steps}
+use Rattle.sweeps.proofs.Prelude.{◌≡◌, ◌<◌, ◌-◌, length, map, code, rounds, taken_of, IsFurther, after_steps}
 use Rattle.sweeps.proofs.raising.raise_items.Given as goal
 
 abbrev pub invariant-items : goal.invariant-items

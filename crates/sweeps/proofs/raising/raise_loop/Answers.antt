@@ -1,12 +1,5 @@
-use Rattle.std.proofs.Common.{◌∙◌, ap, sym, subst, map}
-use Rattle.euler_operators.specs.Common.{code, items_of, content, face_of, is_lone}
-use Rattle.sweeps_laws.specs.prism.SweepOps.{loop_ops, taken_after}
-use Rattle.sweeps_laws.specs.prism.Ready.{Ready}
-use Rattle.sweeps_laws.proofs.prism.Sides.{content_is}
-use Rattle.solid_walks.specs.Counters.{taken_of}
+use Rattle.sweeps.proofs.Prelude.{◌∙◌, ap, sym, subst, map, code, items_of, content, face_of, is_lone, loop_ops, taken_after, Ready, content_is, taken_of, after_steps, further_none}
 use Rattle.sweeps.proofs.RaisedItems as raised
-use Rattle.undo_journal.specs.Journal.{after_steps}
-use Rattle.undo_journal.proofs.Marks.{further_none}
 use Rattle.sweeps.proofs.raising.raise_loop.Goals as goal
 
 pub loop_items-requires-clause-held : goal.loop_items-requires-clause-held

@@ -1,7 +1,4 @@
-use Rattle.std.proofs.Common.{rules, tests, arith}
-use Rattle.std.proofs.lemmas.Grind.{common_steps}
-use Rattle.shapes.specs.Common.{prism_conditions}
-use Rattle.sweeps.specs.Corners.{tally}
+use Rattle.sweeps.proofs.Prelude.{rules, tests, arith, common_steps, prism_conditions, tally}
 use Rattle.sweeps.proofs.sweeping.check_sweep.Goals as goal
 
 pub returns-then-not-is_number : goal.returns-then-not-is_number

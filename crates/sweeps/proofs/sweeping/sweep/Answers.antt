@@ -1,10 +1,4 @@
-use Rattle.std.proofs.Common.{rules, ap, sym, ◌∙◌}
-use Rattle.shapes.specs.Common.{taken_in, prism_refusal, prism_model}
-use Rattle.sweeps_laws.specs.prism.SweepOps.{sweep_ops}
-use Rattle.undo_journal.specs.Journal.{Journal, DraftJournal}
-use Rattle.undo_journal.specs.Machine.{accepted}
-use Rattle.euler_laws.proofs.Common.{verdict_passed}
-use Rattle.undo_journal.proofs.Marks.{further_recorded, further_session, steps_recorded}
+use Rattle.sweeps.proofs.Prelude.{rules, ap, sym, ◌∙◌, taken_in, prism_refusal, prism_model, sweep_ops, Journal, DraftJournal, accepted, verdict_passed, further_recorded, further_session, steps_recorded}
 use Rattle.sweeps.proofs.sweeping.sweep.Goals as goal
 
 pub returns-in-Ok-raise-clause-ok : goal.returns-in-Ok-raise-clause-ok

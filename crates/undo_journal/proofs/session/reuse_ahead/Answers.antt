@@ -1,5 +1,4 @@
-use Rattle.std.proofs.Common.{◌≡◌, ℕ, ◌+◌, ◌-◌, List, take, ap, ◌∙◌, arith}
-use Rattle.std.proofs.lemmas.List.{take-take}
+use Rattle.undo_journal.proofs.Prelude.{◌≡◌, ℕ, ◌+◌, ◌-◌, List, take, ap, ◌∙◌, arith, take-take}
 use Rattle.undo_journal.proofs.session.reuse_ahead.Goals as goal
 
 -- what is left of a list once the last of its first n + 1 is taken off

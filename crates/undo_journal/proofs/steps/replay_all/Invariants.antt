@@ -1,6 +1,5 @@
 use Rattle.std.specs.Prelude.{◌≡◌, take}
-use Rattle.low_euler.specs.Ready.{IsReady}
-use Rattle.undo_journal.specs.Sessions.{all_after}
+use Rattle.undo_journal.proofs.Prelude.{IsReady, all_after}
 use Rattle.undo_journal.proofs.steps.replay_all.Given as goal
 
 abbrev pub invariant-loop-op : goal.invariant-loop-op

@@ -1,8 +1,4 @@
-use Rattle.std.proofs.Common.{refl, sym, subst, ap, ◌∙◌, arith, ◌≡◌, ◌<◌, ◌-◌, List, [], ◌∷◌, length, reverse, take, length-take-le}
-use Rattle.euler_operators.specs.declared.Op.{Op}
-use Rattle.euler_laws.specs.Laws.{AreAccepted}
-use Rattle.low_euler.specs.Store.{Store}
-use Rattle.undo_journal.specs.Sessions.{AllHaveRoom, all_after}
+use Rattle.undo_journal.proofs.Prelude.{refl, sym, subst, ap, ◌∙◌, arith, ◌≡◌, ◌<◌, ◌-◌, List, [], ◌∷◌, length, reverse, take, length-take-le, Op, AreAccepted, Store, AllHaveRoom, all_after}
 use Rattle.undo_journal.proofs.Turns.{accepts_last, others_accepted, others_room, others_after}
 use Rattle.undo_journal.proofs.steps.replay_back.Goals as goal
 

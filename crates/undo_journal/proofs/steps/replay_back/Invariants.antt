@@ -1,7 +1,5 @@
 use Rattle.std.specs.Prelude.{◌≡◌, ◌≤◌, length, reverse}
-use Rattle.euler_laws.specs.Laws.{AreAccepted}
-use Rattle.low_euler.specs.Ready.{IsReady}
-use Rattle.undo_journal.specs.Sessions.{AllHaveRoom, all_after}
+use Rattle.undo_journal.proofs.Prelude.{AreAccepted, IsReady, AllHaveRoom, all_after}
 use Rattle.undo_journal.proofs.steps.replay_back.Given as goal
 
 abbrev pub invariant-ops : goal.invariant-ops

@@ -1,6 +1,4 @@
-use Rattle.std.proofs.Common.{ap, ◌∙◌, arith, ◌≡◌, ◌++◌, List, [], ◌∷◌, length}
-use Rattle.euler_operators.specs.declared.Op.{Op}
-use Rattle.euler_operators.specs.Common.{inverse}
+use Rattle.undo_journal.proofs.Prelude.{ap, ◌∙◌, arith, ◌≡◌, ◌++◌, List, [], ◌∷◌, length, Op, inverse}
 use Rattle.undo_journal.proofs.Lasts.{last_read, last_replaced}
 use Rattle.undo_journal.proofs.steps.step.Goals as goal
 

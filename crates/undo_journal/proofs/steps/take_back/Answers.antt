@@ -1,8 +1,4 @@
-use Rattle.std.proofs.Common.{sym, subst, ap, ◌∙◌, List, drop, reverse}
-use Rattle.std.proofs.lemmas.List.{take_rest}
-use Rattle.euler_operators.specs.declared.Op.{Op}
-use Rattle.euler_laws.specs.Laws.{AreAccepted}
-use Rattle.undo_journal.specs.Sessions.{AllHaveRoom, all_after}
+use Rattle.undo_journal.proofs.Prelude.{sym, subst, ap, ◌∙◌, List, drop, reverse, take_rest, Op, AreAccepted, AllHaveRoom, all_after}
 use Rattle.undo_journal.proofs.steps.take_back.Goals as goal
 
 pub replay_back-requires : goal.replay_back-requires

@@ -1,5 +1,4 @@
-use Rattle.std.proofs.Common.{ap}
-use Rattle.arena_rows.specs.Common.{is_of}
+use Rattle.arena_rows.proofs.Prelude.{ap, is_of}
 use Rattle.arena_rows.proofs.owner_chains.chains.put_within.Goals as goal
 
 pub place_of-place-requires-clause-free : goal.place_of-place-requires-clause-free

@@ -1,6 +1,4 @@
-use Rattle.std.proofs.Common.{◌≡◌, ◌≢◌, true, subst, sym, ap, arith}
-use Rattle.arena_rows.specs.declared.owner_chains.rows.Head.{Head}
-use Rattle.arena_rows.specs.Common.{IsBelow, items, is_of}
+use Rattle.arena_rows.proofs.Prelude.{◌≡◌, ◌≢◌, true, subst, sym, ap, arith, Head, IsBelow, items, is_of}
 use Rattle.arena_rows.proofs.owner_chains_laws.Placing.{clear_one, none_below}
 use Rattle.arena_rows.proofs.owner_chains.places.below.Goals as goal
 

@@ -1,5 +1,4 @@
-use Rattle.std.proofs.Common.{◌≡◌, ◌≢◌, true}
-use Rattle.arena_rows.specs.Common.{IsClear, items}
+use Rattle.arena_rows.proofs.Prelude.{◌≡◌, ◌≢◌, true, IsClear, items}
 use Rattle.arena_rows.proofs.owner_chains.places.below.Given as goal
 
 abbrev pub invariant-sides : goal.invariant-sides

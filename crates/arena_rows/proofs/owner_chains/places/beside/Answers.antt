@@ -1,5 +1,4 @@
-use Rattle.std.proofs.Common.{◌+◌, sym, subst, ◌∙◌}
-use Rattle.arena_rows.specs.Common.{IsBelow, items}
+use Rattle.arena_rows.proofs.Prelude.{◌+◌, sym, subst, ◌∙◌, IsBelow, items}
 use Rattle.arena_rows.proofs.owner_chains_laws.Placing.{high_below}
 use Rattle.arena_rows.proofs.owner_chains.places.beside.Goals as goal
 

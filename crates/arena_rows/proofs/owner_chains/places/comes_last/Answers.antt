@@ -1,6 +1,4 @@
-use Rattle.std.proofs.Common.{ap, ◌∙◌, arith}
-use Rattle.std.proofs.lemmas.Bool.Decides.{nat_tests}
-use Rattle.arena_rows.specs.Common.{next_in}
+use Rattle.arena_rows.proofs.Prelude.{ap, ◌∙◌, arith, nat_tests, next_in}
 use Rattle.arena_rows.proofs.owner_chains.places.comes_last.Goals as goal
 
 pub known-requires : goal.known-requires

@@ -1,5 +1,4 @@
-use Rattle.std.proofs.Common.{sym, ap, ◌∙◌}
-use Rattle.arena_rows.specs.Common.{is_of}
+use Rattle.arena_rows.proofs.Prelude.{sym, ap, ◌∙◌, is_of}
 use Rattle.arena_rows.proofs.owner_chains.places.is_item.Goals as goal
 
 pub returns-in-Some : goal.returns-in-Some

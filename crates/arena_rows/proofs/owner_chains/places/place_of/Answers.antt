@@ -1,6 +1,4 @@
-use Rattle.std.proofs.Common.{◌≡◌, ◌≢◌, true, ◌<◌, sym, subst, inl, inr}
-use Rattle.arena_rows.specs.declared.owner_chains.rows.Head.{Head}
-use Rattle.arena_rows.specs.Common.{items}
+use Rattle.arena_rows.proofs.Prelude.{◌≡◌, ◌≢◌, true, ◌<◌, sym, subst, inl, inr, Head, items}
 use Rattle.arena_rows.proofs.owner_chains_laws.Following.{ends_below, next_above, owner_is}
 use Rattle.arena_rows.proofs.owner_chains_laws.Placing.{place_less}
 use Rattle.arena_rows.proofs.owner_chains.places.place_of.Goals as goal

@@ -1,5 +1,4 @@
-use Rattle.std.proofs.Common.{sym, subst}
-use Rattle.arena_rows.specs.Common.{IsAbove, items}
+use Rattle.arena_rows.proofs.Prelude.{sym, subst, IsAbove, items}
 use Rattle.arena_rows.proofs.owner_chains_laws.Following.{follower_above}
 use Rattle.arena_rows.proofs.owner_chains.places.search.Goals as goal
 

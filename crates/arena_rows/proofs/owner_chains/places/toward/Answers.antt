@@ -1,7 +1,4 @@
-use Rattle.std.proofs.Common.{◌≢◌, ◌≡◌, ℕ, true, List, Option, Some, arith, subst, sym, ◌∙◌, inl, inr}
-use Rattle.arena_rows.specs.declared.owner_chains.rows.Head.{Head}
-use Rattle.arena_rows.specs.declared.owner_chains.rows.Link.{Link}
-use Rattle.arena_rows.specs.Common.{AreChained, IsAbove, IsBelow, follower, items, link_at}
+use Rattle.arena_rows.proofs.Prelude.{◌≢◌, ◌≡◌, ℕ, true, List, Option, Some, arith, subst, sym, ◌∙◌, inl, inr, Head, Link, AreChained, IsAbove, IsBelow, follower, items, link_at}
 use Rattle.arena_rows.proofs.owner_chains_laws.Following.{ends_below, follower_above, owner_is, previous_below}
 use Rattle.arena_rows.proofs.owner_chains_laws.Order.{below_less}
 use Rattle.arena_rows.proofs.owner_chains_laws.Placing.{place_less}

@@ -1,7 +1,4 @@
-use Rattle.std.proofs.Common.{◌≡◌, ◌≢◌, ℕ, ◌+◌, cond, nat_eq, eq-eqb, ne_eqb, sym, ap, ◌∙◌}
-use Rattle.arena_rows.specs.declared.owner_chains.rows.Head.{Head}
-use Rattle.arena_rows.specs.declared.owner_chains.rows.Link.{Link}
-use Rattle.arena_rows.specs.Common.{gained}
+use Rattle.arena_rows.proofs.Prelude.{◌≡◌, ◌≢◌, ℕ, ◌+◌, cond, nat_eq, eq-eqb, ne_eqb, sym, ap, ◌∙◌, Head, Link, gained}
 use Rattle.arena_rows.proofs.owner_chains_laws.Tables.{head_written}
 use Rattle.arena_rows.proofs.owner_chains.rows.gain.Goals as goal
 use Rattle.arena_rows.proofs.owner_chains.rows.gain.Goals.{then-new-eq0, else-new-eq0}

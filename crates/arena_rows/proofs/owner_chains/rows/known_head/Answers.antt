@@ -1,5 +1,4 @@
-use Rattle.std.proofs.Common.{sym, ap}
-use Rattle.arena_rows.specs.Common.{head_in}
+use Rattle.arena_rows.proofs.Prelude.{sym, ap, head_in}
 use Rattle.arena_rows.proofs.owner_chains_laws.Tables.{head_there}
 use Rattle.arena_rows.proofs.owner_chains.rows.known_head.Goals as goal
 

@@ -1,5 +1,4 @@
-use Rattle.std.proofs.Common.{refl}
-use Rattle.arena_rows.specs.Common.{leading_back}
+use Rattle.arena_rows.proofs.Prelude.{refl, leading_back}
 use Rattle.arena_rows.proofs.owner_chains_laws.Linking.{led_row, led_none}
 use Rattle.arena_rows.proofs.owner_chains.rows.lead_back.Goals as goal
 

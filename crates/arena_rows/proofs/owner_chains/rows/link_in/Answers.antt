@@ -1,5 +1,4 @@
-use Rattle.std.proofs.Common.{cond, nat_eq, Some, refl, ap, ◌∙◌}
-use Rattle.arena_rows.specs.Common.{leading_on, leading_back, linked_in}
+use Rattle.arena_rows.proofs.Prelude.{cond, nat_eq, Some, refl, ap, ◌∙◌, leading_on, leading_back, linked_in}
 use Rattle.arena_rows.proofs.owner_chains_laws.Linking.{led_there, on_there, zero_led}
 use Rattle.arena_rows.proofs.owner_chains.rows.link_in.Goals as goal
 

@@ -1,5 +1,4 @@
-use Rattle.std.proofs.Common.{refl, ◌∙◌}
-use Rattle.arena_rows.specs.Common.{leading_on}
+use Rattle.arena_rows.proofs.Prelude.{refl, ◌∙◌, leading_on}
 use Rattle.arena_rows.proofs.owner_chains_laws.Linking.{led_there, on_there, zero_led}
 use Rattle.arena_rows.proofs.owner_chains.rows.link_out.Goals as goal
 

@@ -1,7 +1,4 @@
-use Rattle.std.proofs.Common.{◌≡◌, ℕ, ◌-◌, cond, nat_eq, List, Option, Some, None, ap, ◌∙◌, arith, slice_index_or}
-use Rattle.arena_rows.specs.declared.owner_chains.rows.Head.{Head}
-use Rattle.arena_rows.specs.declared.owner_chains.rows.Link.{Link}
-use Rattle.arena_rows.specs.Common.{head_at, lost}
+use Rattle.arena_rows.proofs.Prelude.{◌≡◌, ℕ, ◌-◌, cond, nat_eq, List, Option, Some, None, ap, ◌∙◌, arith, slice_index_or, Head, Link, head_at, lost}
 use Rattle.arena_rows.proofs.owner_chains_laws.Tables.{head_there, head_written}
 use Rattle.arena_rows.proofs.owner_chains.rows.lose.Goals as goal
 

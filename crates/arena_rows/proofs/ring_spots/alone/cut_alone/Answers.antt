@@ -1,9 +1,4 @@
-use Rattle.std.proofs.Common.{refl, ap, sym, subst, ◌∙◌}
-use Rattle.std.specs.FinMap.{contains_key}
-use Rattle.raw_ring.specs.Rings.{or_zero, spot}
-use Rattle.raw_ring.proofs.Mapping.{IsLive-next}
-use Rattle.arena_rows.specs.declared.ring_spots.labels.Label.{Label}
-use Rattle.arena_rows.specs.Common.{Spots, live, ring, AreRings, AreLabelled, has_label}
+use Rattle.arena_rows.proofs.Prelude.{refl, ap, sym, subst, ◌∙◌, contains_key, or_zero, spot, IsLive-next, Label, Spots, live, ring, AreRings, AreLabelled, has_label}
 use Rattle.arena_rows.proofs.ring_spots_laws.RingMaps.{live_known}
 use Rattle.arena_rows.proofs.ring_spots_laws.LabelLaws.{labelled_alike, share-cut_to}
 use Rattle.arena_rows.proofs.ring_spots_laws.Alone.{CutOff, cut_off, seen-apart, seen-cut_alone, labelled_off}

@@ -1,7 +1,4 @@
-use Rattle.std.proofs.Common.{◌≡◌, ℕ, Bool, true, ap, sym, subst, ◌∙◌}
-use Rattle.std.specs.FinMap.{contains_key}
-use Rattle.raw_ring.specs.Rings.{or_zero, spot}
-use Rattle.arena_rows.specs.Common.{has_label, AreLabelled}
+use Rattle.arena_rows.proofs.Prelude.{◌≡◌, ℕ, Bool, true, ap, sym, subst, ◌∙◌, contains_key, or_zero, spot, has_label, AreLabelled}
 use Rattle.arena_rows.proofs.ring_spots_laws.RingMaps.{live_known}
 use Rattle.arena_rows.proofs.ring_spots_laws.LabelLaws.{labelled_alike}
 use Rattle.arena_rows.proofs.ring_spots_laws.Alone.{free_there, seen-apart, labelled_given}

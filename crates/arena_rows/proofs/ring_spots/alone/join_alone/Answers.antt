@@ -1,6 +1,4 @@
-use Rattle.std.proofs.Common.{ap, sym, ◌∙◌}
-use Rattle.raw_ring.specs.Rings.{or_zero, spot}
-use Rattle.arena_rows.specs.Common.{Spots, live, ring, labelled, spliced}
+use Rattle.arena_rows.proofs.Prelude.{ap, sym, ◌∙◌, or_zero, spot, Spots, live, ring, labelled, spliced}
 use Rattle.arena_rows.proofs.ring_spots_laws.SpotLaws.{live-labelled}
 use Rattle.arena_rows.proofs.ring_spots.alone.join_alone.Goals as goal
 

@@ -1,6 +1,4 @@
-use Rattle.std.proofs.Common.{ap, ◌∙◌}
-use Rattle.std.specs.FinMap.{contains_key}
-use Rattle.raw_ring.specs.Rings.{RingMap}
+use Rattle.arena_rows.proofs.Prelude.{ap, ◌∙◌, contains_key, RingMap}
 use Rattle.arena_rows.proofs.ring_spots_laws.RingMaps.{known-with}
 use Rattle.arena_rows.proofs.ring_spots_laws.Alone.{labelled_one}
 use Rattle.arena_rows.proofs.ring_spots.alone.set_label.Goals as goal

@@ -1,5 +1,4 @@
-use Rattle.std.proofs.Common.{ℕ, Bool, ap, ◌∙◌, cond, nat_eq}
-use Rattle.arena_rows.specs.Common.{own, holder, has_label}
+use Rattle.arena_rows.proofs.Prelude.{ℕ, Bool, ap, ◌∙◌, cond, nat_eq, own, holder, has_label}
 use Rattle.arena_rows.proofs.ring_spots.labels.hand_over.Goals as goal
 
 pub tie-requires-clause-code : goal.tie-requires-clause-code

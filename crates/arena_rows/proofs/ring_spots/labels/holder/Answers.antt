@@ -1,5 +1,4 @@
-use Rattle.std.proofs.Common.{ap}
-use Rattle.arena_rows.specs.declared.ring_spots.labels.Label.{Label}
+use Rattle.arena_rows.proofs.Prelude.{ap, Label}
 use Rattle.arena_rows.proofs.ring_spots.labels.holder.Goals as goal
 
 pub returns : goal.returns

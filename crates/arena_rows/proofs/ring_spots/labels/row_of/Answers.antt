@@ -1,5 +1,4 @@
-use Rattle.std.proofs.Common.{sym, ap, ◌∙◌, unwrap_or}
-use Rattle.arena_rows.specs.Common.{new_label}
+use Rattle.arena_rows.proofs.Prelude.{sym, ap, ◌∙◌, unwrap_or, new_label}
 use Rattle.arena_rows.proofs.ring_spots_laws.LabelTables.{label_within}
 use Rattle.arena_rows.proofs.ring_spots.labels.row_of.Goals as goal
 

@@ -1,5 +1,4 @@
-use Rattle.std.proofs.Common.{ap, nat_lt}
-use Rattle.arena_rows.specs.declared.ring_spots.labels.Label.{Label}
+use Rattle.arena_rows.proofs.Prelude.{ap, nat_lt, Label}
 use Rattle.arena_rows.proofs.ring_spots_laws.LabelTables.{written, unwritten}
 use Rattle.arena_rows.proofs.ring_spots.labels.set_holder.Goals as goal
 

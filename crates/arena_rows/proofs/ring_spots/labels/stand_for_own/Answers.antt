@@ -1,6 +1,4 @@
-use Rattle.std.proofs.Common.{ap, sym, ◌∙◌}
-use Rattle.arena_rows.specs.declared.ring_spots.labels.Label.{Label}
-use Rattle.arena_rows.specs.Common.{loop_at}
+use Rattle.arena_rows.proofs.Prelude.{ap, sym, ◌∙◌, Label, loop_at}
 use Rattle.arena_rows.proofs.ring_spots_laws.LabelTables.{already}
 use Rattle.arena_rows.proofs.ring_spots.labels.stand_for_own.Goals as goal
 

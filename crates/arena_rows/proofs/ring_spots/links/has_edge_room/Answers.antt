@@ -1,6 +1,4 @@
-use Rattle.std.proofs.Common.{◌&&◌, sym, ◌∙◌, le-leb, lt-ltb}
-use Rattle.std.specs.FinMap.{contains_key}
-use Rattle.boundary_model.specs.HalfEdge.{minus}
+use Rattle.arena_rows.proofs.Prelude.{◌&&◌, sym, ◌∙◌, le-leb, lt-ltb, contains_key, minus}
 use Rattle.arena_rows.proofs.ring_spots.links.has_edge_room.Goals as goal
 
 pub returns-then-has_room : goal.returns-then-has_room

@@ -1,8 +1,4 @@
-use Rattle.std.proofs.Common.{ap, ◌∙◌, ◌≡◌, ℕ, Bool, true, cond, nat_eq, sym, subst}
-use Rattle.raw_ring.specs.Rings.{spot}
-use Rattle.boundary_model.specs.HalfEdge.{plus, minus}
-use Rattle.boundary_model.proofs.Halves.{plus_other}
-use Rattle.arena_rows.specs.Common.{Spots, live, woken_as, own, loop_at, has_label}
+use Rattle.arena_rows.proofs.Prelude.{ap, ◌∙◌, ◌≡◌, ℕ, Bool, true, cond, nat_eq, sym, subst, spot, plus, minus, plus_other, Spots, live, woken_as, own, loop_at, has_label}
 use Rattle.arena_rows.proofs.ring_spots_laws.LabelEdges.{live-woken_other, labelled-woken, loops-woken}
 use Rattle.arena_rows.proofs.ring_spots.links.put_edge.Goals as goal
 

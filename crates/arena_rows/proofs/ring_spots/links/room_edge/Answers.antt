@@ -1,5 +1,4 @@
-use Rattle.std.proofs.Common.{◌≡◌, Bool, true, Result, Ok, Err, OnOk, refl, ◌∙◌, arith}
-use Rattle.std.proofs.lemmas.Bool.{false≢true}
+use Rattle.arena_rows.proofs.Prelude.{◌≡◌, Bool, true, Result, Ok, Err, OnOk, refl, ◌∙◌, arith, false≢true}
 use Rattle.arena_rows.proofs.ring_spots_laws.LabelTables.{label_below}
 use Rattle.arena_rows.proofs.ring_spots_laws.LabelEdges.{labelled-room, loops-room}
 use Rattle.arena_rows.proofs.ring_spots.links.room_edge.Goals as goal

@@ -1,9 +1,4 @@
-use Rattle.std.proofs.Common.{arith, ap, ◌∙◌, refl, subst, ◌-◌, ◌+◌, inl, inr}
-use Rattle.std.specs.FinMap.{contains_key}
-use Rattle.raw_ring.specs.Rings.{RingMap, spot}
-use Rattle.boundary_model.specs.Items.{IsIn}
-use Rattle.boundary_model.proofs.Lists.{IsIn_or_not}
-use Rattle.arena_rows.specs.Common.{codes, next, ring}
+use Rattle.arena_rows.proofs.Prelude.{arith, ap, ◌∙◌, refl, subst, ◌-◌, ◌+◌, inl, inr, contains_key, RingMap, spot, IsIn, IsIn_or_not, codes, next, ring}
 use Rattle.arena_rows.proofs.ring_spots_laws.RingMaps.{known-with}
 use Rattle.arena_rows.proofs.ring_spots_laws.SpotTables.{codes_are}
 use Rattle.arena_rows.proofs.ring_spots_laws.Relabelling.{walk_items, missed_more, missed_last, missed_over, not_met, partly_start, partly_next, partly_live, partly_last, partly_more, partly_over, step_in, label_step, known_step, next_step}

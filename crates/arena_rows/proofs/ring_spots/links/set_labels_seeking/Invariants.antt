@@ -1,9 +1,4 @@
-use Rattle.std.proofs.Common.{◌≡◌, ◌-◌, false}
-use Rattle.std.specs.FinMap.{contains_key}
-use Rattle.raw_ring.specs.Rings.{spot}
-use Rattle.boundary_model.specs.Items.{IsIn}
-use Rattle.boundary_model.specs.Rings.{walk_to}
-use Rattle.arena_rows.specs.Common.{codes, next, ring, PartlyLabelled}
+use Rattle.arena_rows.proofs.Prelude.{◌≡◌, ◌-◌, false, contains_key, spot, IsIn, walk_to, codes, next, ring, PartlyLabelled}
 use Rattle.arena_rows.proofs.ring_spots.links.set_labels_seeking.Given as goal
 
 abbrev pub invariant-round : goal.invariant-round

@@ -1,6 +1,4 @@
-use Rattle.std.proofs.Common.{ap, ◌∙◌}
-use Rattle.std.specs.FinMap.{contains_key}
-use Rattle.raw_ring.specs.Rings.{RingMap, spot}
+use Rattle.arena_rows.proofs.Prelude.{ap, ◌∙◌, contains_key, RingMap, spot}
 use Rattle.arena_rows.proofs.ring_spots_laws.RingMaps.{spot-tail, known-tail}
 use Rattle.arena_rows.proofs.ring_spots.links.set_tail.Goals as goal
 

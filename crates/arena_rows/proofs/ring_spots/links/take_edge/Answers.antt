@@ -1,10 +1,4 @@
-use Rattle.std.proofs.Common.{ap, ◌∙◌, ◌≡◌, ℕ, Some, cond, ne_eqb, None, sym}
-use Rattle.std.specs.FinMap.{contains_key, insert}
-use Rattle.raw_ring.specs.Rings.{RingMap, Spot, spot, of_spot, next_of}
-use Rattle.raw_ring.proofs.Mapping.{IsLive-next}
-use Rattle.boundary_model.specs.HalfEdge.{plus, minus}
-use Rattle.boundary_model.proofs.Halves.{plus_other}
-use Rattle.arena_rows.specs.Common.{asleep}
+use Rattle.arena_rows.proofs.Prelude.{ap, ◌∙◌, ◌≡◌, ℕ, Some, cond, ne_eqb, None, sym, contains_key, insert, RingMap, Spot, spot, of_spot, next_of, IsLive-next, plus, minus, plus_other, asleep}
 use Rattle.arena_rows.proofs.ring_spots_laws.RingMaps.{spot-insert, spot-asleep, known-same, live_known}
 use Rattle.arena_rows.proofs.ring_spots.links.take_edge.Goals as goal
 

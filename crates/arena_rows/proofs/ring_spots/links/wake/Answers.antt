@@ -1,8 +1,4 @@
-use Rattle.std.proofs.Common.{◌≡◌, ℕ, List, Option, Some, None, cond, nat_eq, unwrap_or, sym, ap, ◌∙◌}
-use Rattle.raw_cells.specs.Rows.{row_at}
-use Rattle.raw_ring.specs.Rings.{spot}
-use Rattle.arena_rows.specs.declared.ring_spots.labels.Label.{Label}
-use Rattle.arena_rows.specs.Common.{woken_as, new_label, row_of, has_label, loop_at}
+use Rattle.arena_rows.proofs.Prelude.{◌≡◌, ℕ, List, Option, Some, None, cond, nat_eq, unwrap_or, sym, ap, ◌∙◌, row_at, spot, Label, woken_as, new_label, row_of, has_label, loop_at}
 use Rattle.arena_rows.proofs.ring_spots_laws.LabelEdges.{spot-woken_as, known-woken_as}
 use Rattle.arena_rows.proofs.ring_spots_laws.LabelTables.{already}
 use Rattle.arena_rows.proofs.ring_spots.links.wake.Goals as goal

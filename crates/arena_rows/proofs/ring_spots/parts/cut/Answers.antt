@@ -1,6 +1,4 @@
-use Rattle.std.proofs.Common.{refl, sym, ap, ◌∙◌}
-use Rattle.raw_ring.specs.Rings.{spot}
-use Rattle.arena_rows.specs.Common.{Spots, label, ring, labelled, loop_at, in_loops}
+use Rattle.arena_rows.proofs.Prelude.{refl, sym, ap, ◌∙◌, spot, Spots, label, ring, labelled, loop_at, in_loops}
 use Rattle.arena_rows.proofs.ring_spots_laws.SpotLaws.{label-spliced}
 use Rattle.arena_rows.proofs.ring_spots_laws.LoopSpots.{live-alike}
 use Rattle.arena_rows.proofs.ring_spots_laws.LabelLaws.{share-cut_to}

@@ -1,7 +1,4 @@
-use Rattle.std.proofs.Common.{◌≡◌, ◌≢◌, ℕ, Bool, sym, ap, subst, ◌∙◌}
-use Rattle.raw_ring.specs.Rings.{or_zero, spot}
-use Rattle.boundary_model.specs.Items.{count}
-use Rattle.arena_rows.specs.Common.{Spots, labelled, label, ring, own, holder}
+use Rattle.arena_rows.proofs.Prelude.{◌≡◌, ◌≢◌, ℕ, Bool, sym, ap, subst, ◌∙◌, or_zero, spot, count, Spots, labelled, label, ring, own, holder}
 use Rattle.arena_rows.proofs.ring_spots_laws.RingMaps.{live_known}
 use Rattle.arena_rows.proofs.ring_spots_laws.SpotLaws.{label-labelled_out}
 use Rattle.arena_rows.proofs.ring_spots_laws.LabelLaws.{labelled-apart, relabelled_part, own_kept}

@@ -1,7 +1,4 @@
-use Rattle.std.proofs.Common.{◌≡◌, ◌-◌, ◌+◌, ℕ, true, true≢false, Some, ap, sym, refl, subst, ◌∙◌, arith}
-use Rattle.std.proofs.lemmas.Bool.{false≢true}
-use Rattle.raw_ring.specs.Rings.{RingMap, spot, next_of, or_zero}
-use Rattle.arena_rows.specs.Common.{codes, live}
+use Rattle.arena_rows.proofs.Prelude.{◌≡◌, ◌-◌, ◌+◌, ℕ, true, true≢false, Some, ap, sym, refl, subst, ◌∙◌, arith, false≢true, RingMap, spot, next_of, or_zero, codes, live}
 use Rattle.arena_rows.proofs.ring_spots_laws.SpotTables.{codes_are}
 use Rattle.arena_rows.proofs.ring_spots_laws.Lengths.{Counted, counted_none, counted_all, counted_more, counted_some, counted_over}
 use Rattle.arena_rows.proofs.ring_spots.parts.is_shorter.Goals as goal

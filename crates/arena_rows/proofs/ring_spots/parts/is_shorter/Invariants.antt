@@ -1,6 +1,4 @@
-use Rattle.std.proofs.Common.{◌≡◌, ◌-◌, true}
-use Rattle.raw_ring.specs.Rings.{spot}
-use Rattle.arena_rows.specs.Common.{codes, live}
+use Rattle.arena_rows.proofs.Prelude.{◌≡◌, ◌-◌, true, spot, codes, live}
 use Rattle.arena_rows.proofs.ring_spots_laws.Lengths.{Counted}
 use Rattle.arena_rows.proofs.ring_spots.parts.is_shorter.Given as goal
 

@@ -1,6 +1,4 @@
-use Rattle.std.proofs.Common.{◌≡◌, cond, nat_eq, sym, ap, ◌∙◌}
-use Rattle.raw_ring.specs.Rings.{spot}
-use Rattle.arena_rows.specs.Common.{Spots, live, label, ring, labelled, loop_at, in_loops}
+use Rattle.arena_rows.proofs.Prelude.{◌≡◌, cond, nat_eq, sym, ap, ◌∙◌, spot, Spots, live, label, ring, labelled, loop_at, in_loops}
 use Rattle.arena_rows.proofs.ring_spots_laws.SpotLaws.{live-spliced, label-spliced}
 use Rattle.arena_rows.proofs.ring_spots_laws.LabelLaws.{share-one, relabelled-one, labelled-join_to, labelled_alike, loops-put}
 use Rattle.arena_rows.proofs.ring_spots_laws.LoopViews.{seen-join}

@@ -1,6 +1,4 @@
-use Rattle.std.proofs.Common.{◌≡◌, ℕ, cond, nat_eq, ap, sym, subst}
-use Rattle.raw_ring.specs.Rings.{or_zero}
-use Rattle.arena_rows.specs.Common.{loop_at}
+use Rattle.arena_rows.proofs.Prelude.{◌≡◌, ℕ, cond, nat_eq, ap, sym, subst, or_zero, loop_at}
 use Rattle.arena_rows.proofs.ring_spots_laws.LabelLaws.{labelled_alike, loops-put}
 use Rattle.arena_rows.proofs.ring_spots.parts.put_in_loop.Goals as goal
 

@@ -1,6 +1,4 @@
-use Rattle.std.proofs.Common.{ℕ, sym, ap, ◌∙◌}
-use Rattle.raw_ring.specs.Rings.{spot}
-use Rattle.arena_rows.specs.Common.{label, ring, map_spot, labelled, loop_at}
+use Rattle.arena_rows.proofs.Prelude.{ℕ, sym, ap, ◌∙◌, spot, label, ring, map_spot, labelled, loop_at}
 use Rattle.arena_rows.proofs.ring_spots_laws.LabelTables.{already}
 use Rattle.arena_rows.proofs.ring_spots_laws.LoopSpots.{live-alike}
 use Rattle.arena_rows.proofs.ring_spots_laws.LabelLaws.{share_turned, loops-put}

@@ -1,7 +1,4 @@
-use Rattle.std.proofs.Common.{◌≡◌, true, cond, nat_eq, ap, sym, subst, ◌∙◌, inl, inr}
-use Rattle.raw_ring.specs.Rings.{or_zero, spot}
-use Rattle.boundary_model.proofs.Lists.{IsIn_or_not}
-use Rattle.arena_rows.specs.Common.{Spots, label, labelled, ring, has_label, loop_at}
+use Rattle.arena_rows.proofs.Prelude.{◌≡◌, true, cond, nat_eq, ap, sym, subst, ◌∙◌, inl, inr, or_zero, spot, IsIn_or_not, Spots, label, labelled, ring, has_label, loop_at}
 use Rattle.arena_rows.proofs.ring_spots_laws.LabelTables.{already}
 use Rattle.arena_rows.proofs.ring_spots_laws.SpotLaws.{label-labelled_in, label-labelled_out}
 use Rattle.arena_rows.proofs.ring_spots.parts.share_label.Goals as goal

@@ -1,7 +1,4 @@
-use Rattle.std.proofs.Common.{◌≡◌, None, ◌∙◌, ap, sym}
-use Rattle.std.proofs.lemmas.Result.{err_from_is_err_and}
-use Rattle.euler_operators.specs.Common.{solid_of, first_refusal, verdict}
-use Rattle.shapes.specs.Common.{faces_of_both, numbers_left, faces_are_flat, face_conditions, outline_conditions}
+use Rattle.gluing.proofs.Prelude.{◌≡◌, None, ◌∙◌, ap, sym, err_from_is_err_and, solid_of, first_refusal, verdict, faces_of_both, numbers_left, faces_are_flat, face_conditions, outline_conditions}
 use Rattle.gluing.proofs.glue_checks_laws.Conditions.{all_passed, faces_failed, solids_failed, outlines_failed, numbers_decide, early_passed, first_held, second_held}
 use Rattle.gluing.proofs.glue_checks.checks.check_glue.Goals as goal
 use Rattle.gluing.proofs.glue_checks.checks.check_glue.Goals.{Else-is_err-2}

@@ -1,5 +1,4 @@
-use Rattle.std.proofs.Common.{◌≡◌, ◌∙◌, ap, sym, false, reverse}
-use Rattle.shapes.specs.Common.{has_repeats, is_rotation, outline}
+use Rattle.gluing.proofs.Prelude.{◌≡◌, ◌∙◌, ap, sym, false, reverse, has_repeats, is_rotation, outline}
 use Rattle.gluing.proofs.glue_checks_laws.Conditions.{no_match}
 use Rattle.gluing.proofs.glue_checks_laws.Points.{repeats_turned}
 use Rattle.gluing.proofs.glue_checks.checks.check_outlines.Goals as goal

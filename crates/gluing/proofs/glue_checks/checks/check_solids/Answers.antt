@@ -1,5 +1,4 @@
-use Rattle.std.proofs.Common.{◌∙◌, ap}
-use Rattle.euler_operators.specs.Common.{first_refusal, verdict}
+use Rattle.gluing.proofs.Prelude.{◌∙◌, ap, first_refusal, verdict}
 use Rattle.gluing.proofs.glue_checks_laws.Known.{flat_beside, beside_flat, known_flat}
 use Rattle.gluing.proofs.glue_checks.checks.check_solids.Goals as goal
 

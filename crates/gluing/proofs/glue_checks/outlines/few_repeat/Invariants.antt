@@ -1,5 +1,4 @@
-use Rattle.std.proofs.Common.{◌≡◌, length}
-use Rattle.shapes.specs.Common.{has_repeats}
+use Rattle.gluing.proofs.Prelude.{◌≡◌, length, has_repeats}
 use Rattle.gluing.proofs.glue_checks.outlines.few_repeat.Given as goal
 
 abbrev pub invariant-points : goal.invariant-points

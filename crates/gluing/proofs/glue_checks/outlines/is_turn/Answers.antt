@@ -1,6 +1,4 @@
-use Rattle.std.proofs.Common.{◌≡◌, ◌∙◌, ap, sym, Bool, true, false, ◌&&◌, ◌-◌, ◌++◌, length, take, drop}
-use Rattle.std.proofs.lemmas.List.{take_rest}
-use Rattle.shapes.specs.Common.{same_points}
+use Rattle.gluing.proofs.Prelude.{◌≡◌, ◌∙◌, ap, sym, Bool, true, false, ◌&&◌, ◌-◌, ◌++◌, length, take, drop, take_rest, same_points}
 use Rattle.gluing.proofs.glue_checks_laws.Turns.{two_parts}
 use Rattle.gluing.proofs.glue_checks.outlines.is_turn.Goals as goal
 

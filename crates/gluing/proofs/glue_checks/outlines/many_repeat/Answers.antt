@@ -1,5 +1,4 @@
-use Rattle.std.proofs.Common.{◌∙◌, ap, not}
-use Rattle.shapes.specs.Common.{has_repeats}
+use Rattle.gluing.proofs.Prelude.{◌∙◌, ap, not, has_repeats}
 use Rattle.gluing.proofs.glue_checks_laws.Keys.{is_met, key, met_more, was_met, first_met, first_new, none_in}
 use Rattle.gluing.proofs.glue_checks.outlines.many_repeat.Goals as goal
 

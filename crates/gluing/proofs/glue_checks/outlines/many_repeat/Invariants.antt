@@ -1,6 +1,4 @@
-use Rattle.std.proofs.Common.{◌≡◌, ◌||◌, length}
-use Rattle.std.specs.List.{list_any}
-use Rattle.shapes.specs.Common.{has_repeats}
+use Rattle.gluing.proofs.Prelude.{◌≡◌, ◌||◌, length, list_any, has_repeats}
 use Rattle.gluing.proofs.glue_checks_laws.Keys.{is_met}
 use Rattle.gluing.proofs.glue_checks.outlines.many_repeat.Given as goal
 

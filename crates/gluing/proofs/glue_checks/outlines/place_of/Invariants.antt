@@ -1,5 +1,4 @@
-use Rattle.std.proofs.Common.{◌≡◌, ◌+◌, length}
-use Rattle.gluing.specs.glue_checks.Places.{place_from}
+use Rattle.gluing.proofs.Prelude.{◌≡◌, ◌+◌, length, place_from}
 use Rattle.gluing.proofs.glue_checks.outlines.place_of.Given as goal
 
 abbrev pub invariant-points : goal.invariant-points

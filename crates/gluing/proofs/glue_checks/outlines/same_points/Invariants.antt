@@ -1,5 +1,4 @@
-use Rattle.std.proofs.Common.{◌≡◌, length}
-use Rattle.shapes.specs.Common.{same_points}
+use Rattle.gluing.proofs.Prelude.{◌≡◌, length, same_points}
 use Rattle.gluing.proofs.glue_checks.outlines.same_points.Given as goal
 
 abbrev pub invariant-points : goal.invariant-points

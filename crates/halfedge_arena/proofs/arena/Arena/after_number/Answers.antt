@@ -1,8 +1,5 @@
-use Rattle.arena_rows.specs.RawRings.{spot}
+use Rattle.halfedge_arena.proofs.Prelude.{spot, has_row, solid_row, face_row, loop_row, is_edge, edge_has, has_is, next_number}
 use Rattle.boundary_model.specs.declared.Kind.TheVariants.{Solid, Face, Loop, Edge, Vertex}
-use Rattle.arena_rows.specs.RawRows.{has_row}
-use Rattle.arena_rows.specs.Common.{solid_row, face_row, loop_row, is_edge}
-use Rattle.arena_rows.proofs.Common.{edge_has, has_is, next_number}
 use Rattle.halfedge_arena.proofs.arena.Arena.after_number.Goals as goal
 
 pub returns-in-Solid : goal.returns-in-Solid

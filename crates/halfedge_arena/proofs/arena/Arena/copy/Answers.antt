@@ -1,6 +1,5 @@
-use Rattle.std.proofs.Common.{ap, subst, sym, ◌∙◌}
+use Rattle.halfedge_arena.proofs.Prelude.{ap, subst, sym, ◌∙◌, IsWhole, arena_of}
 use Rattle.std.proofs.lemmas.Result.{IfOk-at_ok}
-use Rattle.arena_rows.specs.Common.{IsWhole, arena_of}
 use Rattle.halfedge_arena.proofs.arena.Arena.copy.Goals as goal
 
 -- each part of the copy is that of the arena, one after the other

@@ -1,8 +1,4 @@
-use Rattle.std.proofs.Common.{◌∙◌, ap, is_some, Some, refl}
-use Rattle.arena_rows.specs.RawRings.{spot, or_zero}
-use Rattle.arena_rows.specs.declared.rows.StoredContent.TheVariants.{At}
-use Rattle.arena_rows.specs.Common.{label}
-use Rattle.arena_rows.proofs.Common.{next_some, edge_fits, IsRefilled, refilled_at, CutFacts, cut_facts, row_of, next_before, cut_loose_as, indexed_refilled}
+use Rattle.halfedge_arena.proofs.Prelude.{◌∙◌, ap, is_some, Some, refl, spot, or_zero, At, label, next_some, edge_fits, IsRefilled, refilled_at, CutFacts, cut_facts, row_of, next_before, cut_loose_as, indexed_refilled}
 use Rattle.halfedge_arena.proofs.arena.Arena.cut_alone.Goals as goal
 use Rattle.halfedge_arena.proofs.arena.Arena.cut_alone.Goals.{After-code-goes, After-set}
 

@@ -1,6 +1,4 @@
-use Rattle.std.proofs.Common.{ap, ◌∙◌, length}
-use Rattle.arena_rows.specs.Common.{owned}
-use Rattle.arena_rows.proofs.Common.{face_count_is}
+use Rattle.halfedge_arena.proofs.Prelude.{ap, ◌∙◌, length, owned, face_count_is}
 use Rattle.halfedge_arena.proofs.arena.Arena.face_count.Goals as goal
 
 pub returns : goal.returns

@@ -1,5 +1,4 @@
-use Rattle.arena_rows.specs.Common.{solid_row, face_row, loop_row}
-use Rattle.arena_rows.proofs.Common.{greatest_row, greatest_edge}
+use Rattle.halfedge_arena.proofs.Prelude.{solid_row, face_row, loop_row, greatest_row, greatest_edge}
 use Rattle.halfedge_arena.proofs.arena.Arena.greatest.Goals as goal
 
 pub returns-in-Solid : goal.returns-in-Solid

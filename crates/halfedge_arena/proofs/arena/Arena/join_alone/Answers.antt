@@ -1,7 +1,4 @@
-use Rattle.std.proofs.Common.{sym, ◌∙◌, ap, ◌≡◌, Some}
-use Rattle.arena_rows.specs.RawRings.{spot}
-use Rattle.arena_rows.specs.Common.{label}
-use Rattle.arena_rows.proofs.Common.{next_some, edge_fits, loop_of_is, JoinFacts, join_facts, next_alone, join_kept_as}
+use Rattle.halfedge_arena.proofs.Prelude.{sym, ◌∙◌, ap, ◌≡◌, Some, spot, label, next_some, edge_fits, loop_of_is, JoinFacts, join_facts, next_alone, join_kept_as}
 use Rattle.halfedge_arena.proofs.arena.Arena.join_alone.Goals as goal
 use Rattle.halfedge_arena.proofs.arena.Arena.join_alone.Goals.{After-code-second}
 

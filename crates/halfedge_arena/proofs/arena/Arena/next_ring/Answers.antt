@@ -1,5 +1,4 @@
-use Rattle.std.proofs.Common.{sym, ◌∙◌}
-use Rattle.arena_rows.proofs.Common.{next_ring_told, ring_past_told}
+use Rattle.halfedge_arena.proofs.Prelude.{sym, ◌∙◌, next_ring_told, ring_past_told}
 use Rattle.halfedge_arena.proofs.arena.Arena.next_ring.Goals as goal
 
 pub returns-then-eq : goal.returns-then-eq

@@ -1,5 +1,4 @@
-use Rattle.std.proofs.Common.{sym, ◌∙◌}
-use Rattle.arena_rows.proofs.Common.{only_told, none_told}
+use Rattle.halfedge_arena.proofs.Prelude.{sym, ◌∙◌, only_told, none_told}
 use Rattle.halfedge_arena.proofs.arena.Arena.only_face.Goals as goal
 
 pub returns-then-count-eq1 : goal.returns-then-count-eq1

@@ -1,5 +1,4 @@
-use Rattle.std.proofs.Common.{sym, ◌∙◌, arith, true, false}
-use Rattle.arena_rows.proofs.Common.{has-row, rings_counted}
+use Rattle.halfedge_arena.proofs.Prelude.{sym, ◌∙◌, arith, true, false, has-row, rings_counted}
 use Rattle.halfedge_arena.proofs.arena.Arena.ring_count.Goals as goal
 
 pub known-outer-requires : goal.known-outer-requires

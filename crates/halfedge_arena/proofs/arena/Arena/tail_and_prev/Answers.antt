@@ -1,8 +1,4 @@
-use Rattle.std.proofs.Common.{ap, sym, ◌∙◌}
-use Rattle.arena_rows.specs.RawRings.{or_zero}
-use Rattle.boundary_model.specs.HalfEdge.{code}
-use Rattle.arena_rows.proofs.Common.{IsLive-next, edge_fits, half_there, tail_is, before_is, loose_before}
-use Rattle.boundary_model.proofs.Halves.{code-half}
+use Rattle.halfedge_arena.proofs.Prelude.{ap, sym, ◌∙◌, or_zero, code, IsLive-next, edge_fits, half_there, tail_is, before_is, loose_before, code-half}
 use Rattle.halfedge_arena.proofs.arena.Arena.tail_and_prev.Goals as goal
 
 pub code-requires : goal.code-requires

@@ -1,8 +1,5 @@
-use Rattle.std.proofs.Common.{sym, ap, ◌∙◌, ◌<◌, length, take, arith}
+use Rattle.low_euler.proofs.Prelude.{sym, ap, ◌∙◌, ◌<◌, length, take, arith, Store, set_solid, lists, listed_at}
 use Rattle.euler_operators.specs.Table as table
-use Rattle.euler_conditions.specs.Store.{Store, set_solid}
-use Rattle.euler_operators.specs.Common.{lists}
-use Rattle.euler_laws.proofs.Common.{listed_at}
 use Rattle.low_euler.proofs.face_operators_laws.Handing.{start, step, has_given}
 use Rattle.low_euler.proofs.face_operators.moving.give_faces.Goals as goal
 

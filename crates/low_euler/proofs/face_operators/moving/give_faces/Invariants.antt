@@ -1,5 +1,4 @@
-use Rattle.std.proofs.Common.{◌≡◌, take}
-use Rattle.low_euler.specs.face_operators.Moving.{moved}
+use Rattle.low_euler.proofs.Prelude.{◌≡◌, take, moved}
 use Rattle.low_euler.proofs.face_operators.moving.give_faces.Given as goal
 
 abbrev pub invariant-faces : goal.invariant-faces

@@ -1,10 +1,5 @@
-use Rattle.std.proofs.Common.{◌≡◌, ◌+◌, length, refl, ap, ◌∙◌, subst, arith}
+use Rattle.low_euler.proofs.Prelude.{◌≡◌, ◌+◌, length, refl, ap, ◌∙◌, subst, arith, Store, set_solid, within, is_face_of, IsNextFace, faces_of, Merge, after, merge_goes}
 use Rattle.euler_operators.specs.Table as table
-use Rattle.euler_conditions.specs.Store.{Store, set_solid, within, is_face_of, IsNextFace}
-use Rattle.euler_operators.specs.Common.{faces_of}
-use Rattle.euler_operators.specs.declared.Op.TheVariants.{Merge}
-use Rattle.euler_conditions.specs.Ready.{after}
-use Rattle.euler_laws.proofs.Common.{merge_goes}
 use Rattle.low_euler.proofs.Merging.{merge_apart, merge_same, one_less, zero_stays, merge_ends, no_zero_face, no_face_left}
 use Rattle.low_euler.proofs.face_operators.moving.merge.Goals as goal
 

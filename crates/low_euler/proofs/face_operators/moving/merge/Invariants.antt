@@ -1,9 +1,5 @@
-use Rattle.std.proofs.Common.{◌≡◌, length, true, false}
-use Rattle.euler_operators.specs.Common.{Solid, faces_of}
+use Rattle.low_euler.proofs.Prelude.{◌≡◌, length, true, false, Solid, faces_of, has_room, is_face_of, Merge, after}
 use Rattle.euler_operators.specs.Table as table
-use Rattle.euler_conditions.specs.Store.{has_room, is_face_of}
-use Rattle.euler_operators.specs.declared.Op.TheVariants.{Merge}
-use Rattle.euler_conditions.specs.Ready.{after}
 use Rattle.low_euler.proofs.face_operators.moving.merge.Given as goal
 
 abbrev pub invariant-faces : goal.invariant-faces

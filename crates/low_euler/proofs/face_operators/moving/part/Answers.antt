@@ -1,9 +1,5 @@
-use Rattle.std.proofs.Common.{ap, ◌∙◌}
+use Rattle.low_euler.proofs.Prelude.{ap, ◌∙◌, Store, effect, part, moved, part_goes}
 use Rattle.euler_operators.specs.Table as table
-use Rattle.euler_conditions.specs.Store.{Store}
-use Rattle.euler_operators.specs.Common.{effect, part}
-use Rattle.low_euler.specs.face_operators.Moving.{moved}
-use Rattle.euler_laws.proofs.Common.{part_goes}
 use Rattle.low_euler.proofs.face_operators.moving.part.Goals as goal
 
 pub give_faces-requires-clause-there : goal.give_faces-requires-clause-there

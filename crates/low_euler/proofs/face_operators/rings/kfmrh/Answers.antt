@@ -1,9 +1,6 @@
-use Rattle.std.proofs.Common.{sym, ap, ◌∙◌}
+use Rattle.low_euler.proofs.Prelude.{sym, ap, ◌∙◌, Table, LoopRow, outer, Has, effect, kfmrh, Store, set_face, take_face, kfmrh_goes}
 use Rattle.euler_operators.specs.Table as table
-use Rattle.euler_operators.specs.Common.{Table, LoopRow, outer, Has, effect, kfmrh}
-use Rattle.euler_conditions.specs.Store.{Store, set_face, take_face}
 use Rattle.low_euler.proofs.face_operators_laws.Rows.{loop_moved}
-use Rattle.euler_laws.proofs.Common.{kfmrh_goes}
 use Rattle.low_euler.proofs.face_operators.rings.kfmrh.Goals as goal
 
 pub outer-ring-requires : goal.outer-ring-requires

@@ -1,10 +1,6 @@
-use Rattle.std.proofs.Common.{is_some, ap, ◌∙◌}
+use Rattle.low_euler.proofs.Prelude.{is_some, ap, ◌∙◌, Table, put, FaceRow, face_of, solid_of, Has, effect, mfkrh, get-put_here, Store, put_face, set_face, mfkrh_goes}
 use Rattle.euler_operators.specs.Table as table
-use Rattle.euler_operators.specs.Common.{Table, put, FaceRow, face_of, solid_of, Has, effect, mfkrh}
-use Rattle.euler_operators.proofs.Common.{get-put_here}
-use Rattle.euler_conditions.specs.Store.{Store, put_face, set_face}
 use Rattle.low_euler.proofs.face_operators_laws.Swaps.{loop_given}
-use Rattle.euler_laws.proofs.Common.{mfkrh_goes}
 use Rattle.low_euler.proofs.face_operators.rings.mfkrh.Goals as goal
 
 pub face_of-requires : goal.face_of-requires

@@ -1,8 +1,5 @@
-use Rattle.std.proofs.Common.{ap, subst, ◌∙◌}
+use Rattle.low_euler.proofs.Prelude.{ap, subst, ◌∙◌, face_of, outer, Has, effect, take_outer, Store, set_face, set_outer, outer_goes_so}
 use Rattle.euler_operators.specs.Table as table
-use Rattle.euler_operators.specs.Common.{face_of, outer, Has, effect, take_outer}
-use Rattle.euler_conditions.specs.Store.{Store, set_face, set_outer}
-use Rattle.euler_laws.proofs.Common.{outer_goes_so}
 use Rattle.low_euler.proofs.face_operators_laws.Swaps.{swapped, face_stays}
 use Rattle.low_euler.proofs.face_operators.rings.outer.Goals as goal
 

@@ -1,7 +1,5 @@
-use Rattle.std.proofs.Common.{sym, ap, ◌∙◌}
-use Rattle.euler_operators.specs.Common.{Table, LoopRow, effect, ring_in}
+use Rattle.low_euler.proofs.Prelude.{sym, ap, ◌∙◌, Table, LoopRow, effect, ring_in, ring_in_goes}
 use Rattle.low_euler.proofs.face_operators_laws.Rows.{loop_moved}
-use Rattle.euler_laws.proofs.Common.{ring_in_goes}
 use Rattle.low_euler.proofs.face_operators.rings.ring_in.Goals as goal
 
 pub give_loop-requires-clause-there : goal.give_loop-requires-clause-there

@@ -1,8 +1,5 @@
-use Rattle.std.proofs.Common.{ap, ◌∙◌}
+use Rattle.low_euler.proofs.Prelude.{ap, ◌∙◌, Store, set_face, effect, ring_out, ring_out_goes}
 use Rattle.euler_operators.specs.Table as table
-use Rattle.euler_conditions.specs.Store.{Store, set_face}
-use Rattle.euler_operators.specs.Common.{effect, ring_out}
-use Rattle.euler_laws.proofs.Common.{ring_out_goes}
 use Rattle.low_euler.proofs.face_operators_laws.Swaps.{swapped, face_stays}
 use Rattle.low_euler.proofs.face_operators.rings.ring_out.Goals as goal
 

@@ -1,7 +1,4 @@
-use Rattle.std.proofs.Common.{sym, ap, ◌∙◌, subst}
-use Rattle.euler_operators.specs.Common.{code, mate, loop_of, face_of}
-use Rattle.euler_conditions.specs.Store.{Store, join, take_loop, take_face}
-use Rattle.low_euler.specs.steps.Steps.{IsStanding, take_out, kill_edge}
+use Rattle.low_euler.proofs.Prelude.{sym, ap, ◌∙◌, subst, code, mate, loop_of, face_of, Store, join, take_loop, take_face, IsStanding, take_out, kill_edge}
 use Rattle.low_euler.proofs.loop_operators_laws.KefSteps as steps
 use Rattle.low_euler.proofs.loop_operators.faces.kef.Goals as goal
 

@@ -1,8 +1,5 @@
-use Rattle.std.proofs.Common.{◌≡◌, true, false, is_some, sym, ap, ◌∙◌, subst, true≢false}
-use Rattle.euler_operators.specs.Common.{code, before, face_of, solid_of}
+use Rattle.low_euler.proofs.Prelude.{◌≡◌, true, false, is_some, sym, ap, ◌∙◌, subst, true≢false, code, before, face_of, solid_of, Store, cut, put_face, IsStanding, IsUnused, with_edge, put_before}
 use Rattle.euler_operators.specs.Table as table
-use Rattle.euler_conditions.specs.Store.{Store, cut, put_face}
-use Rattle.low_euler.specs.steps.Steps.{IsStanding, IsUnused, with_edge, put_before}
 use Rattle.low_euler.proofs.loop_operators_laws.MefSteps as steps
 use Rattle.low_euler.proofs.loop_operators.faces.mef.Goals as goal
 

@@ -1,8 +1,5 @@
-use Rattle.std.proofs.Common.{◌≡◌, true, is_some, sym, ap, ◌∙◌, subst, true≢false}
-use Rattle.euler_operators.specs.Common.{code, mate, face_of}
+use Rattle.low_euler.proofs.Prelude.{◌≡◌, true, is_some, sym, ap, ◌∙◌, subst, true≢false, code, mate, face_of, Store, put_loop, cut, IsStanding, take_out, kill_edge}
 use Rattle.euler_operators.specs.Table as table
-use Rattle.euler_conditions.specs.Store.{Store, put_loop, cut}
-use Rattle.low_euler.specs.steps.Steps.{IsStanding, take_out, kill_edge}
 use Rattle.low_euler.proofs.loop_operators_laws.KemrSteps as steps
 use Rattle.low_euler.proofs.loop_operators.loops.kemr.Goals as goal
 

@@ -1,7 +1,4 @@
-use Rattle.std.proofs.Common.{sym, subst, ◌∙◌}
-use Rattle.euler_operators.specs.Common.{code}
-use Rattle.euler_conditions.specs.Store.{Store, join, take_loop}
-use Rattle.low_euler.specs.steps.Steps.{CanTake, with_edge, put_at}
+use Rattle.low_euler.proofs.Prelude.{sym, subst, ◌∙◌, code, Store, join, take_loop, CanTake, with_edge, put_at}
 use Rattle.low_euler.proofs.loop_operators_laws.MekrSteps as steps
 use Rattle.low_euler.proofs.loop_operators.loops.mekr.Goals as goal
 

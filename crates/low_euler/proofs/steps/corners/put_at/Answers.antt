@@ -1,5 +1,4 @@
-use Rattle.euler_operators.specs.Common.{code}
-use Rattle.euler_operators.proofs.Common.{in_no_loop}
+use Rattle.low_euler.proofs.Prelude.{code, in_no_loop}
 use Rattle.low_euler.proofs.steps.corners.put_at.Goals as goal
 
 pub fill-requires-clause-loose : goal.fill-requires-clause-loose

@@ -1,9 +1,5 @@
-use Rattle.std.proofs.Common.{sym, ap, ◌∙◌, subst}
-use Rattle.euler_operators.specs.Common.{code, mate, plus, minus}
-use Rattle.euler_operators.proofs.Common.{edge_of-code}
+use Rattle.low_euler.proofs.Prelude.{sym, ap, ◌∙◌, subst, code, mate, plus, minus, edge_of-code, Store, take_edge, IsStanding, take_out}
 use Rattle.euler_operators.specs.Table as table
-use Rattle.euler_conditions.specs.Store.{Store, take_edge}
-use Rattle.low_euler.specs.steps.Steps.{IsStanding, take_out}
 use Rattle.low_euler.proofs.steps_laws.EdgeSteps.{both_out}
 use Rattle.low_euler.proofs.steps.edges.kill_edge.Goals as goal
 

@@ -1,7 +1,4 @@
-use Rattle.std.proofs.Common.{sym, ap, ◌∙◌, subst}
-use Rattle.euler_operators.specs.Common.{code}
-use Rattle.euler_conditions.specs.Store.{Store}
-use Rattle.low_euler.specs.steps.Steps.{IsLoose, CanTake, with_edge, put_at}
+use Rattle.low_euler.proofs.Prelude.{sym, ap, ◌∙◌, subst, code, Store, IsLoose, CanTake, with_edge, put_at}
 use Rattle.low_euler.proofs.steps_laws.EdgeSteps.{first_loose, second_loose}
 use Rattle.low_euler.proofs.steps.edges.make_edge.Goals as goal
 

@@ -1,7 +1,4 @@
-use Rattle.std.proofs.Common.{◌≡◌, ℕ, Bool, true, nat_eq, refl, sym, ap, ◌∙◌, subst, eqb-true}
-use Rattle.euler_operators.specs.Common.{At, code, mate}
-use Rattle.euler_conditions.specs.Store.{Store}
-use Rattle.low_euler.specs.steps.Steps.{IsStanding, IsLoose, with_edge, put_before}
+use Rattle.low_euler.proofs.Prelude.{◌≡◌, ℕ, Bool, true, nat_eq, refl, sym, ap, ◌∙◌, subst, eqb-true, At, code, mate, Store, IsStanding, IsLoose, with_edge, put_before}
 use Rattle.low_euler.proofs.steps_laws.StoreSteps.{joins_alone, was_put}
 use Rattle.low_euler.proofs.steps_laws.EdgeSteps.{first_loose, second_loose}
 use Rattle.low_euler.proofs.steps_laws.BothSteps.{mate_loose, half_asks, half_was}

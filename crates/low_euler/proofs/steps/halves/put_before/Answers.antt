@@ -1,7 +1,4 @@
-use Rattle.std.proofs.Common.{ap, ◌∙◌}
-use Rattle.euler_operators.specs.Common.{code}
-use Rattle.euler_operators.proofs.Common.{in_no_loop}
-use Rattle.euler_conditions.specs.Store.{join}
+use Rattle.low_euler.proofs.Prelude.{ap, ◌∙◌, code, in_no_loop, join}
 use Rattle.low_euler.proofs.steps_laws.StoreSteps.{join_puts}
 use Rattle.low_euler.proofs.steps.halves.put_before.Goals as goal
 

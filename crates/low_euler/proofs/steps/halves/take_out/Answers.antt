@@ -1,8 +1,5 @@
-use Rattle.std.proofs.Common.{sym, ap, ◌∙◌, eqb-true}
-use Rattle.std.proofs.lemmas.Bool.{eqb-false}
-use Rattle.euler_operators.specs.Common.{code, items_of, content}
+use Rattle.low_euler.proofs.Prelude.{sym, ap, ◌∙◌, eqb-true, eqb-false, code, items_of, content, cut, clear, with_lone}
 use Rattle.euler_operators.specs.Table as table
-use Rattle.euler_conditions.specs.Store.{cut, clear, with_lone}
 use Rattle.low_euler.proofs.steps_laws.StoreSteps as steps
 use Rattle.low_euler.proofs.steps.halves.take_out.Goals as goal
 

@@ -1,7 +1,4 @@
-use Rattle.std.proofs.Common.{◌<◌, length, ap, sym, subst, ◌∙◌}
-use Rattle.euler_operators.specs.Common.{code, mate, has_half, arc}
-use Rattle.euler_operators.proofs.Common.{code-half}
-use Rattle.euler_conditions.specs.Store.{Store, set_tail}
+use Rattle.low_euler.proofs.Prelude.{◌<◌, length, ap, sym, subst, ◌∙◌, code, mate, has_half, arc, code-half, Store, set_tail}
 use Rattle.low_euler.proofs.steps_laws.Tails.{HasCome, edge_fits, come_first, half_now, mate_there, come_next, come_last}
 use Rattle.low_euler.proofs.steps.tails.move_tails.Goals as goal
 

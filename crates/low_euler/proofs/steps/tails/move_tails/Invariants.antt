@@ -1,5 +1,4 @@
-use Rattle.std.proofs.Common.{length}
-use Rattle.euler_operators.specs.Common.{code, arc}
+use Rattle.low_euler.proofs.Prelude.{length, code, arc}
 use Rattle.low_euler.proofs.steps_laws.Tails.{HasCome}
 use Rattle.low_euler.proofs.steps.tails.move_tails.Given as goal
 

@@ -1,7 +1,4 @@
-use Rattle.std.proofs.Common.{ap, sym, subst, ◌∙◌}
-use Rattle.euler_operators.specs.Common.{code, mate, has_half, tail, arc, HasHalf}
-use Rattle.euler_conditions.specs.Store.{Store, take_vertex}
-use Rattle.low_euler.specs.steps.Steps.{IsStanding, take_out, kill_edge, with_tails_at}
+use Rattle.low_euler.proofs.Prelude.{ap, sym, subst, ◌∙◌, code, mate, has_half, tail, arc, HasHalf, Store, take_vertex, IsStanding, take_out, kill_edge, with_tails_at}
 use Rattle.low_euler.proofs.vertex_operators_laws.KevSteps as steps
 use Rattle.low_euler.proofs.vertex_operators.edges.kev.Goals as goal
 

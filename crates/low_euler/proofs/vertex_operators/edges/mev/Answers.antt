@@ -1,7 +1,4 @@
-use Rattle.std.proofs.Common.{ap, sym, subst, ◌∙◌}
-use Rattle.euler_operators.specs.Common.{At}
-use Rattle.euler_operators.specs.declared.Op.TheVariants.{Mev}
-use Rattle.euler_conditions.specs.Ready.{Accepts, after}
+use Rattle.low_euler.proofs.Prelude.{ap, sym, subst, ◌∙◌, At, Mev, Accepts, after}
 use Rattle.low_euler.proofs.vertex_operators_laws.Corners.{lone_accepts, lone_after, never_mixed}
 use Rattle.low_euler.proofs.vertex_operators.edges.mev.Goals as goal
 

@@ -1,8 +1,5 @@
-use Rattle.std.proofs.Common.{◌≡◌, ap, sym, subst, ◌∙◌}
-use Rattle.euler_operators.specs.Common.{code, mate, before}
+use Rattle.low_euler.proofs.Prelude.{◌≡◌, ap, sym, subst, ◌∙◌, code, mate, before, Store, Extents, within, put_vertex, LoopsStandApart, IsStanding, IsUnused, with_edge, put_before}
 use Rattle.euler_operators.specs.Table as table
-use Rattle.euler_conditions.specs.Store.{Store, Extents, within, put_vertex}
-use Rattle.low_euler.specs.steps.Steps.{LoopsStandApart, IsStanding, IsUnused, with_edge, put_before}
 use Rattle.low_euler.proofs.steps_laws.Tails.{room-tails}
 use Rattle.low_euler.proofs.vertex_operators_laws.CornerSteps as steps
 use Rattle.low_euler.proofs.vertex_operators.edges.mev_at.Goals as goal

@@ -1,8 +1,5 @@
-use Rattle.std.proofs.Common.{ap, sym, subst, ◌∙◌}
-use Rattle.euler_operators.specs.Common.{code, mate, Lone}
+use Rattle.low_euler.proofs.Prelude.{ap, sym, subst, ◌∙◌, code, mate, Lone, Store, fill, IsStanding, IsUnused, CanTake, with_edge, put_before}
 use Rattle.euler_operators.specs.Table as table
-use Rattle.euler_conditions.specs.Store.{Store, fill}
-use Rattle.low_euler.specs.steps.Steps.{IsStanding, IsUnused, CanTake, with_edge, put_before}
 use Rattle.low_euler.proofs.vertex_operators_laws.LoneSteps as steps
 use Rattle.low_euler.proofs.vertex_operators.edges.mev_lone.Goals as goal
 

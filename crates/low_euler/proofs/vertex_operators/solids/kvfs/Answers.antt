@@ -1,7 +1,5 @@
-use Rattle.std.proofs.Common.{ap, sym, refl, is_some, true≢false, ◌∙◌}
+use Rattle.low_euler.proofs.Prelude.{ap, sym, refl, is_some, true≢false, ◌∙◌, outer, items_of, content, is_lone, lone_vertex, Store, take_vertex, take_loop, take_face, take_solid}
 use Rattle.euler_operators.specs.Table as table
-use Rattle.euler_operators.specs.Common.{outer, items_of, content, is_lone, lone_vertex}
-use Rattle.euler_conditions.specs.Store.{Store, take_vertex, take_loop, take_face, take_solid}
 use Rattle.low_euler.proofs.vertex_operators_laws.SolidRows as rows
 use Rattle.low_euler.proofs.steps_laws.LoopsApart.{content-same}
 use Rattle.low_euler.proofs.vertex_operators.solids.kvfs.Goals as goal

@@ -1,8 +1,5 @@
-use Rattle.std.proofs.Common.{is_some, ap, ◌∙◌}
+use Rattle.low_euler.proofs.Prelude.{is_some, ap, ◌∙◌, items_of, content, Store, put_solid, put_loop, with_lone, mvfs_goes}
 use Rattle.euler_operators.specs.Table as table
-use Rattle.euler_operators.specs.Common.{items_of, content}
-use Rattle.euler_conditions.specs.Store.{Store, put_solid, put_loop, with_lone}
-use Rattle.euler_laws.proofs.Common.{mvfs_goes}
 use Rattle.low_euler.proofs.vertex_operators_laws.SolidRows.{was_begun, new_loop_there, new_loop_bare, mvfs_made}
 use Rattle.low_euler.proofs.vertex_operators.solids.mvfs.Goals as goal
 

@@ -1,11 +1,6 @@
-use Rattle.std.proofs.Common.{◌≡◌, ◌∙◌, map, length, sym, ap, arith}
-use Rattle.euler_operators.specs.Common.{code}
-use Rattle.undo_journal.specs.Journal.{after_steps}
-use Rattle.split_drawing.specs.Counters.{taken_of}
-use Rattle.split_opening_laws.specs.strips.StripOps.{copy_ops}
+use Rattle.plane_split.proofs.Prelude.{◌≡◌, ◌∙◌, map, length, sym, ap, arith, code, after_steps, taken_of, copy_ops, further_none, further_on, no_steps, step_after, steps_make}
 use Rattle.plane_split.proofs.solid_opening_laws.Cycles.{inside_codes, edges_left, vertices_left}
 use Rattle.plane_split.proofs.solid_opening_laws.Raised.{half_there, copy_goes, one_raised}
-use Rattle.undo_journal.proofs.Marks.{further_none, further_on, no_steps, step_after, steps_make}
 use Rattle.plane_split.proofs.solid_opening.copies.raise_copies.Goals as goal
 
 pub copies-init : goal.copies-init

@@ -1,8 +1,4 @@
-use Rattle.std.proofs.Common.{◌≡◌, ◌≤◌, ◌-◌, length, map}
-use Rattle.euler_operators.specs.Common.{code}
-use Rattle.split_drawing.specs.Counters.{taken_of}
-use Rattle.split_opening_laws.specs.strips.StripOps.{copy_ops}
-use Rattle.undo_journal.specs.Journal.{after_steps, IsFurther}
+use Rattle.plane_split.proofs.Prelude.{◌≡◌, ◌≤◌, ◌-◌, length, map, code, taken_of, copy_ops, after_steps, IsFurther}
 use Rattle.plane_split.proofs.solid_opening.copies.raise_copies.Given as goal
 
 abbrev pub invariant-copies : goal.invariant-copies

@@ -1,8 +1,4 @@
-use Rattle.std.proofs.Common.{ap, ◌∙◌, arith}
-use Rattle.std.proofs.lemmas.Result.{on_ok_weaker}
-use Rattle.undo_journal.specs.Journal.{after_steps}
-use Rattle.undo_journal.proofs.Marks.{steps_after, steps_make}
-use Rattle.split_drawing.specs.Counters.{taken_of}
+use Rattle.plane_split.proofs.Prelude.{ap, ◌∙◌, arith, on_ok_weaker, after_steps, steps_after, steps_make, taken_of}
 use Rattle.plane_split.proofs.solid_opening_laws.Cycles.{some_half, faces_left, loops_left, edges_left, stripped, caps_go, all_ops}
 use Rattle.plane_split.proofs.solid_opening.cycle.open_cycle.Goals as goal
 

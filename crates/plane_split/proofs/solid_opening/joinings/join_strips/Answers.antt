@@ -1,11 +1,5 @@
-use Rattle.std.proofs.Common.{◌∙◌, ◌+◌, ◌*◌, [], ◌∷◌, ap, sym, subst, arith}
-use Rattle.euler_laws.specs.Laws.{AreAccepted}
-use Rattle.undo_journal.specs.Journal.{DraftJournal, after_steps}
-use Rattle.split_drawing.specs.Counters.{taken_of}
+use Rattle.plane_split.proofs.Prelude.{◌∙◌, ◌+◌, ◌*◌, [], ◌∷◌, ap, sym, subst, arith, AreAccepted, DraftJournal, after_steps, taken_of, further_none, further_on, no_steps, others_lead, Kef}
 use Rattle.plane_split.proofs.solid_opening_laws.Killed.{all_kills, no_kills, kill_goes, kills_go, kill_and_others}
-use Rattle.undo_journal.proofs.Marks.{further_none, further_on, no_steps}
-use Rattle.split_drawing.proofs.StepsLeft.{others_lead}
-use Rattle.euler_operators.specs.declared.Op.TheVariants.{Kef}
 use Rattle.plane_split.proofs.solid_opening.joinings.join_strips.Goals as goal
 
 pub risers-init : goal.risers-init

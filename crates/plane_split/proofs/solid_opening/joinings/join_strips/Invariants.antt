@@ -1,9 +1,5 @@
-use Rattle.std.proofs.Common.{◌≡◌, ◌+◌, ◌-◌, ◌*◌, ◌≤◌}
-use Rattle.euler_laws.specs.Laws.{AreAccepted}
-use Rattle.split_drawing.specs.Counters.{taken_of}
-use Rattle.split_opening_laws.specs.caps.CapOps.{joinings}
+use Rattle.plane_split.proofs.Prelude.{◌≡◌, ◌+◌, ◌-◌, ◌*◌, ◌≤◌, AreAccepted, taken_of, joinings, after_steps, IsFurther}
 use Rattle.plane_split.proofs.solid_opening_laws.Killed.{kills}
-use Rattle.undo_journal.specs.Journal.{after_steps, IsFurther}
 use Rattle.plane_split.proofs.solid_opening.joinings.join_strips.Given as goal
 
 abbrev pub invariant-risers : goal.invariant-risers

@@ -1,9 +1,4 @@
-use Rattle.std.proofs.Common.{ap, ◌∙◌}
-use Rattle.std.proofs.lemmas.Result.{on_ok_weaker}
-use Rattle.undo_journal.specs.Journal.{DraftJournal, after_steps}
-use Rattle.undo_journal.proofs.Marks.{step_after, steps_make}
-use Rattle.split_drawing.specs.Counters.{taken_of}
-use Rattle.euler_laws.proofs.Common.{next_goes, next_taken}
+use Rattle.plane_split.proofs.Prelude.{ap, ◌∙◌, on_ok_weaker, DraftJournal, after_steps, step_after, steps_make, taken_of, next_goes, next_taken}
 use Rattle.plane_split.proofs.solid_opening_laws.Killed.{joinings_go, partings_left, caps_are}
 use Rattle.plane_split.proofs.solid_opening.joinings.make_caps.Goals as goal
 

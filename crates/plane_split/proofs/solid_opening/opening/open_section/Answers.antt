@@ -1,11 +1,5 @@
-use Rattle.std.proofs.Common.{◌∙◌, map, refl, ap}
-use Rattle.undo_journal.specs.Journal.{after_steps}
-use Rattle.split_laws.specs.SplitOps.{openings_ops}
-use Rattle.split_drawing.proofs.StepsLeft.{others_lead, none_left}
-use Rattle.split_sections.specs.section_cycles.Halves.{halves_of}
-use Rattle.plane_split.specs.solid_opening.Capped.{opening_of}
+use Rattle.plane_split.proofs.Prelude.{◌∙◌, map, refl, ap, after_steps, openings_ops, others_lead, none_left, halves_of, opening_of, further_on, steps_make}
 use Rattle.plane_split.proofs.solid_opening_laws.Turns.{cycle_opens, others_left}
-use Rattle.undo_journal.proofs.Marks.{further_on, steps_make}
 use Rattle.plane_split.proofs.solid_opening.opening.open_section.Goals as goal
 
 pub open_cycle-requires : goal.open_cycle-requires

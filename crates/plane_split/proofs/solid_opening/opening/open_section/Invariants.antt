@@ -1,11 +1,4 @@
-use Rattle.std.proofs.Common.{◌≡◌, length, map}
-use Rattle.shapes.specs.Common.{is_hole, all_opened}
-use Rattle.split_opening_laws.specs.sections.InTurn.{CanBeOpenedInTurn}
-use Rattle.split_laws.specs.SplitOps.{openings_ops}
-use Rattle.split_sections.specs.section_checks.Sections.{cycles_of}
-use Rattle.split_sections.specs.section_cycles.Halves.{halves_of}
-use Rattle.plane_split.specs.solid_opening.Capped.{opening_of, unopened, opened_section}
-use Rattle.undo_journal.specs.Journal.{after_steps, IsFurther}
+use Rattle.plane_split.proofs.Prelude.{◌≡◌, length, map, is_hole, all_opened, CanBeOpenedInTurn, openings_ops, cycles_of, halves_of, opening_of, unopened, opened_section, after_steps, IsFurther}
 use Rattle.plane_split.proofs.solid_opening.opening.open_section.Given as goal
 
 abbrev pub invariant-cycles : goal.invariant-cycles

@@ -1,10 +1,6 @@
-use Rattle.std.proofs.Common.{arith, ap, ◌∙◌}
-use Rattle.undo_journal.specs.Journal.{after_steps}
-use Rattle.split_drawing.proofs.StepsLeft.{others_lead}
-use Rattle.plane_split.specs.solid_opening.Capped.{caps_of}
+use Rattle.plane_split.proofs.Prelude.{arith, ap, ◌∙◌, after_steps, others_lead, caps_of, further_on}
 use Rattle.plane_split.proofs.solid_opening_laws.Closed.{hole_and_others}
 use Rattle.std.proofs.lemmas.Grind.{common_steps}
-use Rattle.undo_journal.proofs.Marks.{further_on}
 use Rattle.plane_split.proofs.solid_opening.parting.close_holes.Goals as goal
 
 pub caps-preserved-in_ok-close_hole : goal.caps-preserved-in_ok-close_hole

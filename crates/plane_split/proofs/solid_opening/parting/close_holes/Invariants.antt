@@ -1,8 +1,4 @@
-use Rattle.std.proofs.Common.{◌≡◌, length}
-use Rattle.euler_laws.specs.Laws.{AreAccepted}
-use Rattle.plane_split.specs.solid_opening.Capped.{caps_of}
-use Rattle.plane_split.specs.solid_opening.Closing.{holes_ops}
-use Rattle.undo_journal.specs.Journal.{after_steps, IsFurther}
+use Rattle.plane_split.proofs.Prelude.{◌≡◌, length, AreAccepted, caps_of, holes_ops, after_steps, IsFurther}
 use Rattle.plane_split.proofs.solid_opening.parting.close_holes.Given as goal
 
 abbrev pub invariant-caps : goal.invariant-caps

@@ -1,9 +1,4 @@
-use Rattle.std.proofs.Common.{◌∙◌, ◌++◌, ap}
-use Rattle.std.proofs.lemmas.Result.{on_ok_weaker}
-use Rattle.undo_journal.specs.Journal.{after_steps}
-use Rattle.undo_journal.proofs.Marks.{step_after, steps_make}
-use Rattle.plane_split.specs.solid_opening.Closing.{outer_uppers}
-use Rattle.euler_laws.proofs.Common.{next_goes}
+use Rattle.plane_split.proofs.Prelude.{◌∙◌, ◌++◌, ap, on_ok_weaker, after_steps, step_after, steps_make, outer_uppers, next_goes}
 use Rattle.plane_split.proofs.solid_opening_laws.Closed.{closings_go, part_left, upper_ops_are}
 use Rattle.plane_split.proofs.solid_opening.parting.part_upper.Goals as goal
 

@@ -1,5 +1,4 @@
-use Rattle.std.proofs.Common.{◌≡◌, ◌++◌, length}
-use Rattle.plane_split.specs.solid_opening.Closing.{outer_uppers}
+use Rattle.plane_split.proofs.Prelude.{◌≡◌, ◌++◌, length, outer_uppers}
 use Rattle.plane_split.proofs.solid_opening.parting.push_outer.Given as goal
 
 abbrev pub invariant-caps : goal.invariant-caps

@@ -1,7 +1,4 @@
-use Rattle.std.proofs.Common.{◌≡◌, ◌∙◌, ap, subst, OnOk}
-use Rattle.euler_operators.specs.Common.{first_false}
-use Rattle.undo_journal.specs.Journal.{after_step}
-use Rattle.split_drawing.specs.Counters.{taken_of}
+use Rattle.plane_split.proofs.Prelude.{◌≡◌, ◌∙◌, ap, subst, OnOk, first_false, after_step, taken_of}
 use Rattle.plane_split.proofs.solid_opening_laws.Items.{strip_op, next_there}
 use Rattle.plane_split.proofs.solid_opening.strips.cut_strip.Goals as goal
 

@@ -1,11 +1,6 @@
-use Rattle.std.proofs.Common.{◌≡◌, ◌∙◌, map, length, sym, ap, arith}
-use Rattle.euler_operators.specs.Common.{code}
-use Rattle.undo_journal.specs.Journal.{after_steps}
-use Rattle.split_drawing.specs.Counters.{taken_of}
-use Rattle.split_opening_laws.specs.strips.StripOps.{strip_ops}
+use Rattle.plane_split.proofs.Prelude.{◌≡◌, ◌∙◌, map, length, sym, ap, arith, code, after_steps, taken_of, strip_ops, further_none, further_on, no_steps, step_after, steps_make}
 use Rattle.plane_split.proofs.solid_opening_laws.Cycles.{inside_codes, edges_left, faces_left, loops_left}
 use Rattle.plane_split.proofs.solid_opening_laws.CutOff.{mate_there, strip_goes, one_more}
-use Rattle.undo_journal.proofs.Marks.{further_none, further_on, no_steps, step_after, steps_make}
 use Rattle.plane_split.proofs.solid_opening.strips.cut_strips.Goals as goal
 
 pub strips-init : goal.strips-init

@@ -35,20 +35,14 @@ use denote.Triple.Entry.{on_entry}
 use denote.Triple.Spec.{Meets, triple_of}
 use denote.Triple.Table.{entered, run_framed}
 use denote.Triple.Walked.{says, needs, Stays, stay_dropped, walk_of, ends_at, Goes-dropped, walk_Meets}
-use Rattle.std_alloc.proofs.VecSteps.Shapes.{after}
-use Rattle.std_alloc.proofs.RcSteps.{word, word-Good}
+use Rattle.raw_cells.proofs.Prelude.{after, word, word-Good, El, R, args, el_x, times_below, one_below, slot_lent, places_lent, sz, Place, word_had, filled_within, slot_seen}
 use lib.ListN.{length, get_or}
 use types.Kit.{flt_l}
 use types.Run.{bin, size_lit}
 use types.ByLocal.{take_at, give_at}
 use denote.Builtin.{usize}
 use Rattle.std.specs.Prelude.{Some, None}
-use Rattle.core.proofs.mem.Param.{El, R, args, el_x}
-use Rattle.core.proofs.ptr.Rows.{times_below, one_below}
 use Rattle.circular_buffer.specs.Places.{IsFilled}
-use Rattle.circular_buffer.specs.Ownership.{slot_lent}
-use Rattle.raw_cells.specs.Ownership.{places_lent}
-use Rattle.circular_buffer.proofs.Memory.{sz, Place, word_had, filled_within, slot_seen}
 use Rattle.raw_cells.proofs.Memory.{Pl, Bs, none_lent}
 use Rattle.raw_cells.specs.contracts.block.Places.get.Key.{name as #self}
 use Rattle.raw_cells.proofs.block.Places.get.Statement as stated

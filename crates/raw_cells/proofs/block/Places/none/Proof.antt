@@ -1,5 +1,5 @@
 -- `none` owns no place. Assumes `Logic`.
-use Rattle.std.proofs.Common.{◌≡◌, [], ◌∷◌, refl}
+use Rattle.raw_cells.proofs.Prelude.{◌≡◌, [], ◌∷◌, refl, El, args, mark}
 use Rattle.std.proofs.raw_atomic.Walks.{proved, leaves}
 use mir.MapTy.{inst_fn}
 use mir.Val.{Val}
@@ -15,8 +15,6 @@ use denote.RawPtr.{null_ptr}
 use denote.Steps.{nothing}
 use denote.Triple.Entry.{alive}
 use denote.Triple.Walked.{walk_of}
-use Rattle.core.proofs.mem.Param.{El, args}
-use Rattle.circular_buffer.proofs.Memory.{mark}
 use Rattle.raw_cells.proofs.Memory.{Pl, Mark, mark_made}
 use Rattle.raw_cells.specs.contracts.block.Places.none.{ended, clauses}
 use Rattle.raw_cells.specs.contracts.block.Places.none.Key.{name as #self}

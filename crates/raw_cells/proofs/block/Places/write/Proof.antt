@@ -35,20 +35,13 @@ use denote.Triple.Entry.{on_entry}
 use denote.Triple.Spec.{Meets, triple_of}
 use denote.Triple.Table.{entered, run_framed}
 use denote.Triple.Walked.{says, needs, Stays, stay_dropped, stay_ref, walk_of, ends_at, Goes-dropped, Goes-ref, walk_Meets}
-use Rattle.std_alloc.proofs.VecSteps.Shapes.{after}
-use Rattle.std_alloc.proofs.RcSteps.{Good, word, word-Good}
+use Rattle.raw_cells.proofs.Prelude.{after, Good, word, word-Good, El, R, args, elτ, times_below, one_below, as_written, slot, slots, places_own, sz, word_had, value_in, tells, Besides, slot_out, slot_in}
 use lib.ListN.{length, set, get_or, length-set}
 use types.Kit.{flt_l, flt_i}
 use types.Run.{bin, size_lit}
 use types.ByLocal.{take_at, give_at}
 use denote.Builtin.{usize}
 use Rattle.std.specs.Prelude.{Some, None}
-use Rattle.core.proofs.mem.Param.{El, R, args, elτ}
-use Rattle.core.proofs.ptr.Rows.{times_below, one_below}
-use Rattle.std_alloc.proofs.RawLayout.{as_written}
-use Rattle.circular_buffer.specs.Ownership.{slot, slots}
-use Rattle.raw_cells.specs.Ownership.{places_own}
-use Rattle.circular_buffer.proofs.Memory.{sz, word_had, value_in, tells, Besides, slot_out, slot_in}
 use Rattle.raw_cells.proofs.Memory.{Pl, Bs, no_places, slot_emptied}
 use Rattle.raw_cells.specs.contracts.block.Places.write.Key.{name as #self}
 use Rattle.raw_cells.proofs.block.Places.write.Statement as stated

@@ -1,5 +1,4 @@
-use Rattle.std.proofs.Common.{◌≡◌, ◌∙◌, ap, sym, length, arith}
-use Rattle.std.proofs.lemmas.List.{length-replicate}
+use Rattle.raw_cells.proofs.Prelude.{◌≡◌, ◌∙◌, ap, sym, length, arith, length-replicate}
 use Rattle.raw_cells.proofs.cells.Cells.with_count.Goals as goal
 
 pub returns : goal.returns

@@ -1,5 +1,4 @@
-use Rattle.std.proofs.Common.{◌≡◌, length, arith}
-use Rattle.std.proofs.lemmas.Bool.Decides.{nat_tests}
+use Rattle.raw_cells.proofs.Prelude.{◌≡◌, length, arith, nat_tests}
 use Rattle.raw_cells.proofs.numbers_laws.Cells.{length_rows}
 use Rattle.raw_cells.proofs.rows.Rows.reaches.Goals as goal
 

@@ -1,5 +1,4 @@
-use Rattle.std.proofs.Common.{refl, ap, ◌∙◌, set, is_some}
-use Rattle.raw_ring.specs.Table.{woken}
+use Rattle.raw_ring.proofs.Prelude.{refl, ap, ◌∙◌, set, is_some, woken}
 use Rattle.raw_ring.proofs.Mapping.{row_known, asleep_is}
 use Rattle.raw_ring.proofs.Tying.{node_there, IsTied-set, IsTied-set_tail, ring_map-woken}
 use Rattle.raw_ring.proofs.rings.Rings.wake_as.Goals as goal

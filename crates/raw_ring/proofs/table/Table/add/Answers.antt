@@ -1,6 +1,4 @@
-use Rattle.std.proofs.Common.{◌<◌, length, arith}
-use Rattle.raw_ring.specs.Rings.{or_zero}
-use Rattle.raw_ring.specs.Joined.{or_false, with_marks}
+use Rattle.raw_ring.proofs.Prelude.{◌<◌, length, arith, or_zero, or_false, with_marks}
 use Rattle.raw_ring.proofs.Joining.{length-joined, changed, cell_written, cells_kept, column_here, column_other, column_with}
 use Rattle.raw_ring.proofs.table.Table.add.Goals as goal
 

@@ -1,5 +1,4 @@
-use Rattle.std.proofs.Common.{ap}
-use Rattle.raw_ring.specs.Joined.{joined, marks}
+use Rattle.raw_ring.proofs.Prelude.{ap, joined, marks}
 use Rattle.raw_ring.proofs.Joining.{joined_none}
 use Rattle.raw_ring.proofs.table.Table.new.Goals as goal
 

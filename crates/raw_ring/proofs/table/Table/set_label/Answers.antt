@@ -1,8 +1,4 @@
-use Rattle.std.proofs.Common.{Some, refl, arith}
-use Rattle.raw_cells.specs.Rows.{row_at}
-use Rattle.raw_ring.specs.Rings.{or_zero}
-use Rattle.raw_ring.specs.Joined.{or_false, with_marks}
-use Rattle.raw_ring.specs.Table.{set_label}
+use Rattle.raw_ring.proofs.Prelude.{Some, refl, arith, row_at, or_zero, or_false, with_marks, set_label}
 use Rattle.raw_ring.proofs.Pointers.{some_of}
 use Rattle.raw_ring.proofs.Joining.{place_there, mark_rooms, marks_changed, cell_written, cells_kept, column_here, column_other, column_there}
 use Rattle.raw_ring.proofs.table.Table.set_label.Goals as goal

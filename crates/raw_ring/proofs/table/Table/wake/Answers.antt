@@ -1,7 +1,4 @@
-use Rattle.std.proofs.Common.{Some, refl, arith}
-use Rattle.raw_ring.specs.Rings.{or_zero}
-use Rattle.raw_ring.specs.Joined.{or_false, with_marks}
-use Rattle.raw_ring.specs.Table.{woken}
+use Rattle.raw_ring.proofs.Prelude.{Some, refl, arith, or_zero, or_false, with_marks, woken}
 use Rattle.raw_ring.proofs.Pointers.{some_of}
 use Rattle.raw_ring.proofs.Joining.{place_there, mark_rooms, marks_changed, cell_written, cells_kept, column_here, column_other, column_there}
 use Rattle.raw_ring.proofs.table.Table.wake.Goals as goal

@@ -1,7 +1,4 @@
-use Rattle.std.proofs.Common.{◌≡◌, Some, subst}
-use Rattle.raw_ring.specs.Rings.{next_of, IsPermutation}
-use Rattle.raw_ring.specs.Tied.{code_of}
-use Rattle.raw_ring.specs.Walks.{Place}
+use Rattle.raw_ring.proofs.Prelude.{◌≡◌, Some, subst, next_of, IsPermutation, code_of, Place}
 use Rattle.raw_ring.proofs.Linking.{IsSome-next}
 use Rattle.raw_ring.proofs.Tying.{permutes}
 use Rattle.raw_ring.proofs.Walking.{walk_there, walk_on, walk_next}

@@ -1,6 +1,4 @@
-use Rattle.std.proofs.Common.{ap, subst, sym, arith, rules, ◌≡◌, ◌+◌, ◌-◌, ℕ, List, take, drop, length, length-take, length-drop}
-use Rattle.script_reader.specs.Buffer.{Holding}
-use Rattle.script_reader.specs.Newline.{FirstNewline}
+use Rattle.script_reader.proofs.Prelude.{ap, subst, sym, arith, rules, ◌≡◌, ◌+◌, ◌-◌, ℕ, List, take, drop, length, length-take, length-drop, Holding, FirstNewline}
 use Rattle.script_reader.proofs.NewlineLaws.{read_more, still_found, goes_on}
 use Rattle.script_reader.proofs.buffer.Buffer.read_from.Goals as goal
 

@@ -1,6 +1,4 @@
-use Rattle.std.proofs.Common.{ap, subst, sym, arith, ◌∙◌, ◌+◌, ℕ, List}
-use Rattle.script_reader.specs.Buffer.{Holding}
-use Rattle.script_reader.specs.Newline.{FirstNewline}
+use Rattle.script_reader.proofs.Prelude.{ap, subst, sym, arith, ◌∙◌, ◌+◌, ℕ, List, Holding, FirstNewline}
 use Rattle.script_reader.proofs.NewlineLaws.{taken_line}
 use Rattle.script_reader.proofs.buffer.Buffer.take_line.Goals as goal
 

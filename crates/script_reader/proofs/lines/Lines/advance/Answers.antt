@@ -1,10 +1,5 @@
-use Rattle.std.proofs.Common.{◌≡◌, ◌⊎◌, inl, inr, ◌<◌, ◌∙◌, refl, sym, ap, subst, rules, arith, length, true, ℕ, List, []}
+use Rattle.script_reader.proofs.Prelude.{◌≡◌, ◌⊎◌, inl, inr, ◌<◌, ◌∙◌, refl, sym, ap, subst, rules, arith, length, true, ℕ, List, [], TakesLine, Lacks, LastAnswer, Ending, Open}
 use borrow.Author.Tests.{ltb-true}
-use Rattle.script_reader.specs.Buffer.{TakesLine}
-use Rattle.script_reader.specs.Newline.{Lacks}
-use Rattle.script_reader.specs.Lines.{LastAnswer}
-use Rattle.script_reader.specs.declared.lines.Ending.{Ending}
-use Rattle.script_reader.specs.declared.lines.Ending.TheVariants.{Open}
 use Rattle.script_reader.proofs.NewlineLaws.{has-lacks}
 use Rattle.script_reader.proofs.LinesLaws.{Waits, starts, clears, reads, long_line, last_answer, Waits-same, not_ready, open_not_ended}
 use Rattle.script_reader.proofs.lines.Lines.advance.Goals as goal

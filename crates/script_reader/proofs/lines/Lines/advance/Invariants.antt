@@ -1,9 +1,5 @@
-use Rattle.std.proofs.Common.{◌≡◌, ◌+◌, ◌-◌, ◌*◌, true, false}
-use Rattle.std.specs.Io.KnownBytes.{IsAtEnd}
-use Rattle.script_reader.specs.declared.lines.Ending.TheVariants.{Open, Ended}
-use Rattle.script_reader.specs.Newline.{has_newline}
+use Rattle.script_reader.proofs.Prelude.{◌≡◌, ◌+◌, ◌-◌, ◌*◌, true, false, IsAtEnd, Open, Ended, has_newline, has_line, IsStill}
 use Rattle.script_reader.specs.Reaching.{Reaches}
-use Rattle.script_reader.specs.State.{has_line, IsStill}
 use Rattle.script_reader.proofs.LinesLaws.{Waits, turns}
 use Rattle.script_reader.proofs.lines.Lines.advance.Given as goal
 

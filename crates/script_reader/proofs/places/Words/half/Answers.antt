@@ -1,6 +1,4 @@
-use Rattle.std.proofs.Common.{sym, ◌∙◌}
-use Rattle.script_reader.specs.Places.{half_of}
-use Rattle.script_reader.specs.declared.command.Fault.TheVariants.{BadNumber}
+use Rattle.script_reader.proofs.Prelude.{sym, ◌∙◌, half_of, BadNumber}
 use Rattle.script_reader.proofs.FirstLaws.{first_said, first_unsaid}
 use Rattle.script_reader.proofs.places.Words.half.Goals as goal
 

@@ -1,8 +1,4 @@
-use Rattle.std.proofs.Common.{◌≡◌, Ok, sym, rules, ◌∙◌}
-use Rattle.script_reader.specs.Words.{words}
-use Rattle.script_reader.specs.Numbers.{integer_of}
-use Rattle.script_reader.specs.Places.{next_of}
-use Rattle.script_reader.specs.declared.command.Fault.TheVariants.{BadNumber}
+use Rattle.script_reader.proofs.Prelude.{◌≡◌, Ok, sym, rules, ◌∙◌, words, integer_of, next_of, BadNumber}
 use Rattle.script_reader.proofs.FirstLaws.{first_said, first_unsaid}
 use Rattle.script_reader.proofs.places.Words.integer.Goals as goal
 

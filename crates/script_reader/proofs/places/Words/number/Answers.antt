@@ -1,6 +1,4 @@
-use Rattle.std.proofs.Common.{sym, ◌∙◌}
-use Rattle.script_reader.specs.Numbers.{number_of}
-use Rattle.script_reader.specs.declared.command.Fault.TheVariants.{BadNumber}
+use Rattle.script_reader.proofs.Prelude.{sym, ◌∙◌, number_of, BadNumber}
 use Rattle.script_reader.proofs.FirstLaws.{first_said, first_unsaid}
 use Rattle.script_reader.proofs.places.Words.number.Goals as goal
 

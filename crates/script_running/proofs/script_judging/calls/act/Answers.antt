@@ -1,5 +1,4 @@
-use Rattle.std.proofs.Common.{refl}
-use Rattle.script_running.specs.script_judging.Consoles.{act_of}
+use Rattle.script_running.proofs.Prelude.{refl, act_of}
 use Rattle.script_running.proofs.Acting.{makes_so}
 use Rattle.script_running.proofs.script_judging.calls.act.Goals as goal
 

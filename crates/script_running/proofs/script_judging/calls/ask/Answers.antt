@@ -1,7 +1,5 @@
-use Rattle.std.proofs.Common.{◌∙◌, ap}
-use Rattle.commands.specs.Telling.{asked}
-use Rattle.commands.specs.declared.command.{Call.Call, Command.Command, Told.Told}
-use Rattle.script_running.specs.script_judging.Consoles.{answer_after}
+use Rattle.script_running.proofs.Prelude.{◌∙◌, ap, asked, Command, Told, answer_after}
+use Rattle.commands.specs.declared.command.Call.{Call}
 use Rattle.script_running.proofs.Acting.{makes_so, answered}
 use Rattle.script_running.proofs.script_judging.calls.ask.Goals as goal
 

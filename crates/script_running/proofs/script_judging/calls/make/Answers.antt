@@ -1,6 +1,5 @@
-use Rattle.std.proofs.Common.{sym, subst}
+use Rattle.script_running.proofs.Prelude.{sym, subst, Makes}
 use Rattle.commands.specs.declared.command.Call.{Call}
-use Rattle.script_running.specs.script_judging.Consoles.{Makes}
 use Rattle.script_running.proofs.script_judging.calls.make.Goals as goal
 
 pub returns-in-Give : goal.returns-in-Give

@@ -1,9 +1,5 @@
-use Rattle.std.proofs.Common.{◌∙◌, Some, refl, ap}
-use Rattle.commands.specs.declared.command.{Call.Call, Command.Command}
-use Rattle.commands.specs.declared.stage.Stage.{Stage}
-use Rattle.commands.proofs.Settling.{settled_move}
-use Rattle.script_running.specs.Common.{told_of_move}
-use Rattle.script_running.specs.script_judging.Consoles.{is_draft}
+use Rattle.script_running.proofs.Prelude.{◌∙◌, Some, refl, ap, Command, Stage, settled_move, told_of_move, is_draft}
+use Rattle.commands.specs.declared.command.Call.{Call}
 use Rattle.script_running.proofs.Acting.{done_there, makes_so}
 use Rattle.script_running.proofs.script_judging.calls.redo.Goals as goal
 

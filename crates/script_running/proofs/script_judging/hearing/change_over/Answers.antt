@@ -1,6 +1,5 @@
-use Rattle.std.proofs.Common.{◌∙◌, ap, subst}
+use Rattle.script_running.proofs.Prelude.{◌∙◌, ap, subst, Says, changes}
 use Rattle.script_reader.specs.Polygon.{over}
-use Rattle.script_running.specs.script_judging.Hearing.{Says, changes}
 use Rattle.script_running.proofs.script_judging.hearing.change_over.Goals as goal
 
 pub returns : goal.returns

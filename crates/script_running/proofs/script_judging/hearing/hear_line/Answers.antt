@@ -1,5 +1,4 @@
-use Rattle.std.proofs.Common.{◌∙◌, sym, ap}
-use Rattle.script_reader.specs.Grammar.{opened}
+use Rattle.script_running.proofs.Prelude.{◌∙◌, sym, ap, opened}
 use Rattle.script_running.proofs.Hearing.{words_heard}
 use Rattle.script_running.proofs.script_judging.hearing.hear_line.Goals as goal
 

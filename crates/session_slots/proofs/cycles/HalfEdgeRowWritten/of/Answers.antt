@@ -1,6 +1,5 @@
-use Rattle.std.proofs.Common.{◌≡◌, ◌∙◌, ap}
+use Rattle.session_slots.proofs.Prelude.{◌≡◌, ◌∙◌, ap, coded}
 use Rattle.euler_operators.specs.Common.{tail, has_half}
-use Rattle.solid_walks.proofs.face_walks_laws.HalfCodes.{coded}
 use Rattle.session_slots.proofs.cycles.HalfEdgeRowWritten.of.Goals as goal
 
 pub tail-requires : goal.tail-requires

@@ -1,8 +1,7 @@
 -- `take_up` gives the pointer to a box again. Assumes `Logic`.
-use Rattle.std.proofs.Common.{◌≡◌, List, [], ◌∷◌, ◌++◌, Option, IsSome, refl, sym, subst}
+use Rattle.session_slots.proofs.Prelude.{◌≡◌, List, [], ◌∷◌, ◌++◌, Option, IsSome, refl, sym, subst, kept_owns}
 use Rattle.session_slots.proofs.Walking.{sem, ‵, raw, ◌⊛◌, ◌$◌, ◌∵◌, !, qed, move, keep, split, use1, rewrite, fsplit, fjoin, fpick, feq_l, suffices, done, agg, sub, whole, stop, fld, of_opd, and_then, no_more, returns, enter, alloc_all, pass_all, free_all, look_at, get, get_in, sets}
 use Rattle.session_slots.proofs.Pointers.{proved_at, word, word-Good, SProp, ent, id⊢, never, fst∗, ftrue, bare, Val, vptr, vstruct, of_list, WpFn, fact, tables, yes, lone, Ptr, block_ptr, null_ptr, in_a_block, plain, nothing, heard, Stays, stay_dropped, walk_of, says, ends_at, Goes-dropped, Goes-blank, handle_tells, Z, LZ, ghosts, R}
-use Rattle.session_slots.specs.Common.{kept_owns}
 use Rattle.session_slots.proofs.Values.{both, loose_good, loose_in}
 use Rattle.session_slots.proofs.KeptSteps.{Boxed, heap, own_out, some_of}
 use Rattle.session_slots.proofs.kept.Kept.take_up.Statement.{statement}

@@ -1,8 +1,7 @@
 -- `show` takes what is lent to where it can be looked at. Assumes `Logic`.
-use Rattle.std.proofs.Common.{◌≡◌, List, [], ◌∷◌, ◌++◌, Option, IsSome, refl, sym, subst}
+use Rattle.session_slots.proofs.Prelude.{◌≡◌, List, [], ◌∷◌, ◌++◌, Option, IsSome, refl, sym, subst, Loan, lent_owns}
 use Rattle.session_slots.proofs.Walking.{sem, ‵, raw, ◌⊛◌, ◌$◌, ◌∵◌, !, qed, move, keep, split, rewrite, fsplit, fjoin, fpick, fpack, feq_l, feq_i, suffices, done, agg, sub, whole, stop, fld, of_opd, and_then, no_more, returns, enter, alloc_all, pass_all, free_all, look_at, get, get_in, sets}
 use Rattle.session_slots.proofs.Pointers.{proved_at, word, word-Good, SProp, ent, id⊢, never, fst∗, ftrue, Val, vstruct, of_list, WpFn, fact, tables, yes, Valss, shared_of, RawPtr, Ptr, block_ptr, ptr_val, in_a_block, plain, nothing, heard, lent_at, within, shape, Stays, stay_dropped, walk_of, says, ends_at, Goes-blank, R}
-use Rattle.session_slots.specs.Common.{Loan, lent_owns}
 use Rattle.session_slots.proofs.KeptSteps.{some_of}
 use Rattle.session_slots.proofs.lent.Lent.show.Statement.{statement}
 use Rattle.session_slots.specs.contracts.lent.Lent as from

@@ -1,12 +1,5 @@
-use Rattle.std.proofs.Common.{◌∙◌, sym, subst, rules, tests, of_calls, not}
+use Rattle.solid_measure.proofs.Prelude.{◌∙◌, sym, subst, rules, tests, of_calls, not, YieldsList-from_first, find_from_yields_List, faces_of, IsIn, face_in, serves_listed, is_flat, first_is}
 use Rattle.std.proofs.lemmas.Iterator.Adapters.{option_map_id}
-use Rattle.std.proofs.lemmas.Iterator.Consumers.{YieldsList-from_first}
-use Rattle.std.proofs.lemmas.Iterator.Search.{find_from_yields_List}
-use Rattle.euler_operators.specs.Common.{faces_of, IsIn}
-use Rattle.solid_walks.proofs.face_walks_laws.FaceWalks.{face_in}
-use Rattle.solid_walks.proofs.face_walks_laws.Yielded.{serves_listed}
-use Rattle.solid_measure.specs.Measure.{is_flat}
-use Rattle.solid_walks.proofs.lone_laws.Searches.{first_is}
 use Rattle.solid_measure.proofs.solid_checks.bent.least_bent.Goals as goal
 
 pub returns : goal.returns

@@ -1,5 +1,4 @@
-use Rattle.std.proofs.Common.{◌∙◌}
-use Rattle.solid_walks.specs.Least.{lesser}
+use Rattle.solid_measure.proofs.Prelude.{◌∙◌, lesser}
 use Rattle.solid_measure.proofs.solid_checks_laws.BentFaces.{both_bent}
 use Rattle.solid_measure.proofs.solid_checks.bent.least_bent_of_both.Goals as goal
 

@@ -1,12 +1,4 @@
-use Rattle.std.proofs.Common.{◌∙◌, subst, rules, tests, of_calls, None, [], ◌∷◌}
-use Rattle.std.proofs.lemmas.Iterator.Consumers.{YieldsList-from_first, fold_from_yields_List}
-use Rattle.euler_operators.specs.Common.{faces_of, IsIn}
-use Rattle.shapes.specs.Common.{least_lone}
-use Rattle.solid_walks.specs.Least.{lesser}
-use Rattle.solid_walks.proofs.face_walks_laws.FaceWalks.{face_in}
-use Rattle.solid_walks.proofs.face_walks_laws.Yielded.{serves_folding}
-use Rattle.solid_walks.proofs.lone_laws.Searches.{fold_lesser}
-use Rattle.solid_walks.proofs.lone_laws.LoneLoops.{least_none, least_more}
+use Rattle.solid_measure.proofs.Prelude.{◌∙◌, subst, rules, tests, of_calls, None, [], ◌∷◌, YieldsList-from_first, fold_from_yields_List, faces_of, IsIn, least_lone, lesser, face_in, serves_folding, fold_lesser, least_none, least_more}
 use Rattle.solid_measure.proofs.solid_checks.lone.least_lone.Goals as goal
 
 pub returns : goal.returns

@@ -1,6 +1,4 @@
-use Rattle.std.proofs.Common.{◌∙◌}
-use Rattle.solid_walks.specs.Least.{lesser}
-use Rattle.solid_walks.proofs.lone_laws.LoneLoops.{both_lone}
+use Rattle.solid_measure.proofs.Prelude.{◌∙◌, lesser, both_lone}
 use Rattle.solid_measure.proofs.solid_checks.lone.least_lone_of_both.Goals as goal
 
 pub returns : goal.returns

@@ -1,9 +1,5 @@
-use Rattle.std.proofs.Common.{sym, ap, subst, ◌∙◌}
-use Rattle.euler_operators.specs.Common.{IsIn, content}
+use Rattle.solid_measure.proofs.Prelude.{sym, ap, subst, ◌∙◌, IsIn, content, loop_in, yielded_in, IsFew, together, loop_met, loops_met}
 use Rattle.euler_operators.specs.Table as table
-use Rattle.solid_walks.proofs.face_walks_laws.FaceWalks.{loop_in}
-use Rattle.solid_walks.proofs.face_walks_laws.Yielded.{yielded_in}
-use Rattle.solid_measure.specs.solid_counts.Sums.{IsFew, together, loop_met, loops_met}
 use Rattle.solid_measure.proofs.solid_counts_laws.Sums.{nothing_together}
 use Rattle.solid_measure.proofs.solid_counts_laws.FaceSums.{bare_face, parts_few, counted_more, all_counted, face_few}
 use Rattle.solid_measure.proofs.solid_counts.loops.face_met.Goals as goal

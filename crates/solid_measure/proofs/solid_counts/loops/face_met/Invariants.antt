@@ -1,6 +1,4 @@
-use Rattle.std.proofs.Common.{◌≡◌}
-use Rattle.shapes.specs.Common.{loops_of}
-use Rattle.solid_measure.specs.solid_counts.Sums.{together, loops_met}
+use Rattle.solid_measure.proofs.Prelude.{◌≡◌, loops_of, together, loops_met}
 use Rattle.solid_measure.proofs.solid_counts.loops.face_met.Given as goal
 
 abbrev pub invariant-loops : goal.invariant-loops

@@ -1,7 +1,4 @@
-use Rattle.std.proofs.Common.{◌∙◌}
-use Rattle.euler_operators.specs.Common.{content}
-use Rattle.solid_walks.proofs.Known.{filled}
-use Rattle.solid_walks.proofs.Borders.{ring_has}
+use Rattle.solid_measure.proofs.Prelude.{◌∙◌, content, filled, ring_has}
 use Rattle.solid_measure.proofs.solid_counts_laws.LoopRounds.{lone_counts, ring_counts}
 use Rattle.solid_measure.proofs.solid_counts.loops.loop_met.Goals as goal
 

@@ -1,9 +1,5 @@
-use Rattle.std.proofs.Common.{◌≡◌, ℕ, ◌<◌, length, sym, ap, subst, ◌∙◌}
-use Rattle.euler_operators.specs.Common.{IsIn, code, before, Model, items_of, content, cycle_of, Sound, HasHalf}
+use Rattle.solid_measure.proofs.Prelude.{◌≡◌, ℕ, ◌<◌, length, sym, ap, subst, ◌∙◌, IsIn, code, before, Model, items_of, content, cycle_of, Sound, HasHalf, edge_fits, to_come, item_of, item_there, together, IsFew, halves_met}
 use Rattle.solid_walks.proofs.TwoWays.{before_after}
-use Rattle.solid_walks.proofs.face_walks_laws.HalfCodes.{edge_fits}
-use Rattle.solid_walks.proofs.face_walks_laws.CycleWalks.{to_come, item_of, item_there}
-use Rattle.solid_measure.specs.solid_counts.Sums.{together, IsFew, halves_met}
 use Rattle.solid_measure.proofs.solid_counts_laws.Sums.{half_few}
 use Rattle.solid_measure.proofs.solid_counts_laws.LoopRounds.{MetRound, met_start, met_few, met_closed, met_more, met_fewer}
 use Rattle.solid_measure.proofs.solid_counts.loops.ring_met.Goals as goal

@@ -1,6 +1,4 @@
-use Rattle.std.proofs.Common.{◌≡◌, length}
-use Rattle.euler_operators.specs.Common.{before, cycle_of}
-use Rattle.solid_walks.proofs.face_walks_laws.CycleWalks.{to_come}
+use Rattle.solid_measure.proofs.Prelude.{◌≡◌, length, before, cycle_of, to_come}
 use Rattle.solid_measure.proofs.solid_counts_laws.LoopRounds.{MetRound}
 use Rattle.solid_measure.proofs.solid_counts.loops.ring_met.Given as goal
 

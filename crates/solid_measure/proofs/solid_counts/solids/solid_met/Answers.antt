@@ -1,10 +1,4 @@
-use Rattle.std.proofs.Common.{length, sym, ap, subst, ◌∙◌, arith, length-append}
-use Rattle.euler_operators.specs.Common.{IsIn, rings_of}
-use Rattle.shapes.specs.Common.{loops_of, loops_in}
-use Rattle.solid_walks.proofs.face_walks_laws.FaceWalks.{face_in}
-use Rattle.solid_walks.proofs.face_walks_laws.Yielded.{yielded_in}
-use Rattle.solid_measure.specs.solid_counts.Counts.{rings_in}
-use Rattle.solid_measure.specs.solid_counts.Sums.{IsFew, together, loops_met}
+use Rattle.solid_measure.proofs.Prelude.{length, sym, ap, subst, ◌∙◌, arith, length-append, IsIn, rings_of, loops_of, loops_in, face_in, yielded_in, rings_in, IsFew, together, loops_met}
 use Rattle.solid_measure.proofs.solid_counts_laws.Sums.{nothing_together, loops-append}
 use Rattle.solid_measure.proofs.solid_counts_laws.FaceSums.{parts_few, counted_more, all_counted, solid_few, rings_few}
 use Rattle.solid_measure.proofs.solid_counts.solids.solid_met.Goals as goal

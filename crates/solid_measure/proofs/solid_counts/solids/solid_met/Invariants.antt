@@ -1,8 +1,4 @@
-use Rattle.std.proofs.Common.{◌≡◌, ◌+◌, length}
-use Rattle.euler_operators.specs.Common.{faces_of}
-use Rattle.shapes.specs.Common.{loops_in}
-use Rattle.solid_measure.specs.solid_counts.Counts.{rings_in}
-use Rattle.solid_measure.specs.solid_counts.Sums.{together, loops_met}
+use Rattle.solid_measure.proofs.Prelude.{◌≡◌, ◌+◌, length, faces_of, loops_in, rings_in, together, loops_met}
 use Rattle.solid_measure.proofs.solid_counts.solids.solid_met.Given as goal
 
 abbrev pub invariant-faces : goal.invariant-faces

@@ -1,5 +1,4 @@
-use Rattle.std.proofs.lemmas.Iterator.Consumers.{YieldsList-from_first, map_from_collect}
-use Rattle.euler_operators.specs.Common.{code, cycle_of}
+use Rattle.solid_walks.proofs.Prelude.{YieldsList-from_first, map_from_collect, code, cycle_of}
 use Rattle.solid_walks.proofs.face_walks.items.items_from.Goals as goal
 
 pub returns : goal.returns

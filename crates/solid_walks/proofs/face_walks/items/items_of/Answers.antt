@@ -1,6 +1,4 @@
-use Rattle.std.proofs.Common.{ap, sym, ◌∙◌}
-use Rattle.euler_operators.specs.Common.{least, rotate_to, canonical, code, cycle_of}
-use Rattle.euler_operators.proofs.Common.{cycle_sound}
+use Rattle.solid_walks.proofs.Prelude.{ap, sym, ◌∙◌, least, rotate_to, canonical, code, cycle_of, cycle_sound}
 use Rattle.solid_walks.proofs.face_walks.items.items_of.Goals as goal
 
 pub returns : goal.returns

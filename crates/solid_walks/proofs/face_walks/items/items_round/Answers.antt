@@ -1,5 +1,4 @@
-use Rattle.std.proofs.Common.{sym, ap, ◌∙◌}
-use Rattle.euler_operators.specs.Common.{rotate_to, cycle_of, has_half}
+use Rattle.solid_walks.proofs.Prelude.{sym, ap, ◌∙◌, rotate_to, cycle_of, has_half}
 use Rattle.solid_walks.proofs.face_walks_laws.HalfCodes.{edge_fits}
 use Rattle.solid_walks.proofs.face_walks_laws.CycleWalks.{start_is, cycle_apart, item_in, items_left_is}
 use Rattle.solid_walks.proofs.face_walks.items.items_round.Goals as goal

@@ -1,6 +1,4 @@
-use Rattle.std.proofs.Common.{◌≤◌, ◌∙◌, ap, sym, subst, ℕ, List, [], ◌∷◌, ◌++◌, length, arith, inl, inr}
-use Rattle.euler_operators.specs.Common.{IsIn, least, cycle_of, has_half}
-use Rattle.euler_operators.proofs.Common.{IsIn_push}
+use Rattle.solid_walks.proofs.Prelude.{◌≤◌, ◌∙◌, ap, sym, subst, ℕ, List, [], ◌∷◌, ◌++◌, length, arith, inl, inr, IsIn, least, cycle_of, has_half, IsIn_push}
 use Rattle.solid_walks.proofs.face_walks_laws.HalfCodes.{coded, edge_fits}
 use Rattle.solid_walks.proofs.face_walks_laws.CycleWalks.{seen, least_is, lesser_in, start_seen, item_there, same_cycle, cycle_apart, item_in, goes_on, comes_back}
 use Rattle.solid_walks.proofs.face_walks.items.least_item.Goals as goal

@@ -1,5 +1,4 @@
-use Rattle.std.proofs.Common.{◌≤◌, ℕ, length}
-use Rattle.euler_operators.specs.Common.{IsIn, cycle_of}
+use Rattle.solid_walks.proofs.Prelude.{◌≤◌, ℕ, length, IsIn, cycle_of}
 use Rattle.solid_walks.proofs.face_walks_laws.CycleWalks.{seen, to_come}
 use Rattle.solid_walks.proofs.face_walks.items.least_item.Given as goal
 

@@ -1,8 +1,5 @@
-use Rattle.std.proofs.Common.{◌≡◌, ℕ, false, true≢false, ap, subst, refl}
-use Rattle.euler_operators.specs.Common.{Content, is_lone, code, LoopContent, lone, cycle, content, items_of, StandsIn}
+use Rattle.solid_walks.proofs.Prelude.{◌≡◌, ℕ, false, true≢false, ap, subst, refl, Content, is_lone, code, LoopContent, lone, cycle, content, items_of, StandsIn, in-holds, Tells}
 use Rattle.euler_operators.specs.declared.Content.TheVariants.{Lone}
-use Rattle.euler_operators.proofs.Common.{in-holds}
-use Rattle.euler_conditions.specs.Store.{Tells}
 use Rattle.euler_conditions.proofs.Borders.{ring_has}
 use Rattle.solid_walks.proofs.face_walks.items.some_item.Goals as goal
 use Rattle.solid_walks.proofs.face_walks.items.some_item.Goals.{In-Ring}

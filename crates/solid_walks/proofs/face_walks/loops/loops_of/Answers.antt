@@ -1,6 +1,4 @@
-use Rattle.std.proofs.Common.{ap, ◌∷◌}
-use Rattle.euler_operators.specs.Common.{outer}
-use Rattle.shapes.specs.Common.{loops_of}
+use Rattle.solid_walks.proofs.Prelude.{ap, ◌∷◌, outer, loops_of}
 use Rattle.solid_walks.proofs.face_walks_laws.RingWalks.{rings_from_zero}
 use Rattle.solid_walks.proofs.face_walks.loops.loops_of.Goals as goal
 

@@ -1,10 +1,4 @@
-use Rattle.std.proofs.Common.{◌≡◌, ◌∙◌, ◌+◌, ℕ, List, Result, Ok, IfOk, Some, None, Vec, Global, map, length, vec_len, sym, ap, subst, arith, min}
-use Rattle.euler_operators.specs.Common.{Plane, code, Model, first_refusal, strictly_rises}
-use Rattle.euler_operators.specs.declared.Refusal.{Refusal}
-use Rattle.euler_laws.proofs.Common.{verdict_passed, verdict_failed}
-use Rattle.shapes.specs.Common.{first_such, numbers_left, taken_in, crossing_edges, straddling_faces, straddling_conditions, cut_conditions}
-use Rattle.split_checks.specs.declared.cuts.Pair.{Pair}
-use Rattle.split_checks.specs.Common.{all_pairs, codes, cut_at, paired_face, AreCrossing, is_off, faces_in, AreFacesAlong}
+use Rattle.split_checks.proofs.Prelude.{◌≡◌, ◌∙◌, ◌+◌, ℕ, List, Result, Ok, IfOk, Some, None, Vec, Global, map, length, vec_len, sym, ap, subst, arith, min, Plane, code, Model, first_refusal, strictly_rises, Refusal, verdict_passed, verdict_failed, first_such, numbers_left, taken_in, crossing_edges, straddling_faces, straddling_conditions, cut_conditions, Pair, all_pairs, codes, cut_at, paired_face, AreCrossing, is_off, faces_in, AreFacesAlong}
 use Rattle.split_checks.proofs.cut_places_laws.Edges.{all_cross, straddling_along}
 use Rattle.split_checks.proofs.cut_places_laws.Sorted.{crossings_rise}
 use Rattle.split_checks.proofs.cut_places_laws.Told.{solid_faces, solid_told}

@@ -1,8 +1,5 @@
-use Rattle.std.proofs.Common.{◌≡◌, ◌∙◌, Some, None, map, sym, ap}
-use Rattle.euler_operators.specs.Common.{code}
-use Rattle.shapes.specs.Common.{first_such, is_crossed}
+use Rattle.split_checks.proofs.Prelude.{◌≡◌, ◌∙◌, Some, None, map, sym, ap, code, first_such, is_crossed, Touched, CutOften}
 use Rattle.split_checks.specs.cut_places.Meetings.{faces_in}
-use Rattle.split_checks.specs.declared.begin_checks.flaws.Flaw.TheVariants.{Touched, CutOften}
 use Rattle.split_checks.proofs.begin_checks_laws.Stages.{at_ok, at_err, touched_refused, often_refused, crossed_refused, none_refused}
 use Rattle.split_checks.proofs.cut_places_laws.Told.{first_flaw}
 use Rattle.split_checks.proofs.begin_checks.checks.check_faces.Goals as goal

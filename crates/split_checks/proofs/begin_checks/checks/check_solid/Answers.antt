@@ -1,5 +1,4 @@
-use Rattle.std.proofs.Common.{sym, ap}
-use Rattle.euler_operators.specs.Common.{verdict}
+use Rattle.split_checks.proofs.Prelude.{sym, ap, verdict}
 use Rattle.split_checks.proofs.begin_checks_laws.Stages.{known_flat}
 use Rattle.split_checks.proofs.begin_checks.checks.check_solid.Goals as goal
 

@@ -1,7 +1,5 @@
-use Rattle.std.proofs.Common.{◌∙◌, true, false, not, is_some, sym, ap}
-use Rattle.euler_operators.specs.Common.{are_opposite, cuts_lattice, cut_between, Point}
+use Rattle.split_checks.proofs.Prelude.{◌∙◌, true, false, not, is_some, sym, ap, are_opposite, cuts_lattice, cut_between, Point, start, finish}
 use Rattle.solid_measure.proofs.face_walks_laws.HalfCodes.{plus_there, code_plus}
-use Rattle.shapes.specs.Common.{start, finish}
 use Rattle.split_checks.proofs.cut_places_laws.Cuts.{told_off, told_point}
 use Rattle.split_checks.proofs.begin_checks.crossings.cut_edge.Goals as goal
 

@@ -1,7 +1,4 @@
-use Rattle.std.proofs.Common.{◌∙◌, ℕ, cond, List, ◌∷◌, ◌++◌, Some, map, slice_index_or, sym, ap, subst, append_assoc}
-use Rattle.shapes.specs.Common.{first_such}
-use Rattle.split_checks.specs.Common.{cut_at, AreCrossing, is_off}
-use Rattle.split_checks.specs.declared.cuts.CutEdge.{CutEdge}
+use Rattle.split_checks.proofs.Prelude.{◌∙◌, ℕ, cond, List, ◌∷◌, ◌++◌, Some, map, slice_index_or, sym, ap, subst, append_assoc, first_such, cut_at, AreCrossing, is_off, CutEdge}
 use Rattle.split_checks.proofs.cut_places_laws.Lists.{others, parts}
 use Rattle.split_checks.proofs.begin_checks.crossings.cut_edges.Goals as goal
 

@@ -1,6 +1,4 @@
-use Rattle.std.proofs.Common.{◌≡◌, ◌++◌, map, length}
-use Rattle.shapes.specs.Common.{first_such}
-use Rattle.split_checks.specs.Common.{cut_at, AreCrossing, is_off}
+use Rattle.split_checks.proofs.Prelude.{◌≡◌, ◌++◌, map, length, first_such, cut_at, AreCrossing, is_off}
 use Rattle.split_checks.proofs.begin_checks.crossings.cut_edges.Given as goal
 
 abbrev pub invariant-edges : goal.invariant-edges

@@ -1,6 +1,4 @@
-use Rattle.std.proofs.Common.{◌+◌, ◌∙◌, ap}
-use Rattle.euler_operators.specs.Common.{first_refusal, verdict}
-use Rattle.shapes.specs.Common.{Taken, numbers_left}
+use Rattle.split_checks.proofs.Prelude.{◌+◌, ◌∙◌, ap, first_refusal, verdict, Taken, numbers_left}
 use Rattle.split_checks.proofs.begin_checks.numbers.check_left.Goals as goal
 
 pub returns : goal.returns

@@ -1,5 +1,4 @@
-use Rattle.std.proofs.Common.{◌∙◌, ◌&&◌, pos, negsuc, sym, ap, int_le}
-use Rattle.std.proofs.lemmas.Int.{to_z-of_z}
+use Rattle.split_checks.proofs.Prelude.{◌∙◌, ◌&&◌, pos, negsuc, sym, ap, int_le, to_z-of_z}
 use mir.Syntax.{w128}
 use Rattle.split_checks.proofs.begin_checks.planes.is_coordinate.Goals as goal
 

@@ -1,10 +1,4 @@
-use Rattle.std.proofs.Common.{◌≡◌, ◌∙◌, ◌||◌, false, ap, sym, length, arith}
-use Rattle.euler_operators.specs.Common.{content, rings_of, Sign, Above, Below}
-use Rattle.euler_operators.proofs.Common.{or_false}
-use Rattle.shapes.specs.Common.{vertices_in, vertices_on}
-use Rattle.solid_measure.proofs.face_walks_laws.Above.{above}
-use Rattle.solid_measure.proofs.face_walks_laws.RingWalks.{next_ring}
-use Rattle.split_checks.specs.cut_places.Sides.{reaches, side_reached, some_lie}
+use Rattle.split_checks.proofs.Prelude.{◌≡◌, ◌∙◌, ◌||◌, false, ap, sym, length, arith, content, rings_of, Sign, Above, Below, or_false, vertices_in, vertices_on, above, next_ring, reaches, side_reached, some_lie}
 use Rattle.split_checks.proofs.cut_places_laws.Met.{or_joined}
 use Rattle.split_checks.proofs.cut_places_laws.NotedSides.{is_up, told_up, told_down}
 use Rattle.split_checks.proofs.cut_places_laws.Rings.{outer_lies, ring_lies, none_lies}

@@ -1,7 +1,4 @@
-use Rattle.std.proofs.Common.{◌≡◌, ◌||◌, length}
-use Rattle.euler_operators.specs.Common.{rings_of, Above, Below}
-use Rattle.shapes.specs.Common.{vertices_in}
-use Rattle.solid_measure.proofs.face_walks_laws.Above.{above}
+use Rattle.split_checks.proofs.Prelude.{◌≡◌, ◌||◌, length, rings_of, Above, Below, vertices_in, above}
 use Rattle.split_checks.specs.Common.{AreSides, reaches, some_lie}
 use Rattle.split_checks.proofs.cut_places.face_sides.face_side.Given as goal
 

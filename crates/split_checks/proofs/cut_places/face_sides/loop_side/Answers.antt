@@ -1,9 +1,4 @@
-use Rattle.std.proofs.Common.{◌≡◌, ◌∙◌, ap, sym}
-use Rattle.std.specs.List.{list_any}
-use Rattle.euler_operators.specs.Common.{Sign, Above, Below, code, content, cycle_of, items_of, point_of, tail}
-use Rattle.shapes.specs.Common.{start, vertices_on}
-use Rattle.euler_conditions.proofs.Known.{filled}
-use Rattle.split_checks.specs.cut_places.Sides.{lies, side_reached, some_lie, some_start}
+use Rattle.split_checks.proofs.Prelude.{◌≡◌, ◌∙◌, ap, sym, list_any, Sign, Above, Below, code, content, cycle_of, items_of, point_of, tail, start, vertices_on, filled, lies, side_reached, some_lie, some_start}
 use Rattle.split_checks.proofs.cut_places_laws.Lists.{any_map}
 use Rattle.split_checks.proofs.cut_places_laws.NotedSides.{lone_side}
 use Rattle.split_checks.proofs.cut_places_laws.Walks.{ring_there, ring_cycle, ring_vertices}

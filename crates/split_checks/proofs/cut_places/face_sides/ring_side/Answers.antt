@@ -1,9 +1,4 @@
-use Rattle.std.proofs.Common.{◌≡◌, ◌∙◌, ◌||◌, true, ap, sym, length, arith}
-use Rattle.euler_operators.specs.Common.{Sign, Above, Below, cycle_of, has_half}
-use Rattle.shapes.specs.Common.{start}
-use Rattle.euler_conditions.proofs.Coded.{edge_fits}
-use Rattle.solid_measure.proofs.face_walks_laws.CycleWalks.{item_there, item_in, goes_on}
-use Rattle.split_checks.specs.cut_places.Sides.{lies, same_sign, side_reached, some_start}
+use Rattle.split_checks.proofs.Prelude.{◌≡◌, ◌∙◌, ◌||◌, true, ap, sym, length, arith, Sign, Above, Below, cycle_of, has_half, start, edge_fits, item_there, item_in, goes_on, lies, same_sign, side_reached, some_start}
 use Rattle.split_checks.proofs.cut_places_laws.NotedSides.{is_up}
 use Rattle.split_checks.proofs.cut_places_laws.RingTests.{left, walk_begins, walk_finds, walk_ended, walk_left, walk_told, walk_adds}
 use Rattle.split_checks.proofs.cut_places_laws.Signs.{sign_lies}

@@ -1,6 +1,4 @@
-use Rattle.std.proofs.Common.{◌≡◌, ◌||◌, ◌∷◌, length}
-use Rattle.euler_operators.specs.Common.{IsIn, cycle_of, Above, Below}
-use Rattle.solid_measure.proofs.face_walks_laws.CycleWalks.{to_come}
+use Rattle.split_checks.proofs.Prelude.{◌≡◌, ◌||◌, ◌∷◌, length, IsIn, cycle_of, Above, Below, to_come}
 use Rattle.split_checks.specs.Common.{AreSides, some_start}
 use Rattle.split_checks.proofs.cut_places.face_sides.ring_side.Given as goal
 

@@ -1,9 +1,5 @@
-use Rattle.std.proofs.Common.{◌∙◌, ap}
-use Rattle.euler_operators.specs.Common.{code, has_half, height, sign_of, Above}
+use Rattle.split_checks.proofs.Prelude.{◌∙◌, ap, code, has_half, height, sign_of, Above, edge_of-mate, finish, start, same_sign}
 use Rattle.euler_operators.specs.Table as table
-use Rattle.euler_operators.proofs.Common.{edge_of-mate}
-use Rattle.shapes.specs.Common.{finish, start}
-use Rattle.split_checks.specs.cut_places.Sides.{same_sign}
 use Rattle.split_checks.proofs.cut_places_laws.Signs.{sign_lies}
 use Rattle.split_checks.proofs.cut_places.halves.goes_up.Goals as goal
 

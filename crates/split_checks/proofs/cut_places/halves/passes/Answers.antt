@@ -1,7 +1,4 @@
-use Rattle.std.proofs.Common.{◌∙◌, ap}
-use Rattle.euler_operators.specs.Common.{code, before, height, sign_of}
-use Rattle.shapes.specs.Common.{finish, start}
-use Rattle.split_checks.specs.cut_places.Sides.{opposite_signs}
+use Rattle.split_checks.proofs.Prelude.{◌∙◌, ap, code, before, height, sign_of, finish, start, opposite_signs}
 use Rattle.split_checks.proofs.cut_places_laws.Signs.{signs_opposite}
 use Rattle.split_checks.proofs.cut_places.halves.passes.Goals as goal
 

@@ -1,7 +1,4 @@
-use Rattle.std.proofs.Common.{OnOk, ℕ, List, map, refl, subst, sym}
-use Rattle.euler_operators.specs.Common.{content, items_of, point_of, tail}
-use Rattle.euler_conditions.proofs.Known.{filled}
-use Rattle.split_checks.specs.cut_places.Meetings.{IsMet}
+use Rattle.split_checks.proofs.Prelude.{OnOk, ℕ, List, map, refl, subst, sym, content, items_of, point_of, tail, filled, IsMet}
 use Rattle.split_checks.proofs.cut_places_laws.Walks.{ring_there, ring_cycle, ring_vertices}
 use Rattle.split_checks.proofs.cut_places_laws.Met.{lone_holds}
 use Rattle.split_checks.proofs.cut_places.looking.look_along.Goals as goal

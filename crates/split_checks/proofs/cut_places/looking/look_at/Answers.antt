@@ -1,7 +1,4 @@
-use Rattle.std.proofs.Common.{◌∙◌, true, false, ◌&&◌, List, [], ◌∷◌, ◌++◌, sym, ap, append-nil}
-use Rattle.euler_operators.specs.Common.{HalfEdge}
-use Rattle.euler_operators.proofs.Common.{or_false, or_true, and_false}
-use Rattle.split_checks.specs.declared.cut_places.found.Looked.{Looked}
+use Rattle.split_checks.proofs.Prelude.{◌∙◌, true, false, ◌&&◌, List, [], ◌∷◌, ◌++◌, sym, ap, append-nil, HalfEdge, or_false, or_true, and_false, Looked}
 use Rattle.split_checks.proofs.cut_places_laws.Met.{one_met, across_is, place_across, place_on, place_off, touch_place, touch_on, touch_off}
 use Rattle.split_checks.proofs.cut_places.looking.look_at.Goals.{then-h+in_ok-push, else-h}
 use Rattle.split_checks.proofs.cut_places.looking.look_at.Goals as goal

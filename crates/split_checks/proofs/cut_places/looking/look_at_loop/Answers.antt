@@ -1,5 +1,4 @@
-use Rattle.euler_operators.specs.Common.{content, items_of}
-use Rattle.shapes.specs.Common.{vertices_on}
+use Rattle.split_checks.proofs.Prelude.{content, items_of, vertices_on}
 use Rattle.split_checks.proofs.cut_places_laws.Met.{some_told}
 use Rattle.split_checks.proofs.cut_places.looking.look_at_loop.Goals as goal
 

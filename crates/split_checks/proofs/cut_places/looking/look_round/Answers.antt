@@ -1,9 +1,4 @@
-use Rattle.std.proofs.Common.{◌∙◌, [], ◌∷◌, ap, sym, subst, ℕ, List, length, arith}
-use Rattle.euler_operators.specs.Common.{least, height, sign_of, cycle_of, has_half, tail}
-use Rattle.euler_conditions.proofs.Coded.{coded, edge_fits}
-use Rattle.shapes.specs.Common.{finish, start}
-use Rattle.solid_measure.proofs.face_walks_laws.CycleWalks.{to_come, item_there, item_in, from_least, goes_on, comes_back}
-use Rattle.split_checks.specs.cut_places.Meetings.{IsMet, IsRound}
+use Rattle.split_checks.proofs.Prelude.{◌∙◌, [], ◌∷◌, ap, sym, subst, ℕ, List, length, arith, least, height, sign_of, cycle_of, has_half, tail, coded, edge_fits, finish, start, to_come, item_there, item_in, from_least, goes_on, comes_back, IsMet, IsRound}
 use Rattle.split_checks.proofs.cut_places_laws.PlaceWalks.{next_starts}
 use Rattle.split_checks.proofs.cut_places_laws.Met.{Walked, walk_begins, walk_on, walk_ends}
 use Rattle.split_checks.proofs.cut_places.looking.look_round.Goals as goal

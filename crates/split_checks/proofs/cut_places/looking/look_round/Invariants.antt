@@ -1,8 +1,4 @@
-use Rattle.std.proofs.Common.{◌≡◌, ◌∷◌, length}
-use Rattle.euler_operators.specs.Common.{IsIn, height, sign_of, cycle_of}
-use Rattle.shapes.specs.Common.{start}
-use Rattle.solid_measure.proofs.face_walks_laws.CycleWalks.{to_come}
-use Rattle.split_checks.specs.cut_places.Noted.{AreSides}
+use Rattle.split_checks.proofs.Prelude.{◌≡◌, ◌∷◌, length, IsIn, height, sign_of, cycle_of, start, to_come, AreSides}
 use Rattle.split_checks.proofs.cut_places_laws.Met.{Walked}
 use Rattle.split_checks.proofs.cut_places.looking.look_round.Given as goal
 

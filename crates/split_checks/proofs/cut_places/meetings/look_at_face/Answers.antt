@@ -1,8 +1,4 @@
-use Rattle.std.proofs.Common.{◌∙◌, ap, sym, subst, true, false, [], ◌∷◌, ◌++◌, refl, map, append-nil}
-use Rattle.euler_operators.specs.Common.{code}
-use Rattle.shapes.specs.Common.{boundary, corners}
-use Rattle.split_checks.specs.cut_places.Meetings.{IsMet, unmarked}
-use Rattle.split_checks.specs.declared.cut_places.found.FaceMet.{FaceMet}
+use Rattle.split_checks.proofs.Prelude.{◌∙◌, ap, sym, subst, true, false, [], ◌∷◌, ◌++◌, refl, map, append-nil, code, boundary, corners, IsMet, unmarked, FaceMet}
 use Rattle.split_checks.proofs.cut_places_laws.Met.{no_fewer, cut_back, face_done, face_told, places_told, places_added}
 use Rattle.split_checks.proofs.cut_places.meetings.look_at_face.Goals as goal
 

@@ -1,5 +1,4 @@
-use Rattle.std.proofs.Common.{◌∙◌, ap, ◌&&◌, ◌||◌, not, nat_eq}
-use Rattle.shapes.specs.Common.{boundary, corners, is_cut_often, loop_is_cut, places}
+use Rattle.split_checks.proofs.Prelude.{◌∙◌, ap, ◌&&◌, ◌||◌, not, nat_eq, boundary, corners, is_cut_often, loop_is_cut, places}
 use Rattle.split_checks.proofs.cut_places_laws.Met.{face_looked, no_fewer, counted}
 use Rattle.split_checks.proofs.cut_places.meetings.look_at_loops.Goals as goal
 

@@ -1,9 +1,4 @@
-use Rattle.std.proofs.Common.{◌∙◌, ap, sym, subst, ℕ, List, ◌&&◌, length, arith}
-use Rattle.std.specs.List.{list_all}
-use Rattle.euler_operators.specs.Common.{rings_of}
-use Rattle.shapes.specs.Common.{loop_is_cut}
-use Rattle.solid_measure.proofs.face_walks_laws.Above.{above}
-use Rattle.solid_measure.proofs.face_walks_laws.RingWalks.{next_ring, no_ring, rings_from_zero}
+use Rattle.split_checks.proofs.Prelude.{◌∙◌, ap, sym, subst, ℕ, List, ◌&&◌, length, arith, list_all, rings_of, loop_is_cut, above, next_ring, no_ring, rings_from_zero}
 use Rattle.split_checks.proofs.cut_places_laws.Met.{LoopsWalked, loops_begin, loops_on, loops_end, and_joined, and_true}
 use Rattle.split_checks.proofs.cut_places.meetings.look_at_rings.Goals as goal
 

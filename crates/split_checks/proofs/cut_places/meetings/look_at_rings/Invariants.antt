@@ -1,9 +1,4 @@
-use Rattle.std.proofs.Common.{◌≡◌, ◌&&◌, length}
-use Rattle.std.specs.List.{list_all}
-use Rattle.euler_operators.specs.Common.{rings_of}
-use Rattle.shapes.specs.Common.{loop_is_cut}
-use Rattle.solid_measure.proofs.face_walks_laws.Above.{above}
-use Rattle.split_checks.specs.cut_places.Noted.{AreSides}
+use Rattle.split_checks.proofs.Prelude.{◌≡◌, ◌&&◌, length, list_all, rings_of, loop_is_cut, above, AreSides}
 use Rattle.split_checks.proofs.cut_places_laws.Met.{LoopsWalked}
 use Rattle.split_checks.proofs.cut_places.meetings.look_at_rings.Given as goal
 

@@ -1,6 +1,4 @@
-use Rattle.std.proofs.Common.{ap, sym, subst, ℕ, List, length, arith, IsPermutation}
-use Rattle.euler_operators.specs.Common.{faces_of}
-use Rattle.solid_measure.proofs.face_walks_laws.Above.{above}
+use Rattle.split_checks.proofs.Prelude.{ap, sym, subst, ℕ, List, length, arith, IsPermutation, faces_of, above}
 use Rattle.solid_measure.proofs.solid_checks_laws.FaceWalks.{next_face, no_face_left, faces_from_zero}
 use Rattle.split_checks.proofs.cut_places_laws.Met.{FacesWalked, faces_begin, faces_on, faces_end}
 use Rattle.split_checks.proofs.cut_places_laws.Sorted.{sorted_crossings}

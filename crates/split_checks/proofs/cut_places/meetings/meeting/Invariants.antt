@@ -1,7 +1,4 @@
-use Rattle.std.proofs.Common.{length}
-use Rattle.euler_operators.specs.Common.{faces_of}
-use Rattle.solid_measure.proofs.face_walks_laws.Above.{above}
-use Rattle.split_checks.specs.cut_places.Noted.{AreSides}
+use Rattle.split_checks.proofs.Prelude.{length, faces_of, above, AreSides}
 use Rattle.split_checks.proofs.cut_places_laws.Met.{FacesWalked}
 use Rattle.split_checks.proofs.cut_places.meetings.meeting.Given as goal
 

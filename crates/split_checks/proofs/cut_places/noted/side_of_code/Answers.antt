@@ -1,7 +1,4 @@
-use Rattle.std.proofs.Common.{◌∙◌, ap}
-use Rattle.euler_operators.specs.Common.{height, sign_of, has_half}
-use Rattle.shapes.specs.Common.{start}
-use Rattle.euler_conditions.proofs.Coded.{coded}
+use Rattle.split_checks.proofs.Prelude.{◌∙◌, ap, height, sign_of, has_half, start, coded}
 use Rattle.split_checks.proofs.cut_places.noted.side_of_code.Goals as goal
 
 pub start_side-requires-clause-there : goal.start_side-requires-clause-there

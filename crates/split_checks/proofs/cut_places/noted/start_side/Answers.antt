@@ -1,5 +1,4 @@
-use Rattle.std.proofs.Common.{◌∙◌, ap}
-use Rattle.euler_operators.specs.Common.{code}
+use Rattle.split_checks.proofs.Prelude.{◌∙◌, ap, code}
 use Rattle.euler_operators.specs.Table as table
 use Rattle.split_checks.proofs.cut_places.noted.start_side.Goals as goal
 

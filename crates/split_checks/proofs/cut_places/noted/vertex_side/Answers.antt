@@ -1,6 +1,4 @@
-use Rattle.std.proofs.Common.{◌∙◌, ◌%◌, ap, refl}
-use Rattle.euler_operators.specs.Common.{height, sign_of, Below}
-use Rattle.split_checks.specs.declared.cut_places.noted.Noted.{Noted}
+use Rattle.split_checks.proofs.Prelude.{◌∙◌, ◌%◌, ap, refl, height, sign_of, Below, Noted}
 use Rattle.split_checks.proofs.cut_places_laws.NotedSides.{noted_at, one_noted, told_of}
 use Rattle.split_checks.proofs.cut_places.noted.vertex_side.Goals as goal
 

@@ -1,8 +1,4 @@
-use Rattle.std.proofs.Common.{◌≡◌, ◌∙◌, ℕ, ◌/◌, true, false, cond, not, length, Ok, List, [], ◌∷◌, ◌++◌, Some, map, slice_index_or, sym, ap, subst, append_assoc}
-use Rattle.euler_operators.specs.Common.{code}
-use Rattle.shapes.specs.Common.{first_such, is_crossed, place_pairs}
-use Rattle.split_checks.specs.Common.{codes, all_pairs, paired_face, AreTold, faces_in, AreFacesAlong, ArePlacesAlong}
-use Rattle.split_checks.specs.declared.cut_places.found.FaceMet.{FaceMet}
+use Rattle.split_checks.proofs.Prelude.{◌≡◌, ◌∙◌, ℕ, ◌/◌, true, false, cond, not, length, Ok, List, [], ◌∷◌, ◌++◌, Some, map, slice_index_or, sym, ap, subst, append_assoc, code, first_such, is_crossed, place_pairs, codes, all_pairs, paired_face, AreTold, faces_in, AreFacesAlong, ArePlacesAlong, FaceMet}
 use Rattle.split_checks.specs.declared.cuts.PairedFace.{PairedFace}
 use Rattle.split_checks.proofs.cut_places_laws.Lists.{others, parts}
 use Rattle.split_checks.proofs.cut_places_laws.Told.{no_met, enough, many, mine, more}

@@ -1,7 +1,5 @@
-use Rattle.std.proofs.Common.{◌≡◌, ◌++◌, map, length}
-use Rattle.euler_operators.specs.Common.{code}
-use Rattle.shapes.specs.Common.{first_such, is_crossed}
-use Rattle.split_checks.specs.Common.{all_pairs, codes, paired_face, AreTold, faces_in, AreSides, AreFacesAlong}
+use Rattle.split_checks.proofs.Prelude.{◌≡◌, ◌++◌, map, length, code, first_such, is_crossed, all_pairs, codes, paired_face, AreTold, faces_in, AreFacesAlong}
+use Rattle.split_checks.specs.Common.{AreSides}
 use Rattle.split_checks.proofs.face_pairs.faces.pairs_of_faces.Given as goal
 
 abbrev pub invariant-faces : goal.invariant-faces

@@ -1,8 +1,5 @@
-use Rattle.std.proofs.Common.{◌≡◌, ◌∙◌, ℕ, Bool, true, false, not, ◌&&◌, ◌||◌, [], ◌∷◌, map, Option, Some, None, IfSome, is_none, is_some, refl, sym, ap, int_eq}
-use Rattle.euler_operators.specs.Common.{code, Plane, Point, Model, same_point}
-use Rattle.shapes.specs.Common.{place_point, is_up_and_down, in_pairs, sorted, up_first}
+use Rattle.split_checks.proofs.Prelude.{◌≡◌, ◌∙◌, ℕ, Bool, true, false, not, ◌&&◌, ◌||◌, [], ◌∷◌, map, Option, Some, None, IfSome, is_none, is_some, refl, sym, ap, int_eq, code, Plane, Point, Model, same_point, place_point, is_up_and_down, in_pairs, sorted, up_first, Pair}
 use Rattle.split_checks.specs.Cuts.{codes}
-use Rattle.split_checks.specs.declared.cuts.Pair.{Pair}
 use Rattle.split_checks.proofs.face_pairs_laws.Meetings.{two_paired}
 use Rattle.split_checks.proofs.face_pairs.pairs.only_pair.Goals as goal
 

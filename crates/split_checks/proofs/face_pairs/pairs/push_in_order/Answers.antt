@@ -1,10 +1,4 @@
-use Rattle.std.proofs.Common.{◌≡◌, ◌∙◌, ℕ, [], List, ◌∷◌, ◌++◌, ◌&&◌, map, refl, sym, ap, subst, append_assoc}
-use Rattle.std.specs.List.{list_all}
-use Rattle.std.proofs.lemmas.List.{map-append}
-use Rattle.euler_operators.specs.Common.{HalfEdge}
-use Rattle.shapes.specs.Common.{in_pairs, is_up_and_down, up_first}
-use Rattle.split_checks.specs.Common.{codes, AreThere, Key, places_of}
-use Rattle.split_checks.specs.declared.cuts.Pair.{Pair}
+use Rattle.split_checks.proofs.Prelude.{◌≡◌, ◌∙◌, ℕ, [], List, ◌∷◌, ◌++◌, ◌&&◌, map, refl, sym, ap, subst, append_assoc, list_all, map-append, HalfEdge, in_pairs, is_up_and_down, up_first, codes, AreThere, Key, places_of, Pair}
 use Rattle.split_checks.proofs.face_pairs_laws.Taken.{last_alone, none_left, pair_fails, second_there, two_taken}
 use Rattle.split_checks.proofs.face_pairs.pairs.push_in_order.Goals as goal
 

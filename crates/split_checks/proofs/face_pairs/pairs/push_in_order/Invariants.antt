@@ -1,7 +1,5 @@
-use Rattle.std.proofs.Common.{◌≡◌, ◌++◌, map, length}
-use Rattle.std.specs.List.{list_all}
-use Rattle.shapes.specs.Common.{in_pairs, is_up_and_down, up_first}
-use Rattle.split_checks.specs.Common.{codes, AreSides, AreThere, places_of}
+use Rattle.split_checks.proofs.Prelude.{◌≡◌, ◌++◌, map, length, list_all, in_pairs, is_up_and_down, up_first, codes, AreThere, places_of}
+use Rattle.split_checks.specs.Common.{AreSides}
 use Rattle.split_checks.proofs.face_pairs.pairs.push_in_order.Given as goal
 
 abbrev pub invariant-pairs : goal.invariant-pairs

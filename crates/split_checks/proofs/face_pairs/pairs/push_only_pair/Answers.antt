@@ -1,7 +1,5 @@
-use Rattle.std.proofs.Common.{◌∙◌, ℕ, List, ◌++◌, map, ap}
-use Rattle.std.proofs.lemmas.List.{map-append}
+use Rattle.split_checks.proofs.Prelude.{◌∙◌, ℕ, List, ◌++◌, map, ap, map-append, Pair}
 use Rattle.split_checks.specs.Cuts.{codes}
-use Rattle.split_checks.specs.declared.cuts.Pair.{Pair}
 use Rattle.split_checks.proofs.face_pairs.pairs.push_only_pair.Goals as goal
 
 pub returns-clause-pairs : goal.returns-clause-pairs

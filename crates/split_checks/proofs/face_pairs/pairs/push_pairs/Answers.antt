@@ -1,8 +1,4 @@
-use Rattle.std.proofs.Common.{◌≡◌, List, ℕ, ◌++◌, true, false, not, map, slice_index_or, sym, ap, subst, arith, refl, Ok, IfOk}
-use Rattle.euler_operators.specs.Common.{code}
-use Rattle.euler_operators.proofs.Common.{tick_same}
-use Rattle.shapes.specs.Common.{some_meet, sorted, in_pairs, up_first}
-use Rattle.split_checks.specs.Common.{codes, ArePlacesAlong, entries_of, places_of}
+use Rattle.split_checks.proofs.Prelude.{◌≡◌, List, ℕ, ◌++◌, true, false, not, map, slice_index_or, sym, ap, subst, arith, refl, Ok, IfOk, code, tick_same, some_meet, sorted, in_pairs, up_first, codes, ArePlacesAlong, entries_of, places_of}
 use Rattle.split_checks.proofs.place_order_laws.Ordered.{at_some, at_none, held_in_order, order_there}
 use Rattle.split_checks.proofs.cut_places_laws.Lists.{no_half, two_codes}
 use Rattle.split_checks.proofs.face_pairs_laws.Meetings.{crossed_by, ordered, two_crossed}

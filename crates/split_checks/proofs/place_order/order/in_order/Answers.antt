@@ -1,9 +1,4 @@
-use Rattle.std.proofs.Common.{◌∙◌, ◌-◌, length, slice_index_or, map, sym, ap}
-use Rattle.std.specs.BTreeMap.{insert_entry}
-use Rattle.euler_operators.specs.Common.{code}
-use Rattle.euler_operators.proofs.Common.{half-code}
-use Rattle.shapes.specs.Common.{sorted}
-use Rattle.split_checks.specs.place_order.Order.{key}
+use Rattle.split_checks.proofs.Prelude.{◌∙◌, ◌-◌, length, slice_index_or, map, sym, ap, insert_entry, code, half-code, sorted, key}
 use Rattle.split_checks.proofs.cut_places_laws.Lists.{no_half, fewer, last_code}
 use Rattle.split_checks.proofs.place_order_laws.Sorting.{key_cmp, place_in, one_met, one_more, met_is}
 use Rattle.split_checks.proofs.place_order.order.in_order.Goals as goal

@@ -1,6 +1,4 @@
-use Rattle.std.proofs.Common.{map, length}
-use Rattle.euler_operators.specs.Common.{code}
-use Rattle.split_checks.specs.cut_places.Noted.{AreSides}
+use Rattle.split_checks.proofs.Prelude.{map, length, code, AreSides}
 use Rattle.split_checks.proofs.place_order_laws.Sorting.{Sorting}
 use Rattle.split_checks.proofs.place_order.order.in_order.Given as goal
 

@@ -1,11 +1,5 @@
-use Rattle.std.proofs.Common.{◌∙◌, List, length, sym, ap, subst, arith}
-use Rattle.std.proofs.lemmas.List.{length-map}
-use Rattle.euler_operators.specs.Common.{code, IsIn, On}
-use Rattle.euler_operators.proofs.Common.{edge_of-code}
-use Rattle.euler_laws.proofs.Common.{listed-from_in}
-use Rattle.shapes.specs.Common.{start}
-use Rattle.split_checks.specs.Common.{cut_at, same_sign}
-use Rattle.split_checks.specs.declared.cuts.CutEdge.{CutEdge}
+use Rattle.split_checks.proofs.Prelude.{◌∙◌, List, length, sym, ap, subst, arith, length-map, code, IsIn, On, edge_of-code, listed-from_in, start, cut_at, CutEdge}
+use Rattle.split_checks.specs.Common.{same_sign}
 use Rattle.split_checks.proofs.cut_places_laws.Searched.{found_at, none_missed}
 use Rattle.split_checks.proofs.cut_places_laws.Signs.{sign_lies}
 use Rattle.split_checks.proofs.place_order_laws.PlacePoints.{place_off, point_on, point_found}

@@ -1,7 +1,4 @@
-use Rattle.std.proofs.Common.{◌∙◌, ap, arith}
-use Rattle.euler_operators.specs.Common.{first_false}
-use Rattle.undo_journal.specs.Journal.{after_step}
-use Rattle.shapes.specs.Common.{Taken}
+use Rattle.split_drawing.proofs.Prelude.{◌∙◌, ap, arith, first_false, after_step, Taken}
 use Rattle.split_drawing.proofs.edge_cutting_laws.Halves.{same_cut, second_edge}
 use Rattle.split_drawing.proofs.edge_cutting.cutting.cut_edge.Goals as goal
 

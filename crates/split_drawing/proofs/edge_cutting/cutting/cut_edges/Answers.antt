@@ -1,13 +1,7 @@
-use Rattle.std.proofs.Common.{◌∙◌, [], ◌∷◌, refl, ap, sym, subst}
-use Rattle.undo_journal.specs.Journal.{DraftJournal, after_step, after_steps}
-use Rattle.euler_operators.specs.Common.{first_false}
-use Rattle.shapes.specs.Common.{taken_in, growing, crossing_edges, cut_edge}
+use Rattle.split_drawing.proofs.Prelude.{◌∙◌, [], ◌∷◌, refl, ap, sym, subst, DraftJournal, after_step, after_steps, first_false, taken_in, growing, crossing_edges, cut_edge, crossings_made, parts, further_none, further_on, steps_make}
 use Rattle.split_drawing_laws.specs.crossings.CrossingOps.{ops_from}
-use Rattle.split_drawing_laws.proofs.crossings.Whole.{crossings_made}
-use Rattle.split_checks.proofs.cut_places_laws.Lists.{parts}
 use Rattle.split_drawing.proofs.StepsLeft.{others_lead, none_left}
 use Rattle.split_drawing.proofs.edge_cutting_laws.Remaining.{Cutting, AreAt, edges_in, no_cut, all_at, edges_at, begins, crossings_are, ops_left, opened, opened_at, next_goes, next_crosses, next_op, next_taken, next_counted, edge_left, vertex_left}
-use Rattle.undo_journal.proofs.Marks.{further_none, further_on, steps_make}
 use Rattle.split_drawing.proofs.edge_cutting.cutting.cut_edges.Goals as goal
 
 pub edges-init : goal.edges-init

@@ -1,9 +1,6 @@
-use Rattle.std.proofs.Common.{◌≡◌, length}
-use Rattle.shapes.specs.Common.{taken_in, growing}
-use Rattle.solid_walks.specs.Counters.{taken_of}
+use Rattle.split_drawing.proofs.Prelude.{◌≡◌, length, taken_in, growing, taken_of, crossing_ops, after_steps, IsFurther}
 use Rattle.split_drawing.proofs.edge_cutting_laws.Remaining.{Cutting, AreAt, edges_in}
-use Rattle.split_drawing_laws.specs.crossings.CrossingOps.{crossing_ops, ops_from}
-use Rattle.undo_journal.specs.Journal.{after_steps, IsFurther}
+use Rattle.split_drawing_laws.specs.crossings.CrossingOps.{ops_from}
 use Rattle.split_drawing.proofs.edge_cutting.cutting.cut_edges.Given as goal
 
 abbrev pub invariant-edges : goal.invariant-edges

@@ -1,6 +1,4 @@
-use Rattle.std.proofs.Common.{◌∙◌, ap}
-use Rattle.euler_operators.specs.Common.{first_false}
-use Rattle.undo_journal.specs.Journal.{after_step}
+use Rattle.split_drawing.proofs.Prelude.{◌∙◌, ap, first_false, after_step}
 use Rattle.split_drawing.proofs.face_drawing_laws.PairOps.{draw_op}
 use Rattle.split_drawing.proofs.face_drawing.drawing.draw_pair.Goals as goal
 

@@ -1,13 +1,6 @@
-use Rattle.std.proofs.Common.{◌∙◌, true, false, [], ◌∷◌, map, refl, ap}
-use Rattle.undo_journal.specs.Journal.{DraftJournal, after_steps}
-use Rattle.shapes.specs.Common.{draw_pair}
-use Rattle.solid_walks.specs.Counters.{taken_of}
-use Rattle.split_drawing_laws.specs.drawings.DrawingOps.{draw_ops}
-use Rattle.split_checks.specs.Progress.{drawing_of}
+use Rattle.split_drawing.proofs.Prelude.{◌∙◌, true, false, [], ◌∷◌, map, refl, ap, DraftJournal, after_steps, draw_pair, taken_of, draw_ops, drawing_of, codes, further_on}
 use Rattle.split_drawing.proofs.StepsLeft.{others_lead, none_left}
-use Rattle.split_checks.specs.Cuts.{codes}
 use Rattle.split_drawing.proofs.face_drawing_laws.Turns.{first_pair, told, draw_accepted, drew, got_stuck}
-use Rattle.undo_journal.proofs.Marks.{further_on}
 use Rattle.split_drawing.proofs.face_drawing.drawing.draw_pairs.Goals as goal
 
 pub draw_pair-requires-clause-accepted : goal.draw_pair-requires-clause-accepted

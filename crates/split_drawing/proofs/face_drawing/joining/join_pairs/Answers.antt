@@ -1,13 +1,6 @@
-use Rattle.std.proofs.Common.{◌+◌, ◌∙◌, true, false, [], ◌∷◌, map, refl, ap}
-use Rattle.std.proofs.lemmas.List.{map-append}
-use Rattle.undo_journal.specs.Journal.{DraftJournal, after_steps}
-use Rattle.shapes.specs.Common.{join_pair}
-use Rattle.split_drawing_laws.specs.drawings.DrawingOps.{join_ops}
-use Rattle.split_checks.specs.Progress.{drawing_of}
+use Rattle.split_drawing.proofs.Prelude.{◌+◌, ◌∙◌, true, false, [], ◌∷◌, map, refl, ap, map-append, DraftJournal, after_steps, join_pair, join_ops, drawing_of, codes, further_on}
 use Rattle.split_drawing.proofs.StepsLeft.{others_lead, none_left}
-use Rattle.split_checks.specs.Cuts.{codes}
 use Rattle.split_drawing.proofs.face_drawing_laws.Turns.{first_pair, told, join_accepted, joined, left_over}
-use Rattle.undo_journal.proofs.Marks.{further_on}
 use Rattle.split_drawing.proofs.face_drawing.joining.join_pairs.Goals as goal
 
 pub join_pair-requires-clause-accepted : goal.join_pair-requires-clause-accepted

@@ -1,10 +1,4 @@
-use Rattle.std.proofs.Common.{◌≡◌, [], length, map, fold}
-use Rattle.shapes.specs.Common.{join_next}
-use Rattle.split_checks.specs.Cuts.{codes}
-use Rattle.split_checks.specs.Progress.{drawing_of}
-use Rattle.split_drawing.specs.face_drawing.Passes.{CanJoin}
-use Rattle.split_drawing_laws.specs.drawings.DrawingOps.{join_ops}
-use Rattle.undo_journal.specs.Journal.{after_steps, IsFurther}
+use Rattle.split_drawing.proofs.Prelude.{◌≡◌, [], length, map, fold, join_next, codes, drawing_of, CanJoin, join_ops, after_steps, IsFurther}
 use Rattle.split_drawing.proofs.face_drawing.joining.join_pairs.Given as goal
 
 abbrev pub invariant-pairs : goal.invariant-pairs

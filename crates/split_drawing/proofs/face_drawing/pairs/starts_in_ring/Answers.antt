@@ -1,6 +1,4 @@
-use Rattle.std.proofs.Common.{sym, subst}
-use Rattle.euler_operators.specs.Common.{code, Has}
-use Rattle.euler_operators.proofs.Common.{loop_there}
+use Rattle.split_drawing.proofs.Prelude.{sym, subst, code, Has, loop_there}
 use Rattle.split_drawing.proofs.face_drawing.pairs.starts_in_ring.Goals as goal
 
 pub face_of-requires : goal.face_of-requires

@@ -1,10 +1,6 @@
-use Rattle.std.proofs.Common.{[], ◌∷◌, refl, ap, ◌∙◌, slice_index_or}
-use Rattle.euler_operators.specs.declared.Op.TheVariants.{RingIn}
-use Rattle.split_drawing_laws.specs.drawings.DrawingOps.{ring_ops}
-use Rattle.undo_journal.specs.Journal.{DraftJournal, after_steps}
+use Rattle.split_drawing.proofs.Prelude.{[], ◌∷◌, refl, ap, ◌∙◌, slice_index_or, RingIn, ring_ops, DraftJournal, after_steps, further_on}
 use Rattle.split_drawing.proofs.StepsLeft.{others_lead, none_left}
 use Rattle.split_drawing.proofs.face_drawing_laws.GivenRings.{ring_goes, rings_go, ring_and_others}
-use Rattle.undo_journal.proofs.Marks.{further_on}
 use Rattle.split_drawing.proofs.face_drawing.rings.move_rings.Goals as goal
 
 pub step_accepted-requires : goal.step_accepted-requires

@@ -1,7 +1,4 @@
-use Rattle.std.proofs.Common.{◌≡◌, length}
-use Rattle.euler_laws.specs.Laws.{AreAccepted}
-use Rattle.split_drawing_laws.specs.drawings.DrawingOps.{ring_ops}
-use Rattle.undo_journal.specs.Journal.{after_steps, IsFurther}
+use Rattle.split_drawing.proofs.Prelude.{◌≡◌, length, AreAccepted, ring_ops, after_steps, IsFurther}
 use Rattle.split_drawing.proofs.face_drawing.rings.move_rings.Given as goal
 
 abbrev pub invariant-rings : goal.invariant-rings

@@ -1,5 +1,4 @@
-use Rattle.std.proofs.Common.{◌∙◌, sym, ap, cond}
-use Rattle.split_drawing.specs.face_drawing.Stuck.{stuck_at}
+use Rattle.split_drawing.proofs.Prelude.{◌∙◌, sym, ap, cond, stuck_at}
 use Rattle.split_drawing.proofs.face_drawing_laws.GivenRings.{ring_stops, no_ring, few_pairs}
 use Rattle.split_drawing.proofs.face_drawing.rings.ring_free.Goals as goal
 use Rattle.split_drawing.proofs.face_drawing.rings.ring_free.Goals.{else-count-gt1-via-then-count-gt1+else-ring_count-gt0, else-count-gt1-via-else-count-gt1}

@@ -1,7 +1,4 @@
-use Rattle.std.proofs.Common.{◌∙◌, ap}
-use Rattle.shapes.specs.Common.{rings_above}
-use Rattle.undo_journal.specs.Journal.{DraftJournal, after_steps}
-use Rattle.undo_journal.proofs.Marks.{steps_make}
+use Rattle.split_drawing.proofs.Prelude.{◌∙◌, ap, rings_above, DraftJournal, after_steps, steps_make}
 use Rattle.split_drawing.proofs.StepsLeft.{others_lead}
 use Rattle.split_drawing.proofs.solid_drawing_laws.OneFace.{lone_accepted, lone_there, lone_noted, lone_rings, lone_shared, lone_steps}
 use Rattle.split_drawing.proofs.solid_drawing_laws.RingSteps.{rings_given}

@@ -1,12 +1,4 @@
-use Rattle.std.proofs.Common.{◌≡◌, [], map, sym, ap, ◌∙◌, subst, IfOk, OnOk}
-use Rattle.euler_operators.specs.Common.{Model, Has}
-use Rattle.shapes.specs.Common.{drawn_between}
-use Rattle.undo_journal.specs.Journal.{after_steps}
-use Rattle.undo_journal.proofs.Marks.{steps_after}
-use Rattle.split_checks.specs.Cuts.{codes}
-use Rattle.split_checks.specs.Progress.{drawing_of}
-use Rattle.split_drawing.specs.solid_drawing.Drawn.{CanDrawFace, put_aside}
-use Rattle.split_drawing_laws.specs.drawings.DrawingOps.{face_ops}
+use Rattle.split_drawing.proofs.Prelude.{◌≡◌, [], map, sym, ap, ◌∙◌, subst, IfOk, OnOk, Model, Has, drawn_between, after_steps, steps_after, codes, drawing_of, CanDrawFace, put_aside, face_ops}
 use Rattle.split_drawing.proofs.solid_drawing_laws.OneFace.{can_join, then_there, then_draw, last_noted, with_none, steps_with_none, lone_pair}
 use Rattle.split_drawing.proofs.solid_drawing.face.draw_face.Goals as goal
 

@@ -1,7 +1,5 @@
-use Rattle.std.proofs.Common.{◌∙◌, ap, sym, cond}
-use Rattle.euler_operators.specs.Common.{code, On, after}
+use Rattle.split_drawing.proofs.Prelude.{◌∙◌, ap, sym, cond, code, On, after, start}
 use Rattle.euler_conditions.proofs.Known.{in_a_loop}
-use Rattle.shapes.specs.Common.{start}
 use Rattle.split_checks.specs.cut_places.Sides.{same_sign}
 use Rattle.split_checks.proofs.cut_places_laws.Signs.{sign_lies}
 use Rattle.split_drawing.proofs.solid_drawing.places.from_place.Goals as goal

@@ -1,7 +1,4 @@
-use Rattle.std.proofs.Common.{◌≡◌, ◌++◌, map, length}
-use Rattle.split_checks.specs.Cuts.{codes}
-use Rattle.split_checks.specs.cut_places.Noted.{AreSides}
-use Rattle.split_drawing.specs.solid_drawing.Starts.{PairsThere, pairs_started}
+use Rattle.split_drawing.proofs.Prelude.{◌≡◌, ◌++◌, map, length, codes, AreSides, PairsThere, pairs_started}
 use Rattle.split_drawing.proofs.solid_drawing.places.pairs_started.Given as goal
 
 abbrev pub invariant-pairs : goal.invariant-pairs

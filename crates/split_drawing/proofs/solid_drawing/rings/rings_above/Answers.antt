@@ -1,9 +1,5 @@
-use Rattle.std.proofs.Common.{◌∙◌, ap, sym, ℕ, Bool, List, [], ◌∷◌, ◌++◌, cond, length, arith, append_assoc, filter, append-nil}
-use Rattle.euler_operators.specs.Common.{Plane, Model, rings_of, content}
-use Rattle.shapes.specs.Common.{vertices_on, some_above}
-use Rattle.solid_walks.proofs.face_walks_laws.Above.{above}
+use Rattle.split_drawing.proofs.Prelude.{◌∙◌, ap, sym, ℕ, Bool, List, [], ◌∷◌, ◌++◌, cond, length, arith, append_assoc, filter, append-nil, Plane, Model, rings_of, content, vertices_on, some_above, above, told_up}
 use Rattle.solid_walks.proofs.face_walks_laws.RingWalks.{next_ring, no_ring, rings_from_zero}
-use Rattle.split_checks.proofs.cut_places_laws.NotedSides.{told_up}
 use Rattle.split_drawing.proofs.solid_drawing_laws.RingSteps.{ring_there}
 use Rattle.split_drawing.proofs.solid_drawing.rings.rings_above.Goals as goal
 

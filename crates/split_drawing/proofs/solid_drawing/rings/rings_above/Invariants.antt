@@ -1,8 +1,4 @@
-use Rattle.std.proofs.Common.{◌≡◌, ◌++◌, length, filter}
-use Rattle.euler_operators.specs.Common.{rings_of, content}
-use Rattle.shapes.specs.Common.{vertices_on, some_above, rings_above}
-use Rattle.solid_walks.proofs.face_walks_laws.Above.{above}
-use Rattle.split_checks.specs.cut_places.Noted.{AreSides}
+use Rattle.split_drawing.proofs.Prelude.{◌≡◌, ◌++◌, length, filter, rings_of, content, vertices_on, some_above, rings_above, above, AreSides}
 use Rattle.split_drawing.proofs.solid_drawing.rings.rings_above.Given as goal
 
 abbrev pub invariant-rings : goal.invariant-rings

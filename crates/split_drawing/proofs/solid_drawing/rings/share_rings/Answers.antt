@@ -1,13 +1,5 @@
-use Rattle.std.proofs.Common.{◌∙◌, ap, subst, sym}
-use Rattle.euler_operators.specs.Common.{Model}
+use Rattle.split_drawing.proofs.Prelude.{◌∙◌, ap, subst, sym, Model, rings_above, with_rings, AreSides, noted_still, ring_ops, ring_rows, after_steps, steps_make}
 use Rattle.euler_operators.specs.Table as table
-use Rattle.shapes.specs.Common.{rings_above, with_rings}
-use Rattle.split_checks.specs.cut_places.Noted.{AreSides}
-use Rattle.split_checks.proofs.cut_places_laws.NotedSides.{noted_still}
-use Rattle.split_drawing_laws.specs.drawings.DrawingOps.{ring_ops}
-use Rattle.split_drawing_laws.proofs.drawings.Drawn.{ring_rows}
-use Rattle.undo_journal.specs.Journal.{after_steps}
-use Rattle.undo_journal.proofs.Marks.{steps_make}
 use Rattle.split_drawing.proofs.solid_drawing_laws.RingSteps.{rings_given}
 use Rattle.split_drawing.proofs.solid_drawing.rings.share_rings.Goals as goal
 

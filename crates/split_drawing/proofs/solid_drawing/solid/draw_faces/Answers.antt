@@ -1,12 +1,6 @@
-use Rattle.std.proofs.Common.{◌∙◌, [], map, refl, ap, slice_index_or}
-use Rattle.undo_journal.specs.Journal.{after_steps}
-use Rattle.split_checks.specs.Cuts.{codes, paired}
-use Rattle.split_checks.specs.Progress.{drawing_of}
-use Rattle.split_drawing_laws.specs.drawings.DrawingOps.{ops_from}
-use Rattle.split_checks.proofs.cut_places_laws.Lists.{others, parts}
+use Rattle.split_drawing.proofs.Prelude.{◌∙◌, [], map, refl, ap, slice_index_or, after_steps, codes, paired, drawing_of, ops_from, others, parts, further_on}
 use Rattle.split_drawing.proofs.solid_drawing_laws.FaceTurns.{no_pairs, enough_here, enough_later, can_draw, can_go_on, made_on, ops_on}
 use Rattle.split_drawing.proofs.StepsLeft.{others_lead, none_left}
-use Rattle.undo_journal.proofs.Marks.{further_on}
 use Rattle.split_drawing.proofs.solid_drawing.solid.draw_faces.Goals as goal
 
 pub split_at-requires : goal.split_at-requires

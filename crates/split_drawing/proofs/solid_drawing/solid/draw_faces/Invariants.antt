@@ -1,11 +1,4 @@
-use Rattle.std.proofs.Common.{◌≡◌, ◌≤◌, [], map, length}
-use Rattle.shapes.specs.Common.{faces_drawn}
-use Rattle.split_checks.specs.Progress.{drawing_of}
-use Rattle.split_checks.specs.Cuts.{codes, how_many_pairs, paired}
-use Rattle.split_checks.specs.cut_places.Noted.{AreSides}
-use Rattle.split_drawing.specs.solid_drawing.Drawn.{CanDrawFaces, put_aside}
-use Rattle.split_drawing_laws.specs.drawings.DrawingOps.{ops_from}
-use Rattle.undo_journal.specs.Journal.{after_steps, IsFurther}
+use Rattle.split_drawing.proofs.Prelude.{◌≡◌, ◌≤◌, [], map, length, faces_drawn, drawing_of, codes, how_many_pairs, paired, AreSides, CanDrawFaces, put_aside, ops_from, after_steps, IsFurther}
 use Rattle.split_drawing.proofs.solid_drawing.solid.draw_faces.Given as goal
 
 abbrev pub invariant-faces : goal.invariant-faces

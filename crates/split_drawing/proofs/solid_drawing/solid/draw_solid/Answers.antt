@@ -1,15 +1,6 @@
-use Rattle.std.proofs.Common.{◌≡◌, ◌∙◌, [], ◌++◌, map, IfOk, ap, sym, subst}
+use Rattle.split_drawing.proofs.Prelude.{◌≡◌, ◌∙◌, [], ◌++◌, map, IfOk, ap, sym, subst, Model, with_crossings, Drawing, crossing_ops, after_steps, steps_after, drawing_of, codes, AreSides, PairsThere, pairs_started}
 use Rattle.std.proofs.lemmas.Result.{on_ok_weaker}
-use Rattle.euler_operators.specs.Common.{Model}
-use Rattle.shapes.specs.Common.{with_crossings, Drawing}
-use Rattle.split_drawing_laws.specs.crossings.CrossingOps.{crossing_ops}
-use Rattle.undo_journal.specs.Journal.{after_steps}
-use Rattle.undo_journal.proofs.Marks.{steps_after}
 use Rattle.split_drawing.proofs.edge_cutting_laws.Remaining.{cut_plane}
-use Rattle.split_checks.specs.Progress.{drawing_of}
-use Rattle.split_checks.specs.Cuts.{codes}
-use Rattle.split_checks.specs.cut_places.Noted.{AreSides}
-use Rattle.split_drawing.specs.solid_drawing.Starts.{PairsThere, pairs_started}
 use Rattle.split_drawing.proofs.solid_drawing_laws.WholeSolid.{pairs_there, still_noted, enough, can_draw, made, ops_are}
 use Rattle.split_drawing.proofs.solid_drawing.solid.draw_solid.Goals as goal
 

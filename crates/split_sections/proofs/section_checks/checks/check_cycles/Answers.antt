@@ -1,10 +1,5 @@
-use Rattle.std.proofs.Common.{◌≡◌, ◌∙◌, None, Vec, Global, arith}
-use Rattle.euler_operators.specs.Common.{first_refusal}
-use Rattle.euler_laws.proofs.Common.{verdict_passed, verdict_failed}
-use Rattle.shapes.specs.Common.{below_halves, section_conditions}
-use Rattle.solid_walks.specs.Counters.{taken_of}
+use Rattle.split_sections.proofs.Prelude.{◌≡◌, ◌∙◌, None, Vec, Global, arith, first_refusal, verdict_passed, verdict_failed, below_halves, section_conditions, taken_of, Cycle}
 use Rattle.split_sections.specs.section_checks.Cycles.{AreCyclesOf}
-use Rattle.split_sections.specs.declared.section_cycles.cycle.Cycle.{Cycle}
 use Rattle.split_sections.proofs.section_checks_laws.Facts.{there_now, rising_now, few_now, branched_now, next_now, all_now, few_told, few_listed, stray_now, numbers_now}
 use Rattle.split_sections.proofs.section_checks_laws.Stages.{told, value_told}
 use Rattle.split_sections.proofs.section_checks.checks.check_cycles.Goals as goal

@@ -1,12 +1,6 @@
-use Rattle.std.proofs.Common.{◌≡◌, ◌∙◌, List, ℕ, [], true, false, nat_eq, Ok, None, Some, sym, ap, subst, arith}
-use Rattle.std.proofs.lemmas.Bool.Decides.{nat_tests}
-use Rattle.euler_operators.specs.Common.{strictly_rises, first_refusal}
-use Rattle.split_opening_laws.specs.cycles.SectionCycles.{AreOf}
-use Rattle.solid_walks.specs.Counters.{taken_of}
+use Rattle.split_sections.proofs.Prelude.{◌≡◌, ◌∙◌, List, ℕ, [], true, false, nat_eq, Ok, None, Some, sym, ap, subst, arith, nat_tests, strictly_rises, first_refusal, AreOf, taken_of, below_halves, later_conditions, section_conditions, AreCyclesOf, IsSection}
 use Rattle.split_checks.specs.Progress.{drawing_of}
 use Rattle.split_sections.proofs.section_checks_laws.Above.{above_rises, above_of}
-use Rattle.shapes.specs.Common.{below_halves, later_conditions, section_conditions}
-use Rattle.split_sections.specs.Common.{AreCyclesOf, IsSection}
 use Rattle.split_sections.specs.declared.section_checks.section.Section.{Section}
 use Rattle.split_sections.proofs.section_checks_laws.Stages.{told, value_told, drawn, stuck}
 use Rattle.split_sections.proofs.section_checks.checks.check_later.Goals as goal

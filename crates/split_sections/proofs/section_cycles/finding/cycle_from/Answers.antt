@@ -1,7 +1,4 @@
-use Rattle.std.proofs.Common.{◌≡◌, ◌∙◌, ℕ, ◌+◌, ◌-◌, ◌==◌, List, [], ◌∷◌, map, length, sym, ap, subst, arith}
-use Rattle.std.proofs.lemmas.List.{length-map, map-append}
-use Rattle.euler_operators.specs.Common.{HalfEdge, code}
-use Rattle.shapes.specs.Common.{next_below}
+use Rattle.split_sections.proofs.Prelude.{◌≡◌, ◌∙◌, ℕ, ◌+◌, ◌-◌, ◌==◌, List, [], ◌∷◌, map, length, sym, ap, subst, arith, length-map, map-append, HalfEdge, code, next_below}
 use Rattle.split_sections.proofs.section_cycles_laws.Rounds.{Going, set_out, back, onward, out_of_steps}
 use Rattle.split_sections.proofs.section_cycles_laws.Leads.{leads_on, is_next}
 use Rattle.split_sections.proofs.section_cycles.finding.cycle_from.Goals as goal

@@ -1,6 +1,4 @@
-use Rattle.std.proofs.Common.{◌-◌, map, length}
-use Rattle.euler_operators.specs.Common.{code}
-use Rattle.shapes.specs.Common.{next_below}
+use Rattle.split_sections.proofs.Prelude.{◌-◌, map, length, code, next_below}
 use Rattle.split_sections.proofs.section_cycles_laws.Rounds.{Going}
 use Rattle.split_sections.proofs.section_cycles.finding.cycle_from.Given as goal
 

@@ -1,6 +1,4 @@
-use Rattle.std.proofs.Common.{◌∙◌, ℕ, List, map, ap}
-use Rattle.euler_operators.specs.Common.{HalfEdge, code}
-use Rattle.shapes.specs.Common.{is_hole}
+use Rattle.split_sections.proofs.Prelude.{◌∙◌, ℕ, List, map, ap, HalfEdge, code, is_hole}
 use Rattle.split_sections.proofs.section_cycles_laws.Whole.{round_there, round_apart}
 use Rattle.split_sections.proofs.section_cycles.finding.cycle_with_hole.Goals as goal
 

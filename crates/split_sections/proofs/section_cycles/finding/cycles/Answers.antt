@@ -1,12 +1,6 @@
-use Rattle.std.proofs.Common.{◌≡◌, ◌∙◌, ℕ, ◌≤◌, ◌||◌, List, length, map, vec_len, refl, sym, ap, subst, arith, nat_cmp, is_eq}
-use Rattle.std.specs.BTreeSet.{contains}
+use Rattle.split_sections.proofs.Prelude.{◌≡◌, ◌∙◌, ℕ, ◌≤◌, ◌||◌, List, length, map, vec_len, refl, sym, ap, subst, arith, nat_cmp, is_eq, contains, IsIn, lists, HalfEdge, code, next_below, halves_of, Cycle, no_half}
 use Rattle.std.specs.List.{list_any}
-use Rattle.euler_operators.specs.Common.{IsIn, lists, HalfEdge, code}
 use Rattle.solid_walks.proofs.face_walks_laws.HalfCodes.{edge_fits}
-use Rattle.shapes.specs.Common.{next_below}
-use Rattle.split_sections.specs.section_cycles.Halves.{halves_of}
-use Rattle.split_sections.specs.declared.section_cycles.cycle.Cycle.{Cycle}
-use Rattle.split_checks.proofs.cut_places_laws.Lists.{no_half}
 use Rattle.split_sections.proofs.section_cycles_laws.Found.{Finding, none_found, found_before, found_now, now_in}
 use Rattle.split_sections.proofs.section_cycles_laws.Meetings.{first_code, no_more}
 use Rattle.split_sections.proofs.section_cycles_laws.Whole.{AreTold, holes_pushed, cycle_low, listed_cycles, halves_pushed, whole_cycle}

@@ -1,8 +1,4 @@
-use Rattle.std.proofs.Common.{map, length, nat_cmp}
-use Rattle.std.specs.BTreeSet.{contains}
-use Rattle.euler_operators.specs.Common.{code}
-use Rattle.shapes.specs.Common.{next_below}
-use Rattle.split_sections.specs.section_cycles.Halves.{halves_of}
+use Rattle.split_sections.proofs.Prelude.{map, length, nat_cmp, contains, code, next_below, halves_of}
 use Rattle.split_sections.proofs.section_cycles_laws.Found.{Finding}
 use Rattle.split_sections.proofs.section_cycles_laws.Whole.{AreTold}
 use Rattle.split_sections.proofs.section_cycles.finding.cycles.Given as goal

@@ -1,6 +1,4 @@
-use Rattle.std.proofs.Common.{◌≡◌, ℕ, ◌≤◌, ◌||◌, map, length, nat_cmp}
-use Rattle.std.specs.BTreeSet.{contains}
-use Rattle.euler_operators.specs.Common.{IsIn, code, lists}
+use Rattle.split_sections.proofs.Prelude.{◌≡◌, ℕ, ◌≤◌, ◌||◌, map, length, nat_cmp, contains, IsIn, code, lists}
 use Rattle.split_sections.proofs.section_cycles.finding.meet.Given as goal
 
 abbrev pub invariant-halves : goal.invariant-halves

@@ -1,7 +1,4 @@
-use Rattle.std.proofs.Common.{◌∙◌, ap, arith}
-use Rattle.euler_operators.specs.Common.{dot}
-use Rattle.euler_operators.proofs.Common.{fits, held_is}
-use Rattle.split_checks.specs.Measure.{read}
+use Rattle.split_sections.proofs.Prelude.{◌∙◌, ap, arith, dot, fits, held_is, read}
 use Rattle.split_checks.proofs.Planes.{held_vector_is}
 use Rattle.split_sections.proofs.section_cycles.holes.along.Goals as goal
 

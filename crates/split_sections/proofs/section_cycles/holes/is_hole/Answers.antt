@@ -1,8 +1,4 @@
-use Rattle.std.proofs.Common.{◌∙◌, ap, map, arith, pos, int_lt, ℤ}
-use Rattle.euler_operators.specs.Common.{Point, dot, code, mate}
-use Rattle.euler_operators.proofs.Common.{fits, held_is}
-use Rattle.split_checks.specs.Measure.{area}
-use Rattle.shapes.specs.Common.{is_hole}
+use Rattle.split_sections.proofs.Prelude.{◌∙◌, ap, map, arith, pos, int_lt, ℤ, Point, dot, code, mate, fits, held_is, area, is_hole}
 use Rattle.split_sections.proofs.section_cycles.holes.is_hole.Goals as goal
 
 pub returns : goal.returns

@@ -1,11 +1,6 @@
-use Rattle.std.proofs.Common.{◌∙◌, map, sym, ap, subst}
-use Rattle.euler_operators.specs.Common.{code, HasHalf, moved, cross}
-use Rattle.euler_operators.proofs.Common.{mate_there}
-use Rattle.shapes.specs.Common.{start, finish}
-use Rattle.split_checks.specs.Measure.{read}
+use Rattle.split_sections.proofs.Prelude.{◌∙◌, map, sym, ap, subst, code, HasHalf, moved, cross, mate_there, start, finish, read, no_half}
 use Rattle.split_sections.proofs.section_cycles_laws.Meetings.{first_there, others_there, first_code}
 use Rattle.split_sections.proofs.section_cycles_laws.Sums.{more_summed, sum_limited, sum_room}
-use Rattle.split_checks.proofs.cut_places_laws.Lists.{no_half}
 use Rattle.split_sections.proofs.section_cycles.holes.mates_area.Goals as goal
 
 pub half_added-area-requires-clause-there : goal.half_added-area-requires-clause-there

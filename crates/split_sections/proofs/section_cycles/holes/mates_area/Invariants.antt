@@ -1,7 +1,4 @@
-use Rattle.std.proofs.Common.{map, length}
-use Rattle.euler_operators.specs.Common.{code}
-use Rattle.split_sections.specs.section_cycles.Halves.{AreThere}
-use Rattle.split_checks.specs.Measure.{read}
+use Rattle.split_sections.proofs.Prelude.{map, length, code, AreThere, read}
 use Rattle.split_sections.proofs.section_cycles_laws.Sums.{Summed}
 use Rattle.split_sections.proofs.section_cycles.holes.mates_area.Given as goal
 

@@ -1,6 +1,4 @@
-use Rattle.std.proofs.Common.{sym, subst}
-use Rattle.euler_operators.specs.Common.{code, HasHalf}
-use Rattle.euler_operators.proofs.Common.{mate_there}
+use Rattle.split_sections.proofs.Prelude.{sym, subst, code, HasHalf, mate_there}
 use Rattle.split_sections.proofs.section_cycles.starts.next_half.Goals as goal
 
 pub tail-requires : goal.tail-requires

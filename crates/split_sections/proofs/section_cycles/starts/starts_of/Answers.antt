@@ -1,5 +1,4 @@
-use Rattle.std.proofs.Common.{◌∙◌, is_some, ap}
-use Rattle.split_checks.proofs.cut_places_laws.Lists.{no_half, last_code}
+use Rattle.split_sections.proofs.Prelude.{◌∙◌, is_some, ap, no_half, last_code}
 use Rattle.split_sections.proofs.section_cycles_laws.Chains.{last_there, fewer_there, one_placed, all_placed, all_least}
 use Rattle.split_sections.proofs.section_cycles_laws.Meetings.{no_more, branched_is}
 use Rattle.split_sections.proofs.section_cycles.starts.starts_of.Goals as goal

@@ -1,6 +1,4 @@
-use Rattle.std.proofs.Common.{map, length}
-use Rattle.euler_operators.specs.Common.{code}
-use Rattle.split_sections.specs.section_cycles.Halves.{AreThere}
+use Rattle.split_sections.proofs.Prelude.{map, length, code, AreThere}
 use Rattle.split_sections.proofs.section_cycles_laws.Chains.{Placed}
 use Rattle.split_sections.proofs.section_cycles.starts.starts_of.Given as goal
 

@@ -1,8 +1,6 @@
-use Rattle.std.proofs.Common.{◌≡◌, ◌&&◌, true, ℤ, sym, ap, subst, ◌∙◌, arith, FitsSigned}
+use Rattle.split_sections.proofs.Prelude.{◌≡◌, ◌&&◌, true, ℤ, sym, ap, subst, ◌∙◌, arith, FitsSigned, is_coordinate, IsWithin, within_coordinate, coordinate_is, fits, held, held_is, held_short}
 use Rattle.std.proofs.lemmas.Int.{fits_signed_from_abs}
 use mir.Syntax.{w64}
-use Rattle.euler_operators.specs.Common.{is_coordinate, IsWithin}
-use Rattle.euler_operators.proofs.Common.{within_coordinate, coordinate_is, fits, held, held_is, held_short}
 use Rattle.split_sections.proofs.section_edges.above.direction.Goals as goal
 
 -- a number of a plane fits 64 bits, and is the same there

@@ -1,8 +1,4 @@
-use Rattle.std.proofs.Common.{◌∙◌, ap, sym, ℕ, List, [], ◌∷◌, ◌++◌, cond, length, arith, append_assoc, filter, append-nil}
-use Rattle.euler_operators.specs.Common.{faces_of}
-use Rattle.solid_walks.proofs.face_walks_laws.Above.{above}
-use Rattle.split_checks.proofs.FaceWalks.{next_face, no_face_left, faces_from_zero}
-use Rattle.shapes.specs.Common.{face_is_above}
+use Rattle.split_sections.proofs.Prelude.{◌∙◌, ap, sym, ℕ, List, [], ◌∷◌, ◌++◌, cond, length, arith, append_assoc, filter, append-nil, faces_of, above, next_face, no_face_left, faces_from_zero, face_is_above}
 use Rattle.split_sections.proofs.section_edges.above.faces_above.Goals as goal
 
 pub faces-init : goal.faces-init

@@ -1,7 +1,4 @@
-use Rattle.std.proofs.Common.{◌≡◌, ◌++◌, length, filter}
-use Rattle.euler_operators.specs.Common.{faces_of}
-use Rattle.solid_walks.proofs.face_walks_laws.Above.{above}
-use Rattle.shapes.specs.Common.{face_is_above, faces_above}
+use Rattle.split_sections.proofs.Prelude.{◌≡◌, ◌++◌, length, filter, faces_of, above, face_is_above, faces_above}
 use Rattle.split_checks.specs.cut_places.Noted.{AreSides}
 use Rattle.split_sections.proofs.section_edges.above.faces_above.Given as goal
 

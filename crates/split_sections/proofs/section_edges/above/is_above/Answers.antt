@@ -1,6 +1,5 @@
-use Rattle.std.proofs.Common.{◌≡◌, ◌∙◌, ◌||◌, ◌&&◌, Bool, true, false, not, pos, sym, int_lt}
-use Rattle.euler_operators.specs.Common.{Below, On, Above, direction, dot}
-use Rattle.shapes.specs.Common.{normal, face_is_above, reaches_above, reaches_below}
+use Rattle.split_sections.proofs.Prelude.{◌≡◌, ◌∙◌, ◌||◌, ◌&&◌, Bool, true, false, not, pos, sym, int_lt, Below, On, Above, direction, dot, face_is_above, reaches_above, reaches_below}
+use Rattle.shapes.specs.Common.{normal}
 use Rattle.split_checks.specs.cut_places.Sides.{side_reached}
 use Rattle.split_checks.proofs.cut_places_laws.NotedSides.{told_up, told_down}
 use Rattle.split_sections.proofs.section_edges.above.is_above.Goals as goal

@@ -1,7 +1,4 @@
-use Rattle.std.proofs.Common.{rules, ℕ, List, map, subst}
-use Rattle.std.proofs.lemmas.List.Sorted.{IsNonDecreasingBy-from_sort_by_key}
-use Rattle.euler_operators.specs.Common.{SameItems, code, faces_of}
-use Rattle.split_sections.specs.section_edges.BelowHalves.{below_met}
+use Rattle.split_sections.proofs.Prelude.{rules, ℕ, List, map, subst, IsNonDecreasingBy-from_sort_by_key, SameItems, code, faces_of, below_met}
 use Rattle.split_sections.proofs.section_edges_laws.Sorted.{sorted_met}
 use Rattle.split_sections.proofs.section_edges.halves.below_halves.Goals as goal
 

@@ -1,9 +1,4 @@
-use Rattle.std.proofs.Common.{◌∙◌, ap, sym, ℕ, List, ◌++◌, map, length, arith, append-nil}
-use Rattle.euler_operators.specs.Common.{count, HalfEdge, code, faces_of}
-use Rattle.solid_walks.proofs.face_walks_laws.Above.{above}
-use Rattle.shapes.specs.Common.{boundary}
-use Rattle.split_checks.proofs.FaceWalks.{next_face, no_face_left, faces_from_zero}
-use Rattle.split_sections.specs.section_edges.BelowHalves.{below_in, below_met}
+use Rattle.split_sections.proofs.Prelude.{◌∙◌, ap, sym, ℕ, List, ◌++◌, map, length, arith, append-nil, count, HalfEdge, code, faces_of, above, boundary, next_face, no_face_left, faces_from_zero, below_in, below_met}
 use Rattle.split_sections.proofs.section_edges_laws.Leading.{more_met}
 use Rattle.split_sections.proofs.section_edges.halves.below_met.Goals as goal
 

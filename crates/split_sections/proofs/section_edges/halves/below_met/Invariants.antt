@@ -1,7 +1,4 @@
-use Rattle.std.proofs.Common.{◌++◌, map, length}
-use Rattle.euler_operators.specs.Common.{SameItems, code, faces_of}
-use Rattle.solid_walks.proofs.face_walks_laws.Above.{above}
-use Rattle.split_sections.specs.section_edges.BelowHalves.{below_met}
+use Rattle.split_sections.proofs.Prelude.{◌++◌, map, length, SameItems, code, faces_of, above, below_met}
 use Rattle.split_sections.proofs.section_edges.halves.below_met.Given as goal
 
 abbrev pub invariant-faces : goal.invariant-faces

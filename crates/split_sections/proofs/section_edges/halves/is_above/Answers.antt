@@ -1,6 +1,4 @@
-use Rattle.std.proofs.Common.{◌∙◌, ap}
-use Rattle.euler_operators.specs.Common.{code, has, face_of, lists}
-use Rattle.euler_operators.proofs.Common.{loop_there}
+use Rattle.split_sections.proofs.Prelude.{◌∙◌, ap, code, has, face_of, lists, loop_there}
 use Rattle.split_sections.proofs.section_edges.halves.is_above.Goals as goal
 
 pub face_of-requires : goal.face_of-requires

@@ -1,6 +1,4 @@
-use Rattle.std.proofs.Common.{ap, ◌∙◌}
-use Rattle.euler_operators.specs.Common.{code, has_half}
-use Rattle.euler_operators.proofs.Common.{mate_there}
+use Rattle.split_sections.proofs.Prelude.{ap, ◌∙◌, code, has_half, mate_there}
 use Rattle.split_sections.proofs.section_edges.halves.leads_above.Goals as goal
 
 pub is_above-requires-clause-there : goal.is_above-requires-clause-there

@@ -1,11 +1,6 @@
-use Rattle.std.proofs.Common.{◌∙◌, ap, sym, subst, ℕ, List, ◌++◌, map, length, arith, append-nil}
-use Rattle.std.proofs.lemmas.List.Elements.{filter-append}
-use Rattle.euler_operators.specs.Common.{count, SameItems, code, content, items_of, outer, rings_of}
-use Rattle.shapes.specs.Common.{items_in}
-use Rattle.solid_walks.proofs.face_walks_laws.Above.{above}
+use Rattle.split_sections.proofs.Prelude.{◌∙◌, ap, sym, subst, ℕ, List, ◌++◌, map, length, arith, append-nil, filter-append, count, SameItems, code, content, items_of, outer, rings_of, items_in, above, leads_above, leading_above}
 use Rattle.solid_walks.proofs.face_walks_laws.RingWalks.{next_ring}
 use Rattle.split_checks.proofs.cut_places_laws.Rings.{outer_items, ring_items, no_items}
-use Rattle.split_sections.specs.section_edges.BelowHalves.{leads_above, leading_above}
 use Rattle.split_sections.proofs.section_edges_laws.Leading.{none_below, leading_below, more_met}
 use Rattle.split_sections.proofs.section_edges.halves.push_below_halves.Goals as goal
 

@@ -1,8 +1,4 @@
-use Rattle.std.proofs.Common.{◌++◌, map, length}
-use Rattle.euler_operators.specs.Common.{SameItems, code, rings_of}
-use Rattle.shapes.specs.Common.{boundary, items_in}
-use Rattle.solid_walks.proofs.face_walks_laws.Above.{above}
-use Rattle.split_sections.specs.section_edges.BelowHalves.{leading_above}
+use Rattle.split_sections.proofs.Prelude.{◌++◌, map, length, SameItems, code, rings_of, boundary, items_in, above, leading_above}
 use Rattle.split_sections.proofs.section_edges.halves.push_below_halves.Given as goal
 
 abbrev pub invariant-rings : goal.invariant-rings

@@ -1,8 +1,6 @@
-use Rattle.std.proofs.Common.{◌∙◌, ℕ, List, ◌++◌, OnOk, map, subst, sym, ap, append-nil}
-use Rattle.euler_operators.specs.Common.{count, SameItems, code, content}
+use Rattle.split_sections.proofs.Prelude.{◌∙◌, ℕ, List, ◌++◌, OnOk, map, subst, sym, ap, append-nil, count, SameItems, code, content, leading_above}
 use Rattle.euler_conditions.proofs.Known.{filled}
 use Rattle.split_checks.proofs.cut_places_laws.Walks.{ring_there, ring_cycle, lone_items}
-use Rattle.split_sections.specs.section_edges.BelowHalves.{leading_above}
 use Rattle.split_sections.proofs.section_edges.halves.push_leading_in_loop.Goals as goal
 
 pub content-requires-clause-filled : goal.content-requires-clause-filled

@@ -1,10 +1,7 @@
-use Rattle.std.proofs.Common.{◌∙◌, ap, sym, subst, ℕ, List, ◌++◌, map, refl}
-use Rattle.euler_operators.specs.Common.{count, IsIn, rotate_to, code, cycle_of}
-use Rattle.euler_operators.proofs.Common.{rotate_to-rotates}
+use Rattle.split_sections.proofs.Prelude.{◌∙◌, ap, sym, subst, ℕ, List, ◌++◌, map, refl, count, IsIn, rotate_to, code, cycle_of, rotate_to-rotates, leads_above, leading_above}
 use Rattle.solid_walks.proofs.face_walks_laws.CycleWalks.{round_there}
 use Rattle.solid_walks.proofs.face_walks_laws.Yielded.{yielded_in}
 use Rattle.split_checks.proofs.cut_places_laws.PlaceWalks.{taken, passed_by, none_left}
-use Rattle.split_sections.specs.section_edges.BelowHalves.{leads_above, leading_above}
 use Rattle.split_sections.proofs.section_edges_laws.Leading.{picked_turned, after_had}
 use Rattle.split_sections.proofs.section_edges.halves.push_leading_in_ring.Goals as goal
 

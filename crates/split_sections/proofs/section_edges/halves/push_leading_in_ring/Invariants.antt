@@ -1,6 +1,4 @@
-use Rattle.std.proofs.Common.{◌≡◌, ◌++◌, map}
-use Rattle.euler_operators.specs.Common.{rotate_to, code, cycle_of}
-use Rattle.split_sections.specs.section_edges.BelowHalves.{leading_above}
+use Rattle.split_sections.proofs.Prelude.{◌≡◌, ◌++◌, map, rotate_to, code, cycle_of, leading_above}
 use Rattle.split_sections.proofs.section_edges.halves.push_leading_in_ring.Given as goal
 
 abbrev pub invariant-round : goal.invariant-round

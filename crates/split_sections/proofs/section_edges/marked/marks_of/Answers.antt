@@ -1,5 +1,4 @@
-use Rattle.std.proofs.Common.{◌∙◌, false, replicate, refl, length-set}
-use Rattle.split_checks.proofs.cut_places_laws.Lists.{others, parts}
+use Rattle.split_sections.proofs.Prelude.{◌∙◌, false, replicate, refl, length-set, others, parts}
 use Rattle.split_sections.proofs.section_edges_laws.Marking.{none_marked, one_marked, all_marked}
 use Rattle.split_sections.proofs.section_edges.marked.marks_of.Goals as goal
 

@@ -1,6 +1,5 @@
 use Rattle.std.specs.Prelude.{◌≡◌, ℕ, true, false, length}
-use Rattle.euler_operators.specs.Common.{lists}
-use Rattle.split_sections.specs.section_edges.Marks.{has_mark}
+use Rattle.split_sections.proofs.Prelude.{lists, has_mark}
 use Rattle.split_sections.proofs.section_edges.marked.marks_of.Given as goal
 
 abbrev pub invariant-numbers : goal.invariant-numbers

@@ -1,7 +1,4 @@
-use Rattle.std.proofs.Common.{sym, subst, ap, ◌∙◌, ◌≡◌, reverse}
-use Rattle.low_euler.specs.Store.{Store}
-use Rattle.low_euler.specs.Ready.{IsReady}
-use Rattle.undo_journal.specs.Sessions.{AllHaveRoom, IsKept, all_after}
+use Rattle.undo_journal.proofs.Prelude.{sym, subst, ap, ◌∙◌, ◌≡◌, reverse, Store, IsReady, AllHaveRoom, IsKept, all_after}
 use Rattle.undo_journal.proofs.Rooms.{ops-reverse}
 use Rattle.undo_journal.proofs.Kept.{kept_abandon}
 use Rattle.undo_journal.proofs.draft.Draft.abandon.Goals as goal

@@ -1,8 +1,4 @@
-use Rattle.std.proofs.Common.{sym, subst, ap, ◌∙◌, ◌≡◌, List, take, drop, reverse}
-use Rattle.euler_operators.specs.declared.Op.{Op}
-use Rattle.euler_laws.specs.Laws.{AreAccepted}
-use Rattle.low_euler.specs.Store.{Store}
-use Rattle.undo_journal.specs.Sessions.{AllHaveRoom, draft_of, IsDrafted, all_after}
+use Rattle.undo_journal.proofs.Prelude.{sym, subst, ap, ◌∙◌, ◌≡◌, List, take, drop, reverse, Op, AreAccepted, Store, AllHaveRoom, draft_of, IsDrafted, all_after}
 use Rattle.undo_journal.proofs.Kept.{back_goes, back_room, drafted_back}
 use Rattle.undo_journal.proofs.Seen.{back_seen}
 use Rattle.undo_journal.proofs.draft.Draft.back_to.Goals as goal

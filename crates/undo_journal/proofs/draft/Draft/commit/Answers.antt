@@ -1,7 +1,4 @@
-use Rattle.std.proofs.Common.{sym, subst, ap, ◌∙◌, ◌≡◌, ◌+◌, ◌++◌, List, [], ◌∷◌, take}
-use Rattle.euler_operators.specs.declared.Op.{Op}
-use Rattle.undo_journal.specs.declared.record.Record.{Record}
-use Rattle.undo_journal.specs.Sessions.{journal_of, command_of, IsKept}
+use Rattle.undo_journal.proofs.Prelude.{sym, subst, ap, ◌∙◌, ◌≡◌, ◌+◌, ◌++◌, List, [], ◌∷◌, take, Op, Record, journal_of, command_of, IsKept}
 use Rattle.undo_journal.proofs.Kept.{kept_commit}
 use Rattle.undo_journal.proofs.Seen.{commit_seen}
 use Rattle.undo_journal.proofs.draft.Draft.commit.Goals as goal

@@ -1,5 +1,4 @@
-use Rattle.std.proofs.Common.{sym, subst, ◌∙◌, arith, ◌≡◌, length, vec_len}
-use Rattle.undo_journal.specs.Journal.{IsMark}
+use Rattle.undo_journal.proofs.Prelude.{sym, subst, ◌∙◌, arith, ◌≡◌, length, vec_len, IsMark}
 use Rattle.undo_journal.proofs.Seen.{mark_seen}
 use Rattle.undo_journal.proofs.draft.Draft.mark.Goals as goal
 

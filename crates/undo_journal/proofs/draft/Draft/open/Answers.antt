@@ -1,7 +1,4 @@
-use Rattle.std.proofs.Common.{ap, ◌∙◌, List, []}
-use Rattle.euler_operators.specs.declared.Op.{Op}
-use Rattle.undo_journal.specs.declared.record.Record.{Record}
-use Rattle.undo_journal.specs.Sessions.{draft_of}
+use Rattle.undo_journal.proofs.Prelude.{ap, ◌∙◌, List, [], Op, Record, draft_of}
 use Rattle.undo_journal.proofs.Seen.{open_seen}
 use Rattle.undo_journal.proofs.draft.Draft.open.Goals as goal
 

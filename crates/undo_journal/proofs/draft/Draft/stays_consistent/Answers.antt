@@ -1,7 +1,4 @@
-use Rattle.std.proofs.Common.{subst}
-use Rattle.euler_operators.specs.Common.{Sound}
-use Rattle.undo_journal.specs.Journal.{DraftJournal}
-use Rattle.undo_journal.specs.Histories.{IsConsistent}
+use Rattle.undo_journal.proofs.Prelude.{subst, Sound, DraftJournal, IsConsistent}
 use Rattle.undo_journal.proofs.Consistent.{journal_consistent}
 use Rattle.undo_journal.proofs.Seen.{steps_seen}
 use Rattle.undo_journal.proofs.draft.Draft.stays_consistent.Goals as goal

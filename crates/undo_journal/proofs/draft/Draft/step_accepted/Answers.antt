@@ -1,12 +1,5 @@
 use Rattle.std.specs.declared.alloc.AllocError.{AllocError}
-use Rattle.std.proofs.Common.{sym, subst, ap, ◌∙◌, ◌≡◌, ℕ, ◌++◌, List, [], ◌∷◌, None, Result, Ok, Err, OnOk, OnErr}
-use Rattle.low_euler.specs.Store.{Store, HasGrown}
-use Rattle.euler_operators.specs.declared.Op.{Op}
-use Rattle.euler_operators.specs.Common.{first_false, inverse, Model}
-use Rattle.undo_journal.specs.declared.record.Record.{Record}
-use Rattle.undo_journal.specs.Journal.{DraftJournal, after_step}
-use Rattle.low_euler.specs.Room.{IsStepped}
-use Rattle.undo_journal.specs.Sessions.{draft_of, IsDrafted}
+use Rattle.undo_journal.proofs.Prelude.{sym, subst, ap, ◌∙◌, ◌≡◌, ℕ, ◌++◌, List, [], ◌∷◌, None, Result, Ok, Err, OnOk, OnErr, Store, HasGrown, Op, first_false, inverse, Model, Record, DraftJournal, after_step, IsStepped, draft_of, IsDrafted}
 use Rattle.undo_journal.proofs.Kept.{drafted_step, drafted_grown}
 use Rattle.undo_journal.proofs.Seen.{step_seen}
 use Rattle.undo_journal.proofs.Marks.{further_tried}

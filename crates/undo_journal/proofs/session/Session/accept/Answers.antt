@@ -1,9 +1,4 @@
-use Rattle.std.proofs.Common.{sym, subst, ap, ◌∙◌, arith, ◌≡◌, ◌+◌, ◌++◌, List, [], ◌∷◌, length, take}
-use Rattle.euler_operators.specs.Common.{inverse}
-use Rattle.low_euler.specs.Store.{Store, HasGrown}
-use Rattle.undo_journal.specs.declared.record.Record.{Record}
-use Rattle.low_euler.specs.Room.{IsStepped}
-use Rattle.undo_journal.specs.Sessions.{journal_of, IsKept}
+use Rattle.undo_journal.proofs.Prelude.{sym, subst, ap, ◌∙◌, arith, ◌≡◌, ◌+◌, ◌++◌, List, [], ◌∷◌, length, take, inverse, Store, HasGrown, Record, IsStepped, journal_of, IsKept}
 use Rattle.undo_journal.proofs.Kept.{kept_act, kept_grown}
 use Rattle.undo_journal.proofs.Lasts.{last_read, last_replaced, last_dropped}
 use Rattle.undo_journal.proofs.Seen.{goes_seen, act_seen}

@@ -1,7 +1,4 @@
-use Rattle.std.proofs.Common.{sym, subst, ap, ◌∙◌}
-use Rattle.low_euler.specs.Store.{Store}
-use Rattle.undo_journal.specs.Journal.{Journal}
-use Rattle.undo_journal.specs.Sessions.{RecordsHaveRoom}
+use Rattle.undo_journal.proofs.Prelude.{sym, subst, ap, ◌∙◌, Store, Journal, RecordsHaveRoom}
 use Rattle.undo_journal.proofs.Seen.{held_seen}
 use Rattle.undo_journal.proofs.session.Session.arena.Goals as goal
 

@@ -1,7 +1,4 @@
-use Rattle.std.proofs.Common.{sym, subst, ap, ◌∙◌, List}
-use Rattle.low_euler.specs.Store.{Store, empty_store}
-use Rattle.undo_journal.specs.declared.record.Record.{Record}
-use Rattle.undo_journal.specs.Sessions.{journal_of, IsKept}
+use Rattle.undo_journal.proofs.Prelude.{sym, subst, ap, ◌∙◌, List, Store, empty_store, Record, journal_of, IsKept}
 use Rattle.undo_journal.proofs.Kept.{kept_start, journal_started}
 use Rattle.undo_journal.proofs.session.Session.new.Goals as goal
 

@@ -1,7 +1,4 @@
-use Rattle.std.proofs.Common.{◌<◌, ◌+◌, length, arith, ap, ◌∙◌, List, slice_index_or}
-use Rattle.undo_journal.specs.declared.record.Record.{Record}
-use Rattle.undo_journal.specs.Recorded.{model_at}
-use Rattle.undo_journal.specs.Sessions.{LeadsBothWays}
+use Rattle.undo_journal.proofs.Prelude.{◌<◌, ◌+◌, length, arith, ap, ◌∙◌, List, slice_index_or, Record, model_at, LeadsBothWays}
 use Rattle.undo_journal.proofs.Seen.{within, leads_seen, records_seen}
 use Rattle.undo_journal.proofs.session.Session.record.Goals as goal
 

@@ -1,8 +1,4 @@
-use Rattle.std.proofs.Common.{sym, subst, ap, ◌∙◌, arith, ◌≡◌, ◌+◌, ◌<◌, length}
-use Rattle.low_euler.specs.Store.{Store}
-use Rattle.euler_laws.specs.Laws.{AreAccepted}
-use Rattle.low_euler.specs.Ready.{IsReady}
-use Rattle.undo_journal.specs.Sessions.{journal_of, AllHaveRoom, IsKept, all_after}
+use Rattle.undo_journal.proofs.Prelude.{sym, subst, ap, ◌∙◌, arith, ◌≡◌, ◌+◌, ◌<◌, length, Store, AreAccepted, IsReady, journal_of, AllHaveRoom, IsKept, all_after}
 use Rattle.undo_journal.proofs.Journals.{goes_on}
 use Rattle.undo_journal.proofs.Rooms.{record_room}
 use Rattle.undo_journal.proofs.Kept.{kept_redo}

@@ -1,6 +1,4 @@
-use Rattle.std.proofs.Common.{subst}
-use Rattle.undo_journal.specs.Histories.{IsConsistent}
-use Rattle.undo_journal.specs.Journal.{Journal}
+use Rattle.undo_journal.proofs.Prelude.{subst, IsConsistent, Journal}
 use Rattle.undo_journal.proofs.Consistent.{journal_consistent}
 use Rattle.undo_journal.proofs.session.Session.stays_consistent.Goals as goal
 

@@ -1,12 +1,4 @@
-use Rattle.std.proofs.Common.{sym, subst, ap, ◌∙◌, arith, ◌≡◌, ℕ, zero, ◌-◌, ◌<◌, Bool, false, [], ◌∷◌, nat_eq, Ok}
-use Rattle.std.proofs.lemmas.Bool.Decides.{nat_tests}
-use Rattle.low_euler.specs.Store.{Store}
-use Rattle.euler_laws.specs.Laws.{AreAccepted}
-use Rattle.euler_operators.specs.Common.{verdict, first_refusal, never}
-use Rattle.euler_operators.specs.declared.Why.TheVariants.{NothingToUndo}
-use Rattle.low_euler.specs.Ready.{IsReady}
-use Rattle.undo_journal.specs.Machine.{depth}
-use Rattle.undo_journal.specs.Sessions.{journal_of, AllHaveRoom, IsKept, all_after}
+use Rattle.undo_journal.proofs.Prelude.{sym, subst, ap, ◌∙◌, arith, ◌≡◌, ℕ, zero, ◌-◌, ◌<◌, Bool, false, [], ◌∷◌, nat_eq, Ok, nat_tests, Store, AreAccepted, verdict, first_refusal, never, NothingToUndo, IsReady, depth, journal_of, AllHaveRoom, IsKept, all_after}
 use Rattle.undo_journal.proofs.Journals.{goes_back}
 use Rattle.undo_journal.proofs.Rooms.{record_room}
 use Rattle.undo_journal.proofs.Kept.{kept_undo}

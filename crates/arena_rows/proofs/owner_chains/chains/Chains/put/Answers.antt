@@ -1,6 +1,4 @@
-use Rattle.std.proofs.Common.{◌≡◌, ◌≢◌, true, refl, sym, ap, subst, ◌∙◌}
-use Rattle.arena_rows.specs.declared.owner_chains.rows.Head.{Head}
-use Rattle.arena_rows.specs.Common.{items, head_at}
+use Rattle.arena_rows.proofs.Prelude.{◌≡◌, ◌≢◌, true, refl, sym, ap, subst, ◌∙◌, Head, items, head_at}
 use Rattle.arena_rows.proofs.owner_chains_laws.Tables.{row_free}
 use Rattle.arena_rows.proofs.owner_chains_laws.Following.{item_there, last_above, ends_below}
 use Rattle.arena_rows.proofs.owner_chains_laws.Going.{no_items}

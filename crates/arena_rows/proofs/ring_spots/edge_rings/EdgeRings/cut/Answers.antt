@@ -1,7 +1,4 @@
-use Rattle.std.proofs.Common.{◌≡◌, sym, ◌∙◌, subst}
-use Rattle.raw_ring.specs.Rings.{spot}
-use Rattle.boundary_model.specs.Items.{IsIn}
-use Rattle.arena_rows.specs.Common.{Spots, label, ring, labelled, spliced, map_in_loops}
+use Rattle.arena_rows.proofs.Prelude.{◌≡◌, sym, ◌∙◌, subst, spot, IsIn, Spots, label, ring, labelled, spliced, map_in_loops}
 use Rattle.arena_rows.proofs.ring_spots_laws.RingViews.{seen_live, seen_label, seen_ring, seen_as, known_as}
 use Rattle.arena_rows.proofs.ring_spots_laws.LiveEdges.{edges_cut}
 use Rattle.arena_rows.proofs.ring_spots.edge_rings.EdgeRings.cut.Goals as goal

@@ -1,5 +1,4 @@
-use Rattle.std.proofs.Common.{sym, ◌∙◌}
-use Rattle.arena_rows.specs.Common.{Spots, ring, labelled, spliced}
+use Rattle.arena_rows.proofs.Prelude.{sym, ◌∙◌, Spots, ring, labelled, spliced}
 use Rattle.arena_rows.proofs.ring_spots_laws.RingViews.{seen_next, seen_as, known_as}
 use Rattle.arena_rows.proofs.ring_spots_laws.LiveEdges.{edges_cut}
 use Rattle.arena_rows.proofs.ring_spots.edge_rings.EdgeRings.cut_alone.Goals as goal

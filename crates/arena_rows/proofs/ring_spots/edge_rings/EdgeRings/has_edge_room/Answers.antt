@@ -1,5 +1,4 @@
-use Rattle.std.proofs.Common.{◌&&◌, nat_le, nat_lt, sym, ◌∙◌}
-use Rattle.boundary_model.specs.HalfEdge.{plus, minus}
+use Rattle.arena_rows.proofs.Prelude.{◌&&◌, nat_le, nat_lt, sym, ◌∙◌, plus, minus}
 use Rattle.arena_rows.proofs.ring_spots_laws.RingViews.{seen_known}
 use Rattle.arena_rows.proofs.ring_spots.edge_rings.EdgeRings.has_edge_room.Goals as goal
 

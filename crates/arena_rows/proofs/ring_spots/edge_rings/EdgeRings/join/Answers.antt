@@ -1,6 +1,4 @@
-use Rattle.std.proofs.Common.{◌≡◌, ◌≢◌, sym, ◌∙◌}
-use Rattle.raw_ring.specs.Rings.{spot}
-use Rattle.arena_rows.specs.Common.{label, map_in_loops}
+use Rattle.arena_rows.proofs.Prelude.{◌≡◌, ◌≢◌, sym, ◌∙◌, spot, label, map_in_loops}
 use Rattle.arena_rows.proofs.ring_spots_laws.RingViews.{seen_live, seen_label, seen-joined, known_as}
 use Rattle.arena_rows.proofs.ring_spots_laws.LiveEdges.{edges_joined}
 use Rattle.arena_rows.proofs.ring_spots.edge_rings.EdgeRings.join.Goals as goal

@@ -1,7 +1,4 @@
-use Rattle.std.proofs.Common.{◌≢◌, sym, ap, ◌∙◌}
-use Rattle.raw_ring.specs.Rings.{or_zero, spot}
-use Rattle.raw_ring.proofs.Mapping.{IsLive-next}
-use Rattle.arena_rows.specs.Common.{label, map_in_loops}
+use Rattle.arena_rows.proofs.Prelude.{◌≢◌, sym, ap, ◌∙◌, or_zero, spot, IsLive-next, label, map_in_loops}
 use Rattle.arena_rows.proofs.ring_spots_laws.RingViews.{seen_live, seen_next, seen-joined, known_as}
 use Rattle.arena_rows.proofs.ring_spots_laws.LiveEdges.{edges_joined}
 use Rattle.arena_rows.proofs.ring_spots_laws.Alone.{ring_alone, labelled-join_alone, seen-join_alone, other_label}

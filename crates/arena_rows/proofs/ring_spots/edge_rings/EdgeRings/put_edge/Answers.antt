@@ -1,6 +1,4 @@
-use Rattle.std.proofs.Common.{sym, ◌∙◌}
-use Rattle.boundary_model.specs.HalfEdge.{plus, minus}
-use Rattle.arena_rows.specs.Common.{Spots, woken}
+use Rattle.arena_rows.proofs.Prelude.{sym, ◌∙◌, plus, minus, Spots, woken}
 use Rattle.arena_rows.proofs.ring_spots_laws.RingViews.{seen_live, seen_known, seen_as, known_as}
 use Rattle.arena_rows.proofs.ring_spots_laws.LiveEdges.{edges_woken}
 use Rattle.arena_rows.proofs.ring_spots.edge_rings.EdgeRings.put_edge.Goals as goal

@@ -1,9 +1,4 @@
-use Rattle.std.proofs.Common.{◌≡◌, ℕ, true, nat_lt, ◌&&◌, sym, ◌∙◌}
-use Rattle.std.proofs.lemmas.Bool.{false≢true}
-use Rattle.std.specs.FinMap.{contains_key}
-use Rattle.boundary_model.specs.HalfEdge.{plus, minus}
-use Rattle.boundary_model.proofs.Tests.{and_first, and_second}
-use Rattle.arena_rows.specs.Common.{Spots}
+use Rattle.arena_rows.proofs.Prelude.{◌≡◌, ℕ, true, nat_lt, ◌&&◌, sym, ◌∙◌, false≢true, contains_key, plus, minus, and_first, and_second, Spots}
 use Rattle.arena_rows.proofs.ring_spots_laws.LiveEdges.{edges_roomed}
 use Rattle.arena_rows.proofs.ring_spots_laws.RingViews.{seen_known, seen_as, seen_ok}
 use Rattle.arena_rows.proofs.ring_spots.edge_rings.EdgeRings.room_edge.Goals as goal

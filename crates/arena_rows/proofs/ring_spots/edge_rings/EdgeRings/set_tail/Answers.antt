@@ -1,7 +1,4 @@
-use Rattle.std.proofs.Common.{ap, sym, ◌∙◌}
-use Rattle.raw_ring.specs.Rings.{spot}
-use Rattle.arena_rows.specs.Common.{Spots, in_loops}
-use Rattle.arena_rows.specs.ring_spots.Spots.{set_tail}
+use Rattle.arena_rows.proofs.Prelude.{ap, sym, ◌∙◌, spot, Spots, in_loops, set_tail}
 use Rattle.arena_rows.proofs.ring_spots_laws.LoopSpots.{loops-set_tail}
 use Rattle.arena_rows.proofs.ring_spots_laws.LabelEdges.{labelled-set_tail}
 use Rattle.arena_rows.proofs.ring_spots_laws.LiveEdges.{edges_set_tail}

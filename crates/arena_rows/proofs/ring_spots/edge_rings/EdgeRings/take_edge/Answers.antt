@@ -1,8 +1,4 @@
-use Rattle.std.proofs.Common.{ap, sym, ◌∙◌}
-use Rattle.raw_ring.specs.Rings.{or_zero}
-use Rattle.raw_ring.proofs.Mapping.{IsLive-next}
-use Rattle.boundary_model.specs.HalfEdge.{plus, minus}
-use Rattle.arena_rows.specs.Common.{Spots, asleep}
+use Rattle.arena_rows.proofs.Prelude.{ap, sym, ◌∙◌, or_zero, IsLive-next, plus, minus, Spots, asleep}
 use Rattle.arena_rows.proofs.ring_spots_laws.LabelEdges.{labelled-asleep, loops-asleep_both}
 use Rattle.arena_rows.proofs.ring_spots_laws.LiveEdges.{edges_asleep}
 use Rattle.arena_rows.proofs.ring_spots_laws.RingViews.{seen_next, seen_as, known_as}

@@ -1,5 +1,4 @@
-use Rattle.std.proofs.Common.{false, ap, sym, ◌∙◌, ◌∷◌}
-use Rattle.solid_walks.specs.Left.{loops_left}
+use Rattle.solid_walks.proofs.Prelude.{false, ap, sym, ◌∙◌, ◌∷◌, loops_left}
 use Rattle.solid_walks.proofs.face_walks_laws.RingWalks.{next_ring, no_ring}
 use Rattle.solid_walks.proofs.face_walks_laws.Yielded.{goes_on}
 use Rattle.solid_walks.proofs.face_walks.loops.LoopsIterator.next.Goals as goal

@@ -1,5 +1,4 @@
-use Rattle.std.proofs.Common.{◌≡◌, ◌∙◌, ℕ, List, true, ap, sym, subst}
-use Rattle.euler_operators.specs.Common.{lists, strictly_rises}
+use Rattle.split_sections.proofs.Prelude.{◌≡◌, ◌∙◌, ℕ, List, true, ap, sym, subst, lists, strictly_rises}
 use Rattle.split_checks.proofs.cut_places_laws.Searched.{found_listed}
 use Rattle.split_sections.proofs.section_edges.marked.Marked.has.Goals as goal
 
