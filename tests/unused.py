@@ -90,7 +90,9 @@ module _ (n : ℕ) where
 pub silent : total 2
 silent = refl
 ''',
-    'crates/low/proofs/called/Answers.antt': '''use Rattle.low.proofs.Facts.{cited, silent}
+    'crates/low/proofs/Prelude.antt': 'pub use Rattle.low.proofs.Facts.{cited}\nunfoldable pub use Rattle.low.specs.Sums.{idle_sum, total}\n',
+    'crates/low/proofs/called/Answers.antt': '''use Rattle.low.proofs.Prelude.{cited, total}
+use Rattle.low.proofs.Facts.{silent}
 
 returns-clause c = cited c.x
 ''',
@@ -131,7 +133,7 @@ class Shell:
 }
 WANTED = ['function crates/low/src/lib.rt by_idle', 'function crates/low/src/lib.rt idle', 'statement Rattle.low.proofs.Facts never_cited',
           'statement Rattle.low.specs.Sums idle_part', 'statement Rattle.low.specs.Sums idle_sum', 'python companions/gwb/work.py lost',
-          'c bindings/calls.c astray']
+          'passed Rattle.low.proofs.Prelude idle_sum', 'c bindings/calls.c astray']
 
 
 def unused(folder: Path) -> 'subprocess.CompletedProcess[str]':
