@@ -6,7 +6,7 @@ pub use Rattle.commands.specs.declared.command.Call.TheVariants.{Abandon, Back, 
 pub use Rattle.commands.specs.declared.command.Call.{Call}
 pub use Rattle.commands.specs.declared.command.Command.TheVariants.{Ask, Change, Redo, Undo}
 pub use Rattle.commands.specs.declared.command.Command.{Command}
-pub use Rattle.commands.specs.declared.command.Told.TheVariants.{Done, InDraft, Memory, NoDraft, Refused}
+pub use Rattle.commands.specs.declared.command.Told.TheVariants.{Done, Memory, NoDraft, Refused}
 pub use Rattle.commands.specs.declared.command.Told.{Told}
 pub use Rattle.commands.specs.declared.stage.OpenDraft.{OpenDraft}
 pub use Rattle.commands.specs.declared.stage.Stage.TheVariants.{Drafting, Session}
@@ -19,7 +19,7 @@ pub use Rattle.euler_operators.specs.declared.Why.TheVariants.{NothingToRedo, No
 pub use Rattle.euler_operators.specs.declared.Why.{Why}
 pub use Rattle.gluing.specs.Measure.{answer, six_volume, solid_refusal}
 pub use Rattle.undo_journal.specs.Histories.{IsConsistent, after_calls, redos, tried, undos, unless}
-pub use Rattle.undo_journal.specs.Journal.{DraftJournal, IsFurther, IsRecorded, Journal, after_act, after_commit, after_redo, after_step, after_undo, new_draft, new_journal, plain}
+pub use Rattle.undo_journal.specs.Journal.{DraftJournal, IsRecorded, Journal, after_act, after_commit, after_redo, after_step, after_undo, new_draft, new_journal, plain}
 pub use Rattle.undo_journal.specs.Machine.{DraftState, Machine, accepted, act_refusal, ahead, back_to, commit, depth, draft_step, held, open_draft, redo, redo_refusal, undo, undo_refusal}
 pub use Rattle.undo_journal.specs.Recorded.{model_at}
 pub use Rattle.undo_journal.specs.declared.record.Record.{Record}

@@ -2,7 +2,7 @@
 pub use Rattle.euler_operators.specs.Common.{Model, Sound}
 pub use Rattle.euler_operators.specs.declared.Refusal.{Refusal}
 pub use Rattle.undo_journal.specs.Histories.{IsConsistent}
-pub use Rattle.undo_journal.specs.Journal.{DraftJournal, IsFurther, IsMark, Journal, after_act, after_commit, after_redo, after_step, after_steps, after_undo, back_at, new_draft, record_of, recorded}
+pub use Rattle.undo_journal.specs.Journal.{DraftJournal, IsFurther, IsMark, Journal, after_commit, after_redo, after_steps, after_undo, back_at, new_draft, record_of, recorded}
 pub use Rattle.undo_journal.specs.Machine.{Machine, accepted, ahead, depth, held, redo_refusal, undo_refusal}
 pub use Rattle.undo_journal.specs.declared.session.Failure.{Failure}
 pub use Rattle.commands.specs.declared.command.Change.{Change}

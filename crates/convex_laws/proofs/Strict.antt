@@ -162,9 +162,6 @@ module _ (before after_it : Machine) (s : ℕ) (p : Plane) (t : ℕ) (sound : So
     ends : finish N h ≡ finish D x
     ends = (same (mate h)).start_is ∙ w.ends
 
-    abbrev Goal : Type 0
-    Goal = BendsAway N h
-
     -- from the planes of both faces
     bends_by : (n m : Plane) → IsAlong k n → IsAlong (face_at N (mate h)) m → IsHigh (turn (direction n) (towards (start D x) (finish D x)) (direction m)) → BendsAway N h
     bends_by n m a b high = subst (λ f. int_lt (pos 0) (dot (towards (start N h) (finish N h)) (cross (normal N f) (normal N (face_at N (mate h))))) ≡ true) (sym here)

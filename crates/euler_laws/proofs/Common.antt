@@ -1,8 +1,8 @@
 -- The lemmas of this crate that other crates cite, passed on from one place. Declares nothing.
 pub use Rattle.euler_laws.proofs.Cases.{effect_keeps_sound, inverse_goes, inverse_undoes}
-pub use Rattle.euler_laws.proofs.Growth.{Grown, Parted, kemr_grows, mef_grows, mev_grows, mfkrh_grows}
+pub use Rattle.euler_laws.proofs.Growth.{Grown, kemr_grows, mef_grows, mev_grows, mfkrh_grows}
 pub use Rattle.euler_laws.proofs.Runs.{AreAccepted-append, AreAccepted-back, AreAccepted-front, Leads, effects-append, effects_keep_sound, inverses_go, inverses_undo, leads_first, leads_none, leads_on, leads_one, leads_sound, next_goes, next_taken, some_taken}
-pub use Rattle.euler_laws.proofs.Sizes.{loops_are, mapped_none, rises_apart, rises_on, rises_over, size-map_rows, size-put_new, size-put_old, size-remove, size_parts}
+pub use Rattle.euler_laws.proofs.Sizes.{loops_are, rises_apart, rises_on, rises_over, size-map_rows, size-remove}
 pub use Rattle.euler_laws.proofs.faces.Kfmrh.{KillGoes, MakeGoes, g_gone, kfmrh_accepted, kfmrh_goes, kill_face_else, kill_face_l, kill_outer, kill_same, kill_solid, l_face, mfkrh_accepted, mfkrh_goes, sound-kfmrh}
 pub use Rattle.euler_laws.proofs.faces.RingIn.{RingGoes, ring_in_accepted, ring_in_goes, sound-ring_in}
 pub use Rattle.euler_laws.proofs.faces.RingOut.{outer_goes_so, ring_out_goes}
@@ -26,12 +26,12 @@ pub use Rattle.euler_laws.proofs.shared.Bounds.{half_below, ring_number, steps, 
 pub use Rattle.euler_laws.proofs.shared.Counted.{all_where_has, all_where_in, counted_once, none_counted}
 pub use Rattle.euler_laws.proofs.shared.FaceRings.{outer_or_ring, ring_there}
 pub use Rattle.euler_laws.proofs.shared.Faces.{LoopMoves, SameWalks, face_kept, face_moved, walks_same}
-pub use Rattle.euler_laws.proofs.shared.Fans.{Fan, back_of, fan_of, half_after, half_face, kept_round, loop_after, none_in_fan}
+pub use Rattle.euler_laws.proofs.shared.Fans.{Fan, back_of, fan_of, half_after, half_face, loop_after, none_in_fan}
 pub use Rattle.euler_laws.proofs.shared.FirstWhere.{first_passes, first_where_least}
 pub use Rattle.euler_laws.proofs.shared.Goes.{all_hold, all_hold-back, all_hold-front, no_zero, none_refuses, not_false, taken, verdict_failed, verdict_passed, ◌also◌}
 pub use Rattle.euler_laws.proofs.shared.KnownLoop.{Around, apart_xs, canonical_apart, cycle_is, face_is, half_is, loop_is, rotated_canonical}
 pub use Rattle.euler_laws.proofs.shared.Listed.{IsIn-from_listed, all_where-rises, first_listed, found_past, listed-from_in, listed_as, listed_cases, listed_front, listed_passes, other_last, passes_listed, rest_listed}
-pub use Rattle.euler_laws.proofs.shared.Loops.{IsLoop, after-walks, apart_out, count_gone, count_out, light, loop_at, loop_sound, none_else, none_free, put_before, put_none}
+pub use Rattle.euler_laws.proofs.shared.Loops.{IsLoop, after-walks, apart_out, count_gone, count_out, light, loop_at, loop_sound, none_else, none_free}
 pub use Rattle.euler_laws.proofs.shared.Parts.{FaceSet, outer_other, row_here, row_other, solid_other}
 pub use Rattle.euler_laws.proofs.shared.RisingLists.{above_middle, all_listed, below_middle, listed_at, not_found, place_of, rising, short_rises, within}
 pub use Rattle.euler_laws.proofs.shared.Rounds.{Round, half_in, items_apart, items_from_least, met_once, next_in, round_closed, round_ended, round_more, round_start}

@@ -6,7 +6,7 @@ pub use Rattle.boundary_model.proofs.Edits.{IsRing-insert_before, IsRing-without
 pub use Rattle.boundary_model.proofs.Halves.{code-half, code-mate, edge_of-code, edge_of-mate, edges_apart, first_is_plus, half-code, half-minus, half-plus, is_first-code, is_first-mate, mate-mate, mate_cases, mate_edge_apart, mate_minus, mate_other, mate_plus, minus_row, plus_other, plus_row, same_code, same_edge}
 pub use Rattle.boundary_model.proofs.Integers.{dif-parts, difs, neg-dif, number, same_dif}
 pub use Rattle.boundary_model.proofs.Leads.{IsRing-kef, IsRing-kemr, IsRing-led_over_other, IsRing-mef, IsRing-mekr, IsRing-redirect_other, IsRing-splice_other, apart_mev, kev_ring_is}
-pub use Rattle.boundary_model.proofs.Lists.{IsIn_or_not, after_at, after_of, before_at, before_of, count-append, count-before, from_at, from_is, least_in, least_le, least_same, least_with_in, least_with_le, split_at, tick_le, tick_other, tick_same}
+pub use Rattle.boundary_model.proofs.Lists.{IsIn_or_not, after_at, after_of, before_at, before_of, count-append, count-before, from_is, least_in, least_le, least_same, least_with_in, least_with_le, split_at, tick_le, tick_other, tick_same}
 pub use Rattle.boundary_model.proofs.Magnitudes.{coordinate_held, coordinate_is, coordinate_within, coordinates, difference_within, fits, fits_as, held, held_as, held_is, held_short, minor_fits, minor_of, offset_within, product_within, short_product_fits, sum_told, sum_within, vector_within}
 pub use Rattle.boundary_model.proofs.Maps.{IsApart-map, count-map, count-reverse, from_map, reverse-cons, reverse_at, successor-map, successor-reverse}
 pub use Rattle.boundary_model.proofs.Members.{IsApart-images, IsIn-filter, IsIn-map, IsIn_first, IsIn_one, IsIn_push, IsIn_rest, IsIn_some_head, all_mapped, apart_within, both_empty, count-filter, count_taken, each_mapped, filter_passes, length_below, no_cons, same_head, same_length}

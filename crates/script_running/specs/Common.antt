@@ -9,9 +9,9 @@ pub use Rattle.commands.specs.declared.command.Question.{Question}
 pub use Rattle.commands.specs.declared.command.Told.{Told}
 pub use Rattle.commands.specs.declared.stage.Stage.TheVariants.{Drafting, Session}
 pub use Rattle.commands.specs.declared.stage.Stage.{Stage}
-pub use Rattle.euler_operators.specs.Common.{Model, Point, Sound}
+pub use Rattle.euler_operators.specs.Common.{Model, Sound}
 pub use Rattle.euler_operators.specs.declared.Refusal.{Refusal}
-pub use Rattle.script_reader.specs.Grammar.{is_ascii, is_operator, request_of, request_of_words}
+pub use Rattle.script_reader.specs.Grammar.{is_ascii, request_of, request_of_words}
 unfoldable pub use Rattle.script_reader.specs.Grammar.{arguments}
 pub use Rattle.script_reader.specs.Lines.{lines_of, with_newlines}
 unfoldable pub use Rattle.script_reader.specs.Lines.{within_limit}
@@ -21,7 +21,6 @@ pub use Rattle.script_reader.specs.Script.{BreaksOff as EndsEarly, HasRead, to_c
 pub use Rattle.script_reader.specs.State.{IsFresh, line_of, reader_of, taken_of, unread_of}
 pub use Rattle.script_reader.specs.declared.command.Fault.TheVariants.{LongLine, NotAscii}
 pub use Rattle.script_reader.specs.declared.command.Fault.{Fault}
-pub use Rattle.script_reader.specs.declared.command.Request.TheVariants.{Nothing}
 pub use Rattle.script_reader.specs.declared.command.Request.{Request}
 pub use Rattle.script_reader.specs.declared.lines.Found.{Found}
 pub use Rattle.script_reader.specs.declared.lines.Lines.{Lines}

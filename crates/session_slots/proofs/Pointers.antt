@@ -9,17 +9,16 @@ pub use Rattle.std.specs.contracts.impls.GlobalAllocator.TheImpl.{dict, ghosts}
 pub use Rattle.std.specs.declared.alloc.{Allocator.Ghosts, Global.Global}
 pub use base.Fml.{Fml, Lft, Share, fat, fbor, fdead, flft, fsep, ftrue, fupd, fwand}
 unfoldable pub use base.Fml.{fseps}
-pub use base.Fraction.{full_share}
 pub use base.Logic.{SProp, apply∗, emp, ent, fst∗, id⊢, never, sep, upd_i, wand}
-pub use contract.{BorrowLft.meet_⊑_left, BorrowLft.⊑_static, BorrowLft.◌⊑◌, Monad.fact, Monad.fact_i, Running.tables}
-pub use denote.{Builtin.RefOf, Copied.plain_Copied, Exit.no, Exit.yes, Memory.cell_at, Memory.lone, Memory.shared_of, Moves.moves_from, Opens.hide, Opens.unhide, Shares.Shares-less, Sharing.ShrLaws, SharingLaws.contraction, Signature.plain, Signature.types_at}
+pub use contract.{BorrowLft.meet_⊑_left, BorrowLft.◌⊑◌, Monad.fact, Monad.fact_i, Running.tables}
+pub use denote.{Builtin.RefOf, Copied.plain_Copied, Exit.no, Exit.yes, Memory.cell_at, Memory.lone, Memory.shared_of, Moves.moves_from, Opens.hide, Opens.unhide, Sharing.ShrLaws, SharingLaws.contraction, Signature.plain, Signature.types_at}
 pub use denote.Param.{Laws.Laws, Laws.param_laws, Shared.copy_shared, bounded, layout, param}
 pub use denote.RattleType.{RattleType, Valss, owns}
-pub use denote.RawPtr.{Ptr, RawPtr, block_ptr, coded_ptr, in_a_block, lies_at, null_ptr, ptr_own, ptr_val, rawptr_pure}
+pub use denote.RawPtr.{Ptr, RawPtr, block_ptr, coded_ptr, in_a_block, null_ptr, ptr_own, ptr_val, rawptr_pure}
 pub use denote.Ref.{ShrRef, shr_Tells, shr_vals}
 pub use denote.Steps.{heard, looks, nothing, only, shuts}
 pub use denote.Struct.{Field.RawPtr-field, Laws.RawPtr-copy, Laws.RawPtr-laws, Owning.shape, Struct.within, Tuple.Tuple}
-pub use denote.Struct.Lending.{Lends, Lends-first, Lends-lies, lent_at, lent_at_shr_laws, of_Lends}
+pub use denote.Struct.Lending.{Lends, lent_at, lent_at_shr_laws, of_Lends}
 pub use denote.Triple.{Call.calls_at, Call.calls_at_last, Clauses.Lasts, Clauses.lasts, Entry.on_entry, Spec.triple_of, Table.framed}
 pub use denote.Triple.Walked.{Goes-dropped, Stays, ends_at, says, stay_dropped, walk_of}
 pub use ghost.Rules.{span, thinned}

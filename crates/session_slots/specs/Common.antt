@@ -1,7 +1,7 @@
 -- The definitions that proofs, contracts and the crates above cite, passed on from one place. Declares nothing.
 pub mod Below
-pub use Rattle.session_slots.specs.Common.Below.{Answer, Call, Change, Command, Content, Corner, Console, Counters, Counts, Edge, EdgeRow, Face, FaceRow, Fault, HalfEdge, HalfEdgeRow, Hears, IsIn, IsNextFace, IsNextNumber, IsNew, IsNextRing, IsRotation, Journal, Kind, Loop, LoopContent, LoopRow, Makes, Model, Op, Place, Plane, PlaneRow, Point, Question, Refusal, Refused, Request, Settled, Slot, Solid, Sound, Spoken, Stage, Store, Taken, Tells, TellsSession, Told, UnlessLacking, Vertex, Wide, act_of, answer, answer_after, asked, counts, cycle, cycle_of, empty_store, face_refusal, gives, has, has_half, is_draft, is_flat, items_of, lacks, lacks_said, lone, minus, new_journal, no_loop, plane_of, plus, redos, request_of, shown, six_volume, solid_refusal, spoken, steps_in, taken_of, tells, told_of, undos, value_or_refusal}
-unfoldable pub use Rattle.session_slots.specs.Common.Below.{after, before, code, content, edge_of, face_of, half, loop_of, loops_of, outer, point_of, solid_of, tail, taken_in}
+pub use Rattle.session_slots.specs.Common.Below.{Answer, Call, Change, Command, Content, Console, Counters, EdgeRow, HalfEdge, Hears, IsIn, IsNextNumber, IsNew, Kind, LoopContent, LoopRow, Makes, Model, Op, Question, Refusal, Slot, Solid, Sound, Spoken, Stage, Store, Taken, Tells, Told, UnlessLacking, act_of, answer, answer_after, asked, cycle, cycle_of, face_refusal, gives, has, has_half, is_draft, items_of, lacks, lacks_said, lone, minus, no_loop, plus, redos, shown, spoken, steps_in, taken_of, tells, told_of, undos}
+unfoldable pub use Rattle.session_slots.specs.Common.Below.{code, content, edge_of, loop_of, solid_of, tail, taken_in}
 pub use Rattle.session_slots.specs.Answered.{counts_in, fault_in, joined, joined_plane, plane_in, refusal_in, status_of, volume_in}
 pub use Rattle.session_slots.specs.Arguments.{polygon_of}
 unfoldable pub use Rattle.session_slots.specs.Common.Below.{Says}

@@ -1,7 +1,7 @@
 -- The definitions of this crate that many of its files cite, passed on from one place. Declares nothing.
 pub use Rattle.solid_listing.specs.Lines.{line_text, spaced, text_of}
-pub use Rattle.solid_listing.specs.Listing.{content_words, half_word, kind_lines, kinds, line, numbers_of, or_empty, point_words}
+pub use Rattle.solid_listing.specs.Listing.{content_words, half_word, kind_lines, kinds, line, numbers_of, or_empty}
 unfoldable pub use Rattle.solid_listing.specs.Listing.{lines, listing}
 pub use Rattle.solid_listing.specs.Replies.{coefficient_words, refused_head}
 unfoldable pub use Rattle.solid_listing.specs.Replies.{reply_text}
-pub use Rattle.solid_listing.specs.Writing.{Gathers, Outgoing, Puts, Stops, Takes, Tells, outgoing}
+pub use Rattle.solid_listing.specs.Writing.{Gathers, Puts, Takes, Tells, outgoing}

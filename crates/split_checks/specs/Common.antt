@@ -7,5 +7,5 @@ pub use Rattle.split_checks.specs.cut_places.Meetings.{AreTold, IsFaceMet, IsMee
 pub use Rattle.split_checks.specs.cut_places.Noted.{AreNoted, AreSides, IsSide}
 pub use Rattle.split_checks.specs.cut_places.Places.{AreFacesAlong, IsFaceAlong, touches}
 pub use Rattle.split_checks.specs.cut_places.Sides.{lies, opposite_signs, reaches, same_sign, side_reached, some_lie, some_start}
-pub use Rattle.split_checks.specs.cut_places.Walks.{AreIn, AreThere}
+pub use Rattle.split_checks.specs.cut_places.Walks.{AreThere}
 pub use Rattle.split_checks.specs.place_order.Order.{AreCrossings, ArePlacesAlong, IsPlaceAlong, Key, are_crossed, entries_of, key, places_of}
