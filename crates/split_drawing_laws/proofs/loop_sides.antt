@@ -1,3 +1,4 @@
 pub mod Follows
 pub mod Parting
+pub mod Between
 pub mod SidesWhole
