@@ -55,11 +55,11 @@ flags_are above s p o cs w = sym (append-nil (map (λ k. k.hole) (all_opened p a
 
 -- ---- how many are holes
 
-abbrev trues : List Bool → ℕ
+abbrev pub trues : List Bool → ℕ
 trues [] = 0
 trues (b ∷ bs) = cond b (suc (trues bs)) (trues bs)
 
-filter_trues : {X : Type 0} (f : X → Bool) (xs : List X) → length (filter f xs) ≡ trues (map f xs)
+pub filter_trues : {X : Type 0} (f : X → Bool) (xs : List X) → length (filter f xs) ≡ trues (map f xs)
 filter_trues f [] = refl
 filter_trues f (x ∷ xs) = grind (arith, filter_trues f xs)
 

@@ -1,4 +1,5 @@
 mod Prelude
+pub mod Stages
 pub mod drawn
 pub mod Openings
 pub mod Holes

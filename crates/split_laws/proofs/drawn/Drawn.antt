@@ -1,11 +1,12 @@
 -- What the conditions of a split say once the faces are drawn: the solid can be opened along its section, and has a face on either side.
-use Rattle.split_laws.proofs.Prelude.{◌≡◌, ℕ, true, false, nat_eq, List, [], None, IsTrue, ap, ◌∙◌, subst, arith, not, ◌&&◌, ◌||◌, is_some, unwrap_or, refl, sym, inl, inr, true≢false, append-nil, pos, int_lt, false_from_ne_true, list_any, Plane, Model, solid_of, is_number, faces_of, no_point, content, tail, loop_of, face_of, point_of, Sound, Has, HasHalf, lists, face_at, is_lone, is_above, is_below, dot, direction, IsIn, edge_of, plus, minus, count-filter, IsIn-filter, filter_passes, no_row, zero_first_where, first_fails, IsIn_or_not, in-holds, cycle_there, plus_there, minus_there, loop_there, no_zero, all_where-rises, IsIn-from_listed, listed-from_in, halves_of_edge, loop_after, half_face, loop_row, not_lone_cycle, none_is_lone, face_of_loop, SplitBegins, SectionOpens, none_first, split_begins, split_opens, least_lone, loops_of, corners, reaches_above, reaches_below, face_is_above, faces_above, straddles, crossing_edges, with_crossings, Drawing, straddling_pairs, with_drawings, below_halves, section_cycles, has_stray_hole, split_refusal, normal, solid_facts, any_passes, tail_in_face, in_solid, can_be_drawn, rewritings_sound, rewritings_free, Stays, CanBeDrawn, drawing_stays, filter_rises, HasCaps, CanBeOpenedInTurn, can_be_opened, KeepsSolids, HasFace, TailIn, tail_in, none_straddles, any_from}
+use Rattle.split_laws.proofs.Prelude.{◌≡◌, ℕ, true, false, nat_eq, [], None, IsTrue, ap, ◌∙◌, subst, arith, not, ◌&&◌, ◌||◌, is_some, unwrap_or, refl, sym, inl, inr, true≢false, append-nil, pos, int_lt, false_from_ne_true, list_any, Plane, Model, solid_of, is_number, faces_of, no_point, content, tail, loop_of, face_of, point_of, Sound, Has, HasHalf, lists, face_at, is_lone, is_above, is_below, dot, direction, IsIn, edge_of, plus, minus, count-filter, IsIn-filter, filter_passes, no_row, zero_first_where, first_fails, IsIn_or_not, in-holds, cycle_there, plus_there, minus_there, loop_there, no_zero, all_where-rises, IsIn-from_listed, listed-from_in, halves_of_edge, loop_after, half_face, loop_row, not_lone_cycle, none_is_lone, face_of_loop, SplitBegins, SectionOpens, none_first, split_begins, split_opens, least_lone, loops_of, corners, reaches_above, reaches_below, face_is_above, faces_above, straddles, crossing_edges, with_crossings, straddling_pairs, with_drawings, below_halves, section_cycles, has_stray_hole, split_refusal, normal, solid_facts, any_passes, tail_in_face, in_solid, can_be_drawn, rewritings_sound, rewritings_free, Stays, CanBeDrawn, drawing_stays, filter_rises, HasCaps, CanBeOpenedInTurn, can_be_opened, KeepsSolids, HasFace, TailIn, tail_in, none_straddles, any_from}
 use Rattle.euler_operators.specs.Table as table
 use Rattle.split_drawing_laws.specs.crossings.Laws.{CanBegin}
 use Rattle.split_drawing_laws.proofs.crossings.Whole.{crossings_keep, crossings_cut, crossings_sound, same_solid, not_cut}
 use Rattle.split_laws.proofs.drawn.Solids.{drawing_keeps}
 use Rattle.split_drawing_laws.proofs.half_sides.Pieces.{CutBy, crossing_pieces}
 use Rattle.split_drawing_laws.proofs.half_sides.Starts.{old_face}
+use Rattle.split_laws.proofs.Stages.{stages}
 
 -- a half-edge of N that starts at point v, of face f
 pub record HalfAt (N : Model) (v f : ℕ) : Type 0 where
@@ -17,14 +18,7 @@ pub record HalfAt (N : Model) (v f : ℕ) : Type 0 where
 -- ---- a split that isn't refused
 
 module _ (M : Model) (s : ℕ) (p : Plane) (t : ℕ) (sound : Sound M) (accepted : split_refusal M s p t ≡ None) where
-  abbrev d : Drawing
-  d = with_drawings M s p
-
-  abbrev D : Model
-  D = (with_drawings M s p).model
-
-  abbrev above : List ℕ
-  above = faces_above (with_drawings M s p).model p s
+  open stages M s p t use {cut as N, drawing as d, drawn as D, above}
 
   pub begins : CanBegin M s p t
   begins = none_first M s p t accepted
@@ -81,9 +75,6 @@ module _ (M : Model) (s : ℕ) (p : Plane) (t : ℕ) (sound : Sound M) (accepted
   no_caps = grind (arith, append-nil, filter_rises (face_is_above D p) (faces_of D s) (all_where-rises (λ _ row. nat_eq row.solid s) D.faces))
 
   -- ---- once the faces are drawn the solid has a face above and one that isn't
-
-  abbrev N : Model
-  N = (with_crossings M s p).model
 
   N_sound : Sound N
   N_sound = crossings_sound M s p t sound begins

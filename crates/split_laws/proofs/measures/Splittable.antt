@@ -1,14 +1,15 @@
 -- The drawn model of a split that isn't refused: its faces are flat, and its section lies on the plane.
-use Rattle.split_laws.proofs.Prelude.{◌≡◌, ◌≢◌, ℕ, true, false, not, ℤ, pos, List, [], ◌∷◌, None, is_some, refl, sym, ap, subst, ◌∙◌, arith, true≢false, inl, inr, int_lt, int_eq, append-nil, ints, and_parts, Plane, height, origin, same_point, direction, is_on, is_above, is_below, IsIn, mate, Model, tail, loop_of, face_of, outer, point_of, solid_of, faces_of, Sound, Has, HasHalf, face_at, lists, count-append, IsIn_or_not, mate-mate, cycle_there, loop_there as has_loop, item_there, mate_there, item_loop, half_after, loop_after, half_face, listed-from_in, start, corners, plane_of, faces_above, with_drawings, below_halves, section_cycles, split_refusal, are_on, told_anywhere, split_begins, IsBelowHalf, AreSectionCycles, drawn_lies, none_straddles, in_solid, halves_in, LieOn, AllTellAlike, CanBeSplit, IsOnSide, AreSided, HasFace}
+use Rattle.split_laws.proofs.Prelude.{◌≡◌, ◌≢◌, ℕ, true, false, not, ℤ, pos, List, [], ◌∷◌, None, is_some, refl, sym, ap, subst, ◌∙◌, arith, true≢false, inl, inr, int_lt, int_eq, append-nil, ints, and_parts, Plane, height, origin, same_point, direction, is_on, is_above, is_below, IsIn, mate, Model, tail, loop_of, face_of, outer, point_of, solid_of, faces_of, Sound, Has, HasHalf, face_at, lists, count-append, IsIn_or_not, mate-mate, cycle_there, loop_there as has_loop, item_there, mate_there, item_loop, half_after, loop_after, half_face, listed-from_in, start, corners, plane_of, faces_above, with_drawings, split_refusal, are_on, told_anywhere, split_begins, IsBelowHalf, AreSectionCycles, drawn_lies, none_straddles, in_solid, halves_in, LieOn, AllTellAlike, CanBeSplit, IsOnSide, AreSided, HasFace}
 use Rattle.euler_operators.specs.Common.{after}
 use Rattle.euler_operators.specs.Table as table
 use Rattle.split_drawing_laws.specs.drawn_volumes.Laws.{LiesOnOld}
 use Rattle.split_drawing_laws.proofs.drawn_volumes.Bounds.{OnFace, on_face}
 use Rattle.split_laws.proofs.sides.Sides.{begun_sided}
 use Rattle.split_laws.proofs.drawn.Drawn.{some_above, begins, never_stuck, no_stray, drawn_sound, t_free, can_open_all, no_caps}
+use Rattle.split_laws.proofs.Stages.{stages}
 
 -- what is neither above nor below lies level
-level : (n : ℤ) → int_lt (pos 0) n ≡ false → int_lt n (pos 0) ≡ false → int_eq n (pos 0) ≡ true
+pub level : (n : ℤ) → int_lt (pos 0) n ≡ false → int_lt n (pos 0) ≡ false → int_eq n (pos 0) ≡ true
 level n a b = grind (arith, ints)
 
 -- each half of some section cycles lies between a face above and one that isn't
@@ -38,14 +39,7 @@ module _ (N : Model) (sound : Sound N) (p : Plane) (s : ℕ) (fs : List ℕ) (si
 -- ---- a split that isn't refused
 
 module _ (M : Model) (s : ℕ) (p : Plane) (t : ℕ) (sound : Sound M) (accepted : split_refusal M s p t ≡ None) where
-  abbrev D : Model
-  D = (with_drawings M s p).model
-
-  abbrev above : List ℕ
-  above = faces_above (with_drawings M s p).model p s
-
-  abbrev cycles : List (List ℕ)
-  cycles = section_cycles (with_drawings M s p).model (below_halves (with_drawings M s p).model (faces_above (with_drawings M s p).model p s) s)
+  open stages M s p t use {drawn as D, above, cycles}
 
   D_sound : Sound D
   D_sound = drawn_sound M s p t sound accepted

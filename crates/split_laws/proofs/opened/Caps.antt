@@ -7,7 +7,7 @@ use Rattle.split_laws.proofs.opened.Starts.{start_old, finish_old, back_along}
 
 -- ---- lists
 
-numbers_place : (k n x : ℕ) → IsIn x (numbers_after k n) → (j : ℕ) × (j < n) × (x ≡ k + suc j)
+pub numbers_place : (k n x : ℕ) → IsIn x (numbers_after k n) → (j : ℕ) × (j < n) × (x ≡ k + suc j)
 numbers_place k n x i = let w = in_numbers k n x i in (x - suc k, omega (arith, w.0, w.1), omega (arith, w.0))
 
 -- ---- paths
@@ -18,7 +18,8 @@ leads_by M [] e step last = tt
 leads_by M (h ∷ []) e step last = (last 0 (omega arith), tt)
 leads_by M (h ∷ g ∷ gs) e step last = (step 0 (omega arith), leads_by M (g ∷ gs) e (λ i l. step (suc i) (omega (arith, l))) (λ i q. last (suc i) (omega (arith, q))))
 
-closed_round : (M : Model) (hs : List ℕ) → ((i : ℕ) → i < length hs → tail M (get_or hs (next_place (length hs) i) 0) ≡ tail M (mate (get_or hs i 0))) → IsClosed M hs
+-- half-edges that meet in turn make a closed path
+pub closed_round : (M : Model) (hs : List ℕ) → ((i : ℕ) → i < length hs → tail M (get_or hs (next_place (length hs) i) 0) ≡ tail M (mate (get_or hs i 0))) → IsClosed M hs
 closed_round M [] meet = tt
 closed_round M (h ∷ hs) meet = leads_by M (h ∷ hs) (start M h)
     (λ i l. ap (point_of M) (sym (meet i (omega (arith, l))) ∙ ap (λ n. tail M (get_or (h ∷ hs) n 0)) (step i l)))

@@ -6,7 +6,6 @@ use Rattle.split_laws.proofs.opened.Kept as kept
 use Rattle.split_laws.proofs.opened.Caps.{loop_kinds, outer_lower, outer_upper, lower_along, upper_along, lower_loop, upper_loop}
 use Rattle.split_laws.proofs.opened.InTurn.{is_rewritten, flat_carry}
 use Rattle.split_laws.proofs.volumes.Taken as taken
-use Rattle.split_laws.proofs.volumes.Taken.{CanTake}
 use Rattle.split_laws.proofs.volumes.Closed.{closing_carries}
 use Rattle.split_laws.proofs.volumes.Split as split
 use Rattle.split_opening_laws.proofs.cycles.Meets.{count_filter}
@@ -89,7 +88,7 @@ openings_none above s p o cs u w none = openings_carry above s p (λ x ds. NoneL
 -- ---- a cap that becomes a ring
 
 -- a loop that isn't the ring keeps its face, which was there, and of the same solid
-taken_face : (p : Plane) (M : Model) (f g : ℕ) → CanTake M p f g → (l : ℕ) → Has M.loops l → l ≢ outer M g → let N = kfmrh M f g in Has N.faces (face_of N l) →
+taken_face : (p : Plane) (M : Model) (f g : ℕ) → taken.CanTake M p f g → (l : ℕ) → Has M.loops l → l ≢ outer M g → let N = kfmrh M f g in Has N.faces (face_of N l) →
     (face_of N l ≡ face_of M l) × Has M.faces (face_of M l) × (solid_of N (face_of N l) ≡ solid_of M (face_of M l))
 taken_face p M f g w l there ne face_there =
     let N : Model = kfmrh M f g in
@@ -97,7 +96,7 @@ taken_face p M f g w l there ne face_there =
     let other : face_of M l ≢ g = λ q. true≢false (sym face_there ∙ ap is_some (ap (table.get N.faces) (face ∙ q) ∙ taken.face_goes M p f g w)) in
     (face, sym (ap is_some (taken.face_stays M p f g w (face_of M l) other)) ∙ ap (table.has N.faces) (sym face) ∙ face_there, ap (solid_of N) face ∙ taken.solid_same M p f g w (face_of M l) other)
 
-taken_sided : (p : Plane) (s : ℕ) (fs : List ℕ) (M : Model) (f g : ℕ) → CanTake M p f g → AreSided M p s fs → AreSided (kfmrh M f g) p s fs
+taken_sided : (p : Plane) (s : ℕ) (fs : List ℕ) (M : Model) (f g : ℕ) → taken.CanTake M p f g → AreSided M p s fs → AreSided (kfmrh M f g) p s fs
 taken_sided p s fs M f g w sided l h i =
     let N : Model = kfmrh M f g in
     let there : Has M.loops l = sym (taken.loop_there M p f g w l) ∙ i.loop_there in
@@ -109,7 +108,7 @@ taken_sided p s fs M f g w sided l h i =
           ∙ sided l h (record { loop_there = there; face_there = r.1; of_solid = sym r.2 ∙ i.of_solid; item = item })
     ]
 
-taken_none : (p : Plane) (u : ℕ) (M : Model) (f g : ℕ) → CanTake M p f g → NoneLone M u → NoneLone (kfmrh M f g) u
+taken_none : (p : Plane) (u : ℕ) (M : Model) (f g : ℕ) → taken.CanTake M p f g → NoneLone M u → NoneLone (kfmrh M f g) u
 taken_none p u M f g w none l v at face_there of_u =
     let N : Model = kfmrh M f g in
     let is : IsLoneAt M l v = sym (taken.content_same M p f g w l) ∙ at in

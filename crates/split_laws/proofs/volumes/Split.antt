@@ -6,7 +6,6 @@ use Rattle.split_laws.proofs.opened.InTurn.{some_way, openings_keep, openings_li
 use Rattle.split_laws.proofs.Flags.{flags_are, one_outer, solids_still}
 use Rattle.split_laws.proofs.Holes.{AreClosed, some_other}
 use Rattle.split_laws.proofs.Whole as whole
-use Rattle.split_laws.proofs.Whole.{parted_alike}
 
 -- what is of s or of t then was of s
 one_of_two : (b : Bool) (a s t : ℕ) → s ≢ t → (b ≡ true → a ≡ s) → a ≢ t → one_if (nat_eq (cond b t a) s) + one_if (nat_eq (cond b t a) t) ≡ one_if (nat_eq a s)
@@ -171,7 +170,7 @@ module _ (d : Drawing) (above : List ℕ) (s : ℕ) (p : Plane) (t : ℕ) (w : C
 
   -- listing also the caps that are gone changes nothing
   pub split_is : split_drawn d above s p t ≡ part C s t (upper_faces above o.caps)
-  split_is = parted_alike d above s p w.opens bare w.no_stray t
+  split_is = whole.parted_alike d above s p w.opens bare w.no_stray t
 
 -- ---- both parts are solids
 
