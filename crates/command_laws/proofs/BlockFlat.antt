@@ -104,6 +104,15 @@ nothing_more p = omega (arith, ints)
 pub nothing_less : (p : ℤ) → p -ℤ (p +ℤ pos 0) ≡ pos 0
 nothing_less p = omega (arith, ints)
 
+-- the corners of a block's base, but the first
+pub record BaseCorners : Type 0 where
+  pub q : Point
+  pub r : Point
+  pub t : Point
+
+abbrev pub base_corners : Point → ℤ → ℤ → BaseCorners
+base_corners p dx dy = record { q = moved p (vector dx (pos 0) (pos 0)); r = moved p (vector dx dy (pos 0)); t = moved p (vector (pos 0) dy (pos 0)) }
+
 module _ (p : Point) (dx dy dz : ℤ) (x : dx ≢ pos 0) (y : dy ≢ pos 0) (z : dz ≢ pos 0) where
   abbrev up : Point
   up = up_by dz
@@ -120,15 +129,7 @@ module _ (p : Point) (dx dy dz : ℤ) (x : dx ≢ pos 0) (y : dy ≢ pos 0) (z :
   abbrev back_y : Point
   back_y = vector (pos 0) (neg_ℤ dy) (pos 0)
 
-  -- the corners of the base, but the first
-  abbrev q : Point
-  q = moved p along_x
-
-  abbrev r : Point
-  r = moved p (vector dx dy (pos 0))
-
-  abbrev t : Point
-  t = moved p along_y
+  open base_corners p dx dy use {q, r, t}
 
   top_flat : lie_flat (all_moved up (base_of p dx dy)) ≡ true
   top_flat = let a = moved p up in

@@ -3,7 +3,6 @@ use Rattle.command_laws.proofs.Prelude.{◌≡◌, ◌≢◌, ℕ, true, false, 
 use Rattle.euler_operators.specs.Table as table
 use Rattle.shapes.proofs.glue.Facts as facts
 use Rattle.gluing_laws.proofs.Seams as seams
-use Rattle.gluing_laws.proofs.Seams.{Seamed, Glued}
 use Rattle.gluing_laws.proofs.Measures as measures
 use Rattle.gluing_laws.proofs.FromConditions.{seamed, glued}
 use Rattle.gluing_laws.proofs.glue.Glued.{glued_sound}
@@ -22,7 +21,7 @@ was_either a s t e = grind (arith, eqb_tells, eqb-true)
 was_other : (a s t u : ℕ) → u ≢ s → cond (nat_eq a t) s a ≡ u → a ≡ u
 was_other a s t u ne e = grind (arith, eqb_tells, eqb-true)
 
-module _ {M N : Model} {f g : ℕ} {partner_of : ℕ → ℕ} {hs gs : List ℕ} (w : Seamed M f g partner_of hs gs) (n : Glued M N f g partner_of hs) (sound : Sound N) where
+module _ {M N : Model} {f g : ℕ} {partner_of : ℕ → ℕ} {hs gs : List ℕ} (w : seams.Seamed M f g partner_of hs gs) (n : seams.Glued M N f g partner_of hs) (sound : Sound N) where
   -- the solid of a face of this solid of M
   abbrev now_of : ℕ → ℕ
   now_of a = cond (nat_eq a (solid_of M g)) (solid_of M f) a

@@ -7,7 +7,6 @@ use Rattle.euler_laws.proofs.kemr.KemrSound as parted
 use Rattle.euler_laws.proofs.mef.MefSound as drawn
 use Rattle.euler_laws.proofs.mekr.Mekr.{mekr_is}
 use Rattle.euler_laws.proofs.mekr.MekrSound as joins
-use Rattle.euler_laws.proofs.mekr.MekrSound.{join_loops}
 use Rattle.command_laws.proofs.Owners.{Agree, is_of, solid_of_half, solid_of_loop, turned}
 
 -- two models that agree but for one solid
@@ -162,13 +161,13 @@ mfkrh_within l f M sound e = ring_within M sound l f (mfkrh_goes M l f e) (effec
 -- the half-edge that mekr makes is of the solid of its first corner
 module _ (M : Model) (h q l u w : ℕ) (ys xs : List ℕ) (sound : Sound M) (goes : JoinGoes M h q l u w ys xs) where
   abbrev J : Model
-  J = join_loops M h q l u w ys xs
+  J = joins.join_loops M h q l u w ys xs
 
   joined_rows : (k : ℕ) → table.get J.faces k ≡ table.get M.faces k
-  unfolding join_loops
+  unfolding joins.join_loops
   joined_rows k = refl
 
-  joined_half : solid_of_half (join_loops M h q l u w ys xs) h ≡ solid_of_loop M q
+  joined_half : solid_of_half (joins.join_loops M h q l u w ys xs) h ≡ solid_of_loop M q
   joined_half = let set = joins.set sound goes in
       ap (solid_of_loop J) (joins.loop_new sound goes h (inl refl)) ∙ ap (solid_of J) (face_same set q set.apart) ∙ same_solid M J (face_of M q) (joined_rows (face_of M q))
 

@@ -1,5 +1,5 @@
 -- Half-edges and vertices on the loops of faces.
-use Rattle.command_laws.proofs.Prelude.{◌≡◌, ℕ, ◌∷◌, refl, ap, ◌∙◌, subst, ◌⊎◌, inl, inr, arith, IsIn, Model, lone, items_of, tail, content, face_of, outer, rings_of, Sound, Has, lists, from_map, item_there, IsIn-from_listed, first_listed, outer_or_ring, rest_listed, loops_of, vertices_on, ring_listed}
+use Rattle.command_laws.proofs.Prelude.{◌≡◌, ℕ, ◌∷◌, refl, ap, ◌∙◌, subst, ◌⊎◌, inl, inr, arith, IsIn, Model, lone, items_of, tail, content, face_of, outer, rings_of, Sound, Has, lists, from_map, item_there, IsIn-from_listed, first_listed, outer_or_ring, rest_listed, loops_of, vertices_on, ring_listed, HasHalf, mate, after, face_at, loop_of, corners, cycle_there, loop_there, loop_after, half_after, tail_in_face}
 
 -- a vertex on a loop is that of the lone loop, or some item starts there
 pub vertex_cases : (M : Model) (l v : ℕ) → IsIn v (vertices_on M (content M l)) → (content M l ≡ lone v) ⊎ ((h : ℕ) × IsIn h (items_of (content M l)) × (tail M h ≡ v))
@@ -19,3 +19,12 @@ module _ (M : Model) (sound : Sound M) where
     | inl o ↦ ap (λ q. lists (q ∷ rings_of M k) l) o ∙ first_listed l (rings_of M k)
     | inr r ↦ rest_listed (outer M k) l (rings_of M k) (ring_listed M sound k l r)
   ])
+
+-- the ends of a half-edge are corners of its face
+module _ (M : Model) (sound : Sound M) (h : ℕ) (half : HasHalf M h) where
+  pub starts_in : IsIn (tail M h) (corners M (face_at M h))
+  starts_in = tail_in_face M h (loop_of M h) (loop_there M sound h half) (cycle_there M sound h half)
+
+  pub ends_in : IsIn (tail M (mate h)) (corners M (face_at M h))
+  ends_in = subst (λ v. IsIn v (corners M (face_at M h))) (sound.ends_meet h half) (tail_in_face M (after M h) (loop_of M h) (loop_there M sound h half)
+      (subst (λ l. IsIn (after M h) (items_of (content M l))) (loop_after M sound h half) (cycle_there M sound (after M h) (half_after M sound h half))))

@@ -3,12 +3,11 @@ use Rattle.command_laws.proofs.Prelude.{◌≡◌, ◌≢◌, ℕ, zero, suc, �
 use Rattle.euler_operators.specs.Table as table
 use Rattle.sweeps_laws.proofs.prism.Accepted.{face_there, begins}
 use Rattle.sweeps_laws.proofs.prism.Whole as stages
-use Rattle.sweeps_laws.proofs.prism.Whole.{Going, rebased}
 use Rattle.sweeps_laws.proofs.Whole as loops
 
 -- the loops ls of face f are still to be swept along d
 pub record Ready (f s : ℕ) (d : Point) (g : Growing) (ls : List ℕ) : Type 0 where
-  pub going : Going g.model g.model g.taken f d ls
+  pub going : stages.Going g.model g.model g.taken f d ls
   pub there : Has g.model.faces f
   pub solid : solid_of g.model f ≡ s
   pub last : table.greatest g.model.faces ≡ g.taken.face
@@ -49,7 +48,7 @@ module _ {f s : ℕ} (d : Point) {g : Growing} {l : ℕ} {ls : List ℕ} (w : Re
 
   pub after_ready : Ready f s d (record { model = swept g.model g.taken (solid_of g.model f) d (items_of (content g.model l)) f l; taken = taken_after g.taken (length (items_of (content g.model l))) }) ls
   after_ready = record {
-    going = rebased g.model swept_once (taken_after g.taken (length items)) f d ls (stages.next g.model g.model g.taken f l d ls w.going);
+    going = stages.rebased g.model swept_once (taken_after g.taken (length items)) f d ls (stages.next g.model g.model g.taken f l d ls w.going);
     there = there_after g.model g.taken (solid_of g.model f) d items f l has_free path w.there;
     solid = solid_after g.model g.taken (solid_of g.model f) d items f l has_free path w.there ∙ w.solid;
     last = ap table.greatest (faces_grown g.model g.taken (solid_of g.model f) d items (length items))

@@ -100,7 +100,7 @@ normals_are above s p o cs w caps = sym (append-nil (lowers (all_opened p above 
 
 -- ---- two lists that tell the same
 
-no_first : {X : Type 0} {v : X} {vs : List X} → v ∷ vs ≡ [] → ⊥
+pub no_first : {X : Type 0} {v : X} {vs : List X} → v ∷ vs ≡ [] → ⊥
 no_first e = cc
 
 firsts : {X : Type 0} {u v : X} {us vs : List X} → u ∷ us ≡ v ∷ vs → (u ≡ v) × (us ≡ vs)

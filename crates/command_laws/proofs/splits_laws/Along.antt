@@ -15,10 +15,10 @@ pub record ComesOf (M N : Model) (h : ℕ) : Type 0 where
   pub face : face_at N h ≡ face_at M half
   pub beyond : face_at N (mate h) ≡ face_at M (mate half)
 
-parted : (k a b : ℤ) → k *ℤ (a -ℤ b) ≡ k *ℤ a -ℤ k *ℤ b
+pub parted : (k a b : ℤ) → k *ℤ (a -ℤ b) ≡ k *ℤ a -ℤ k *ℤ b
 parted k a b = rw (dif-parts k, dif-parts a, dif-parts b) (simp difs (same_dif _ _ _ _ (omega arith)))
 
-both : (a b x : ℤ) → (a +ℤ b) *ℤ x ≡ a *ℤ x +ℤ b *ℤ x
+pub both : (a b x : ℤ) → (a +ℤ b) *ℤ x ≡ a *ℤ x +ℤ b *ℤ x
 both a b x = rw (dif-parts a, dif-parts b, dif-parts x) (simp difs (same_dif _ _ _ _ (omega arith)))
 
 summed : (l m n : ℕ) (x : ℤ) → pos (l + m + n) *ℤ x ≡ pos l *ℤ x +ℤ pos m *ℤ x +ℤ pos n *ℤ x

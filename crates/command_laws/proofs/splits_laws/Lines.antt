@@ -1,8 +1,9 @@
 -- Opening a solid makes no lines: each half-edge starts and ends where one did before. So each half-edge of the parts of a split lies on its plane, or
 -- leads along one of the solid that was split.
-use Rattle.command_laws.proofs.Prelude.{◌≡◌, ◌⊎◌, ℕ, zero, suc, ◌+◌, ◌<◌, pos, Bool, true, List, [], map, filter, get_or, length, refl, sym, ap, subst, ◌∙◌, arith, inl, inr, true≢false, eq-eqb, eqb-true, eqb_tells, nat_tests, Plane, IsIn, edge_of, is_on, mate, plus, minus, Model, face_at, point_of, solid_of, tail, Sound, HasHalf, part, edge_of-mate, IsIn-get_or, mate-mate, mate_minus, mate_plus, mate_there, tick_other, halves_of_edge, listed_front, Drawing, Opening, Taken, below_halves, faces_above, finish, holes_closed, numbers_after, opened_along, opened_at, outer_caps, scaled, section_cycles, start, towards, with_crossings, with_drawings, CanBegin, crossings_measured, solid_stays, start_stays, upper_faces, CanBeOpened, IsBelowHalf, opened_sound, can_open, openings_carry, half_cases, begins, back_along, finish_old, start_old, Machine, held, IsSplit, EndsOn, LeadsAlong, LeadsAlongSolid, SplitsMakeNoLines, IsOfEither}
+use Rattle.command_laws.proofs.Prelude.{◌≡◌, ◌⊎◌, ℕ, suc, ◌+◌, ◌<◌, pos, Bool, true, List, [], map, filter, get_or, length, refl, sym, ap, subst, ◌∙◌, arith, inl, inr, true≢false, eq-eqb, eqb-true, eqb_tells, nat_tests, Plane, edge_of, is_on, mate, plus, minus, Model, face_at, point_of, solid_of, tail, Sound, HasHalf, edge_of-mate, IsIn-get_or, mate-mate, mate_minus, mate_plus, mate_there, halves_of_edge, listed_front, Taken, below_halves, finish, opened_along, outer_caps, scaled, section_cycles, start, towards, CanBegin, crossings_measured, solid_stays, start_stays, upper_faces, CanBeOpened, IsBelowHalf, opened_sound, can_open, openings_carry, half_cases, begins, back_along, finish_old, start_old, Machine, held, IsSplit, EndsOn, LeadsAlong, LeadsAlongSolid, SplitsMakeNoLines, IsOfEither, stages}
 use Rattle.euler_operators.specs.Table as table
 use Rattle.split_laws.proofs.volumes.Split as split
+use Rattle.split_laws.proofs.opened.Caps.{numbers_place}
 use Rattle.command_laws.proofs.splits_laws.Along.{half_comes}
 use Rattle.command_laws.proofs.splits_laws.NewEdges.{IsDrawnOn, drawings_on}
 use Rattle.command_laws.proofs.Inner.{AgreeBut}
@@ -37,13 +38,6 @@ retraced_on D N K s b v w h there =
 
 -- ---- opened along one cycle
 
-place_in : (k n x : ℕ) → IsIn x (numbers_after k n) → (j : ℕ) × (j < n) × (x ≡ k + suc j)
-place_in k zero x i = absurd (omega (arith, i))
-place_in k (suc n) x i = elim (eqb_tells x (k + 1)) [
-  | inl e ↦ (0, omega arith, e.1)
-  | inr e ↦ let r = place_in (k + 1) n x (omega (arith, i, tick_other x (k + 1) e.1)) in (suc r.0, omega (arith, r.1), omega (arith, r.2))
-]
-
 module _ (M : Model) (above : List ℕ) (s : ℕ) (c : Taken) (bs : List ℕ) (w : CanBeOpened M above s c bs) (within : AgreeBut s M (opened_along M above s c bs)) where
   abbrev N : Model
   N = opened_along M above s c bs
@@ -76,7 +70,7 @@ module _ (M : Model) (above : List ℕ) (s : ℕ) (c : Taken) (bs : List ℕ) (w
   opened_retraces : Retraced M (opened_along M above s c bs) s (is_of s)
   opened_retraces h there = elim (half_cases M above s c bs w.sound w.free h there) [
     | inl old ↦ record { half = h; there = old; starts = start_old M above s c bs w h old; ends = finish_old M above s c bs w h old; solid = was_of M N s (is_of s) within h old }
-    | inr r ↦ let i = place_in c.edge (length bs) (edge_of h) r.0 in elim (halves_of_edge h) [
+    | inr r ↦ let i = numbers_place c.edge (length bs) (edge_of h) r.0 in elim (halves_of_edge h) [
       | inl e ↦ subst Back (sym (e.0 ∙ ap plus i.2)) (plus_retraces i.0 i.1)
       | inr e ↦ subst Back (sym (e.0 ∙ ap minus i.2)) (minus_retraces i.0 i.1)
     ]
@@ -100,23 +94,7 @@ module _ (before after : Machine) (s : ℕ) (p : Plane) (t : ℕ) (sound : Sound
   abbrev M : Model
   M = held before
 
-  abbrev C : Model
-  C = (with_crossings M s p).model
-
-  abbrev d : Drawing
-  d = with_drawings M s p
-
-  abbrev above : List ℕ
-  above = faces_above d.model p s
-
-  abbrev X : Opening
-  X = opened_at d above s p
-
-  abbrev K : Model
-  K = holes_closed X.model X.caps
-
-  abbrev P : Model
-  P = part K s t (upper_faces above X.caps)
+  open stages M s p t use {cut as C, drawing as d, above, opened as X, closed as K, parted as P}
 
   pub begun : CanBegin M s p t
   begun = begins M s p t sound made.0

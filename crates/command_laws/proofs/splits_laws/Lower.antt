@@ -165,7 +165,7 @@ module _ (Low : ℕ → Type 0) (B : Model) (side : ℕ → Bool) (s : ℕ) (all
 
 -- ---- a split
 
-other_side : (a b c d : Bool) → ((a && b) || (c && d)) ≡ true → d ≡ false → b ≡ true
+pub other_side : (a b c d : Bool) → ((a && b) || (c && d)) ≡ true → d ≡ false → b ≡ true
 other_side a b c d e f = grind arith
 
 second_false : (a b : Bool) → (a || b) ≡ false → b ≡ false

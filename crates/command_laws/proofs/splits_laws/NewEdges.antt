@@ -1,8 +1,7 @@
 -- The edges that are drawn in the faces that straddle a plane lie on the plane.
-use Rattle.command_laws.proofs.Prelude.{◌≡◌, ◌⊎◌, ℕ, ◌+◌, Bool, true, false, cond, nat_eq, nat_lt, ◌&&◌, List, [], ◌∷◌, length, fold, None, IsTrue, refl, sym, ap, subst, ◌∙◌, inl, inr, eqb-true, Plane, is_on, is_number, is_ring_of, plus, minus, Model, face_at, has_rings, loop_of, point_of, tail, effect, ring_in, Sound, HasHalf, Drawing, FacePairs, all_drawn, all_joined, draw_next, drawn_between, in_one_loop, join_edge, join_next, join_pair, next_drawn, ring_free, rings_above, start, straddling_pairs, stuck_at, undrawn, with_crossings, with_drawings, with_rings, CanBegin, DrawnIn, JoinedIn, Stays, AllFit, Fits, Drawable, Joining, Ready, side_of, AllCross, Crosses, FacesCross, CanDraw, CanJoin, face_drawn, loops_joined, above_apart, are_rings, begun_joining, fitting, going_free, last, newer_face, all_of_last, can_now, draws_keep, edge_fits_now, edge_free, joins_keep, Newer, RingOf, ring_back, ring_goes, ring_stays, rings_keep, draw_stays, draw_tails, join_stays, join_tails, start_stays, stays_on, drawable, drawable_on, next_is, ready, take_sides, halves_drawn, halves_joined, can_be_drawn}
-use Rattle.euler_operators.specs.Table as table
-use Rattle.split_drawing_laws.specs.drawings.Passing.{Going}
-use Rattle.split_drawing_laws.proofs.drawings.Pairs.{can_back, can_on}
+use Rattle.command_laws.proofs.Prelude.{◌≡◌, ◌⊎◌, ℕ, Bool, true, refl, sym, ap, ◌∙◌, inl, inr, Plane, is_on, plus, minus, Model, point_of, tail, ring_in, Sound, HasHalf, start, straddling_pairs, undrawn, with_crossings, with_drawings, CanBegin, DrawnIn, Stays, side_of, Crosses, face_drawn, loops_joined, Newer, RingOf, ring_back, ring_goes, ring_stays, draw_stays, draw_tails, join_stays, join_tails, start_stays, stays_on, drawable, take_sides, halves_drawn, halves_joined, can_be_drawn}
+use Rattle.split_drawing_laws.proofs.loop_sides.Between.{IsKept, faces_kept}
+use Rattle.split_drawing_laws.proofs.loop_sides.SidesWhole.{crosses_back}
 
 -- N is B with edges drawn: each half-edge that is new starts on the plane
 pub record IsDrawnOn (B : Model) (p : Plane) (N : Model) : Type 0 where
@@ -35,39 +34,6 @@ module _ (B : Model) (p : Plane) (first : ℕ → Bool) where
     one_more : IsDrawnOn B p K
     one_more = record { stays = then_stays; news = new_starts }
 
-  drawn_on : (N : Model) (q : ℕ × ℕ) (e f l : ℕ) → CanDraw N q.0 q.1 e f l → Crosses B p first q → IsDrawnOn B p N → IsDrawnOn B p (face_drawn N q.0 q.1 e f l)
-  drawn_on N q e f l can cross w = one_more N (face_drawn N q.0 q.1 e f l) q.0 q.1 e cross.u_there cross.k_there cross.u_on cross.k_on w (draw_stays N q.0 q.1 e f l can) (halves_drawn N q.0 q.1 e f l can) (draw_tails N q.0 q.1 e f l can)
-
-  joined_on : (N : Model) (c d e : ℕ) → HasHalf B c → HasHalf B d → is_on p (start B c) ≡ true → is_on p (start B d) ≡ true → CanJoin N c d e → IsDrawnOn B p N → IsDrawnOn B p (loops_joined N c d e)
-  joined_on N c d e c_there d_there c_on d_on can w = one_more N (loops_joined N c d e) c d e c_there d_there c_on d_on w (join_stays N c d e can) (halves_joined N c d e can) (join_tails N c d e can)
-
-  pair_on : (M : Model) (f : ℕ) (N : Model) (q : ℕ × ℕ) (e : ℕ) → JoinedIn M N f → Fits M f q → in_one_loop N q ≡ false → table.get N.edges e ≡ None → IsTrue (is_number e) → Crosses B p first q → IsDrawnOn B p N → IsDrawnOn B p (effect N (join_pair N q e))
-  pair_on M f N q e joined fits two free efits cross w = by_ring (is_ring_of N (face_at N q.0) (loop_of N q.0)) refl where
-    by_ring : (b : Bool) → is_ring_of N (face_at N q.0) (loop_of N q.0) ≡ b → IsDrawnOn B p (effect N (cond b (join_edge q.1 q.0 e) (join_edge q.0 q.1 e)))
-    by_ring true r = joined_on N q.1 q.0 e cross.k_there cross.u_there cross.k_on cross.u_on (can_back M N f q e joined fits two free efits r) w
-    by_ring false r = joined_on N q.0 q.1 e cross.u_there cross.k_there cross.u_on cross.k_on (can_on M N f q e joined fits two free efits r) w
-
-  -- ---- the two passes
-
-  module _ (M : Model) (f : ℕ) where
-    abbrev AtJoin : Drawing → List (ℕ × ℕ) → Type 0
-    AtJoin d qs = AllCross B p first d.left × IsDrawnOn B p d.model × AllCross B p first qs
-
-    joins_on : (d : Drawing) (qs : List (ℕ × ℕ)) (n : ℕ) → AllFit M f qs → Joining M f d qs n → AtJoin d qs → AtJoin (fold join_next d qs) []
-    joins_on d qs n fit w a = joins_keep M f AtJoin
-        (λ d q qs n fits w e a. (all_of_last (Crosses B p first) d.left q a.0 a.2.0, a.1, a.2.1))
-        (λ d q qs n fits w e a. (a.0, pair_on M f d.model q (d.taken.edge + 1) w.joined fits e (edge_free M f d q qs n fits w) (edge_fits_now M f d q qs n fits w) a.2.0 a.1, a.2.1)) d qs n fit w a
-
-    abbrev AtDraw : Drawing → List (ℕ × ℕ) → Type 0
-    AtDraw d qs = IsDrawnOn B p d.model × AllCross B p first qs
-
-    draws_on : (d : Drawing) (qs : List (ℕ × ℕ)) (n : ℕ) → Sound M → AllFit M f qs → Going M f d qs n → AtDraw d qs → AtDraw (fold (draw_next f) d qs) []
-    draws_on d qs n sound fit w a = draws_keep M f AtDraw sound
-        (λ d q qs n fits w e a. (a.0, a.1.1))
-        (λ d q qs n fits w e a. (drawn_on d.model q (d.taken.edge + 1) (d.taken.face + 1) (d.taken.loop + 1) (can_now M f sound d q qs n fits w e) a.1.0 a.0, a.1.1)) d qs n fit w a
-
-  -- ---- a whole face
-
   ring_on : (M : Model) (f k : ℕ) (N : Model) (l : ℕ) → DrawnIn M N f → RingOf N f l → Newer M N f k → IsDrawnOn B p N → IsDrawnOn B p (ring_in N l k)
   ring_on M f k N l drawn ring newer w =
       let goes = ring_goes M N f l k drawn ring newer in
@@ -80,45 +46,23 @@ module _ (B : Model) (p : Plane) (first : ℕ → Bool) where
         ];
       }
 
-  module _ (f : ℕ) (qs : List (ℕ × ℕ)) (d : Drawing) (n : ℕ) (w : Ready p f qs d n) (cross : AllCross B p first qs) (now : IsDrawnOn B p d.model) where
-    abbrev J : Drawing
-    J = all_joined qs d
-
-    abbrev R : Drawing
-    R = ring_free f qs J
-
-    abbrev L : Drawing
-    L = all_drawn f R
-
-    at_joined : AtJoin d.model f J []
-    at_joined = joins_on d.model f (record d { left = [] }) qs n w.fit (begun_joining p f qs d n w) (tt, now, cross)
-
-    at_left : AtDraw d.model f (ring_free f qs (all_joined qs d)) (ring_free f qs (all_joined qs d)).left
-    at_left = left_or_stuck (nat_lt 1 (length qs) && has_rings J.model f) (at_joined.1, at_joined.0) where
-      left_or_stuck : (b : Bool) → AtDraw d.model f J J.left → AtDraw d.model f (cond b (stuck_at f J) J) (cond b (stuck_at f J) J).left
-      left_or_stuck true a = a
-      left_or_stuck false a = a
-
-    at_drawn : IsDrawnOn B p L.model
-    at_drawn = (draws_on d.model f R R.left n w.sound (fitting p f qs d n w) (going_free p f qs d n w) at_left).0
-
-    face_on : IsDrawnOn B p (drawn_between p f qs d).model
-    face_on = shared_or_not (nat_eq (length qs) 1) refl where
-      shared_or_not : (b : Bool) → nat_eq (length qs) 1 ≡ b → IsDrawnOn B p (cond b (record L { model = with_rings L.model (rings_above L.model p f) L.taken.face }) L).model
-      shared_or_not true e = rings_keep d.model f L.taken.face (IsDrawnOn B p) (λ N l. ring_on d.model f L.taken.face N l) L.model (rings_above L.model p f) (last p f qs d n w).drawn
-          (are_rings p f qs d n w) (above_apart p f qs d n w) (newer_face p f qs d n w (eqb-true (length qs) 1 e)) at_drawn
-      shared_or_not false e = at_drawn
-
-  faces_on : (d : Drawing) (fs : List FacePairs) (n : ℕ) → Drawable d fs n → FacesCross B p first fs → IsDrawnOn B p d.model → IsDrawnOn B p (fold (next_drawn p) d fs).model
-  faces_on d [] n w cross now = now
-  faces_on d (f ∷ fs) n w cross now = faces_on (next_drawn p d f) fs n (drawable_on p d f fs n w) cross.1
-      (subst (λ x. IsDrawnOn B p x.model) (sym (next_is p d f fs n w)) (face_on f.face f.pairs d _ (ready p d f fs n w) cross.0 now))
+  new_edges_kept : IsKept (Crosses B p first) (λ n N places. IsDrawnOn B p N)
+  new_edges_kept = record {
+    turned = crosses_back B p first;
+    join = λ n N c d e places rest can cross closes w.
+        one_more N (loops_joined N c d e) c d e cross.u_there cross.k_there cross.u_on cross.k_on w (join_stays N c d e can) (halves_joined N c d e can) (join_tails N c d e can);
+    draw = λ n N c d e f l places rest can cross closes w.
+        one_more N (face_drawn N c d e f l) c d e cross.u_there cross.k_there cross.u_on cross.k_on w (draw_stays N c d e f l can) (halves_drawn N c d e f l can) (draw_tails N c d e f l can);
+    stop = λ f d places rest some less w. w;
+    move = λ n M f k N l places drawn ring newer w. ring_on M f k N l drawn ring newer w;
+  }
 
 -- ---- the faces of a solid that straddle
 
 pub drawings_on : (M : Model) (s : ℕ) (p : Plane) (t : ℕ) → Sound M → CanBegin M s p t → IsDrawnOn (with_crossings M s p).model p (with_drawings M s p).model
 unfolding with_drawings
 drawings_on M s p t sound begun =
-    let C : Model = (with_crossings M s p).model in
-    faces_on C p (side_of M s p) (undrawn (with_crossings M s p)) (straddling_pairs M s p) 0 (drawable (with_crossings M s p) (straddling_pairs M s p) (can_be_drawn M s p t sound begun)) (take_sides M s p t sound begun).cross
+    let C : Model = (with_crossings M s p).model in let sides = take_sides M s p t sound begun in
+    faces_kept p (Crosses C p (side_of M s p)) (λ n N places. IsDrawnOn C p N) (new_edges_kept C p (side_of M s p)) (undrawn (with_crossings M s p)) (straddling_pairs M s p) 0
+    (drawable (with_crossings M s p) (straddling_pairs M s p) (can_be_drawn M s p t sound begun)) sides.some sides.cross
     (record { stays = record { halves = λ h there. there; tails = λ h there. refl; vertices = refl; faces = λ g there. there }; news = λ x there. inl there })

@@ -1,5 +1,5 @@
 -- The faces of a solid that was split: those that the plane doesn't straddle are of the part on their side.
-use Rattle.command_laws.proofs.Prelude.{list_any, ◌≡◌, ◌≢◌, ℕ, ◌+◌, ◌≤◌, Bool, true, false, cond, not, ◌&&◌, ◌||◌, List, [], ◌∷◌, ◌++◌, length, nat_eq, None, Some, is_some, pos, int_lt, refl, sym, ap, subst, ◌∙◌, arith, true≢false, inl, inr, filter, map, option_map, false_from_ne_true, flat_map-append, map-append, Plane, Point, direction, dot, is_above, is_below, count, IsIn, mate, plus, Model, FaceRow, LoopContent, content, cycle, face_of, faces_of, items_of, lone, outer, point_of, rings_of, solid_of, tail, Sound, Has, face_at, lists, kfmrh, part, IsIn_or_not, count-append, tick_other, tick_same, from_map, IsIn-filter, IsIn_rest, filter_passes, IsIn_head, item_loop, number_real, outer_row, solid_row, in_use_within, IsIn-from_listed, listed-from_in, face_there, solid_either, same_tail, corners, loops_of, start, vertices_in, vertices_on, Taken, numbers_after, is_flat, normal, face_is_above, faces_above, straddles, Drawing, with_drawings, below_halves, section_cycles, Caps, Opening, holes_closed, opened_along, outer_caps, opened_at, split_refusal, IsReplaced, content_stays, face_of_loop, loops_agree, in_solid, all_flat, cap_faces, upper_faces, CanBeOpenedInTurn, CanBeOpened, renamed_not, can_open, new_caps, opened_next, openings_carry, CanBeSplit, holes_counted, begins, drawn_sound, can_be_split, is_rewritten, swap, closing, closing_leads, CanTake, held, StandsAsBefore, corner_points, loop_points, AreTurned, IsTakenOver, SplitKeepsBelow, SplitSharesFaces}
+use Rattle.command_laws.proofs.Prelude.{list_any, ◌≡◌, ◌≢◌, ℕ, ◌+◌, ◌≤◌, Bool, true, false, cond, not, ◌&&◌, ◌||◌, List, [], ◌∷◌, ◌++◌, length, nat_eq, None, Some, is_some, pos, int_lt, refl, sym, ap, subst, ◌∙◌, arith, true≢false, inl, inr, filter, map, option_map, false_from_ne_true, flat_map-append, map-append, Plane, Point, direction, dot, is_above, is_below, count, IsIn, mate, plus, Model, FaceRow, LoopContent, content, cycle, face_of, faces_of, items_of, lone, outer, point_of, rings_of, solid_of, tail, Sound, Has, face_at, lists, kfmrh, part, IsIn_or_not, count-append, tick_other, tick_same, from_map, IsIn-filter, IsIn_rest, filter_passes, IsIn_head, item_loop, number_real, outer_row, solid_row, in_use_within, IsIn-from_listed, listed-from_in, face_there, solid_either, same_tail, corners, loops_of, start, vertices_in, vertices_on, Taken, numbers_after, is_flat, normal, face_is_above, faces_above, straddles, with_drawings, below_halves, section_cycles, Caps, Opening, holes_closed, opened_along, outer_caps, opened_at, split_refusal, IsReplaced, content_stays, face_of_loop, loops_agree, in_solid, all_flat, cap_faces, upper_faces, CanBeOpenedInTurn, CanBeOpened, renamed_not, can_open, new_caps, opened_next, openings_carry, CanBeSplit, holes_counted, begins, drawn_sound, can_be_split, is_rewritten, swap, closing, closing_leads, CanTake, held, StandsAsBefore, corner_points, loop_points, AreTurned, IsTakenOver, SplitKeepsBelow, SplitSharesFaces, stages}
 use Rattle.euler_operators.specs.Table as table
 use Rattle.euler_laws.proofs.Common.{same_point}
 use Rattle.split_laws.proofs.opened.Kept as kept
@@ -150,7 +150,7 @@ module _ (K : Model) (s t : ℕ) (us : List ℕ) (k : ℕ) (there : Has K.faces 
     normal = split.normal_same K s t us k;
   }
 
-uppers_counted : (k : ℕ) (ks : List Caps) → count k (map (λ c. c.upper) ks) ≤ count k (cap_faces ks)
+pub uppers_counted : (k : ℕ) (ks : List Caps) → count k (map (λ c. c.upper) ks) ≤ count k (cap_faces ks)
 uppers_counted k [] = omega arith
 uppers_counted k (c ∷ cs) = omega (arith, uppers_counted k cs)
 
@@ -171,23 +171,7 @@ module _ (M D : Model) (p : Plane) (k : ℕ) (w : StandsAsBefore M D k) (same : 
 -- ---- a split that isn't refused: what becomes of a face of the drawn model
 
 module _ (M : Model) (s : ℕ) (p : Plane) (t : ℕ) (sound : Sound M) (accepted : split_refusal M s p t ≡ None) (k : ℕ) (there : Has (with_drawings M s p).model.faces k) (of : solid_of (with_drawings M s p).model k ≡ s) where
-  abbrev d : Drawing
-  d = with_drawings M s p
-
-  abbrev above : List ℕ
-  above = faces_above d.model p s
-
-  abbrev X : Opening
-  X = opened_at d above s p
-
-  abbrev K : Model
-  K = holes_closed X.model X.caps
-
-  abbrev us : List ℕ
-  us = upper_faces above X.caps
-
-  abbrev parted : Model
-  parted = part K s t us
+  open stages M s p t use {drawing as d, above, opened as X, closed as K, upper as us, parted}
 
   can : CanBeSplit d above s p t
   can = can_be_split M s p t sound accepted

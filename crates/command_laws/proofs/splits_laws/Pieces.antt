@@ -1,5 +1,5 @@
 -- The faces of the two parts of a split: those of the solid, pieces of those that straddle the plane, and caps.
-use Rattle.command_laws.proofs.Prelude.{◌≡◌, ◌⊎◌, ℕ, ◌+◌, Bool, true, false, cond, not, pos, int_lt, ◌≢◌, ◌&&◌, ◌||◌, List, [], ◌∷◌, ◌++◌, length, None, is_some, refl, sym, ap, subst, ◌∙◌, arith, inl, inr, true≢false, and_parts, eqb_tells, flat_map-append, Plane, IsIn, count, direction, dot, face_at, origin, same_point, Model, solid_of, faces_of, Sound, Has, kfmrh, part, IsIn-filter, count-append, get-remove_here, get-remove_other, no_row, row_some, same_solid, tick_same, half_face, listed-from_in, mapped_some, corners, normal, is_plane_of, plane_of, reaches_above, reaches_below, straddles, faces_above, straddling_faces, Drawing, with_drawings, below_halves, section_cycles, Caps, Opening, holes_closed, opened_along, opened_at, face_is_above, are_on, face_listed, get-put_cases, drawn_lies, cap_faces, upper_faces, new_caps, opened_next, openings_carry, CanBeSplit, crossings_keep, CanBegin, begins, drawn_sound, drawn_stays, never_stuck, none_straddles, in_solid, can_be_split, closing_carries, Machine, held, IsSplit, HasNewFace, IsCap, IsOfEither, IsPiece, LiesInPlaneOf, SplitKeepsPlanes, SplitPartsFaces, StraddlingGoAbove, StraddlingStayBelow}
+use Rattle.command_laws.proofs.Prelude.{◌≡◌, ◌⊎◌, ℕ, ◌+◌, Bool, true, false, cond, not, pos, int_lt, ◌≢◌, ◌&&◌, ◌||◌, List, [], ◌∷◌, ◌++◌, length, None, is_some, refl, sym, ap, subst, ◌∙◌, arith, inl, inr, true≢false, and_parts, eqb_tells, flat_map-append, Plane, IsIn, count, direction, dot, face_at, origin, same_point, Model, solid_of, faces_of, Sound, Has, kfmrh, part, IsIn-filter, count-append, get-remove_here, get-remove_other, no_row, row_some, same_solid, tick_same, half_face, listed-from_in, mapped_some, corners, normal, is_plane_of, plane_of, reaches_above, reaches_below, straddles, straddling_faces, below_halves, section_cycles, Caps, Opening, opened_along, face_is_above, are_on, face_listed, get-put_cases, drawn_lies, cap_faces, new_caps, opened_next, openings_carry, CanBeSplit, crossings_keep, CanBegin, begins, drawn_sound, drawn_stays, never_stuck, none_straddles, in_solid, can_be_split, closing_carries, Machine, held, IsSplit, HasNewFace, IsCap, IsOfEither, IsPiece, LiesInPlaneOf, SplitKeepsPlanes, SplitPartsFaces, StraddlingGoAbove, StraddlingStayBelow, stages}
 use Rattle.euler_operators.specs.Table as table
 use Rattle.split_opening_laws.proofs.sections.OpenedRows as rows
 use Rattle.split_laws.proofs.volumes.Split as split
@@ -60,17 +60,7 @@ module _ (before after : Machine) (s : ℕ) (p : Plane) (t : ℕ) (sound : Sound
   abbrev M : Model
   M = held before
 
-  abbrev d : Drawing
-  d = with_drawings M s p
-
-  abbrev above : List ℕ
-  above = faces_above d.model p s
-
-  abbrev X : Opening
-  X = opened_at d above s p
-
-  abbrev N : Model
-  N = part (holes_closed X.model X.caps) s t (upper_faces above X.caps)
+  open stages M s p t use {drawing as d, above, opened as X, parted as N}
 
   can : CanBeSplit d above s p t
   can = can_be_split M s p t sound made.0
@@ -83,7 +73,7 @@ module _ (before after : Machine) (s : ℕ) (p : Plane) (t : ℕ) (sound : Sound
 
   -- a face of the drawn solid goes to one of the parts, and stays on its planes
   part_either : (k : ℕ) → Has d.model.faces k → solid_of d.model k ≡ s → IsOfEither N s t k
-  part_either k there of = grind (arith, part_of)
+  part_either k there of = let side : solid_of N k ≡ cond (face_is_above d.model p k) t s = part_of M s p t sound made.0 k there of in grind arith
 
   part_lies : (k : ℕ) (r : Plane) → Has d.model.faces k → solid_of d.model k ≡ s → is_plane_of d.model r (corners d.model k) ≡ true → is_plane_of N r (corners N k) ≡ true
   part_lies k r there of on =

@@ -1,7 +1,7 @@
 -- A face that the plane doesn't straddle stands as it did once the edges are cut and the faces drawn that do.
-use Rattle.command_laws.proofs.Prelude.{◌≡◌, ◌≢◌, ℕ, ◌+◌, Bool, true, false, ◌&&◌, ◌||◌, List, [], ◌∷◌, None, Some, is_some, refl, sym, ap, subst, ◌∙◌, arith, true≢false, inl, inr, ◌⊎◌, fold, map, false_from_ne_true, Plane, are_opposite, count, IsIn, edge_of, mate, minus, plus, Model, after, content, face_of, items_of, loop_of, point_of, rings_of, tail, Sound, Has, HasHalf, face_at, lists, edge_row, ring_in, mate_minus, mate_plus, minus_row, plus_row, IsIn_or_not, tick_same, filter_passes, cycle_there, face_row, in-holds, loop_there, mate_there, same_face, halves_of_edge, half_after, loop_after, IsIn-from_listed, listed-from_in, edge_there, corners, vertices_on, crossing_edges, straddles, with_crossings, Drawing, FacePairs, drawn_between, next_drawn, straddling_pairs, undrawn, with_drawings, split_refusal, Kept, CanBegin, DrawnIn, Fits, pairs_in, Drawable, Ready, any_passes, edge_facts, tail_in_face, crossings_keep, faces_are, CanDraw, CanJoin, face_drawn_else, loops_joined_faces, face_drawn, loops_joined, between_keeps, Newer, RingOf, row_else, row_gone, row_joined, row_other, drawable, drawable_on, next_is, ready, never_free, new_loop_face, old_loop_face, can_be_drawn, begins, drawn_stays, StandsAsBefore}
+use Rattle.command_laws.proofs.Prelude.{◌≡◌, ◌≢◌, ℕ, ◌+◌, Bool, true, false, ◌&&◌, ◌||◌, List, [], ◌∷◌, None, Some, is_some, refl, sym, ap, subst, ◌∙◌, arith, true≢false, inl, inr, ◌⊎◌, fold, map, false_from_ne_true, Plane, are_opposite, count, IsIn, edge_of, mate, minus, plus, Model, content, face_of, items_of, loop_of, point_of, rings_of, tail, Sound, Has, HasHalf, face_at, lists, edge_row, ring_in, mate_minus, mate_plus, minus_row, plus_row, IsIn_or_not, tick_same, filter_passes, face_row, in-holds, mate_there, same_face, halves_of_edge, IsIn-from_listed, listed-from_in, edge_there, corners, vertices_on, crossing_edges, straddles, with_crossings, Drawing, FacePairs, drawn_between, next_drawn, straddling_pairs, undrawn, with_drawings, split_refusal, Kept, CanBegin, DrawnIn, Fits, pairs_in, Drawable, Ready, any_passes, edge_facts, crossings_keep, faces_are, CanDraw, CanJoin, face_drawn_else, loops_joined_faces, face_drawn, loops_joined, between_keeps, Newer, RingOf, row_else, row_gone, row_joined, row_other, drawable, drawable_on, next_is, ready, never_free, new_loop_face, old_loop_face, can_be_drawn, begins, drawn_stays, StandsAsBefore, stages}
 use Rattle.euler_operators.specs.Table as table
-use Rattle.command_laws.proofs.OnFaces.{vertex_there}
+use Rattle.command_laws.proofs.OnFaces.{vertex_there, starts_in, ends_in}
 use Rattle.command_laws.proofs.Standing.{rings_same, stands, stands_turned}
 use Rattle.command_laws.proofs.Turned.{IsTurned}
 use Rattle.command_laws.proofs.splits_laws.DrawnWithin.{IsClear, uncut_edge, uncut_loop}
@@ -77,48 +77,38 @@ both_straddle : (M : Model) (p : Plane) (k a b : ℕ) → IsIn a (corners M k) �
 unfolding straddles
 both_straddle M p k a b i j e = grind (arith, any_passes, opposite_cases)
 
+-- ---- the half-edges of a face that doesn't straddle aren't cut
+
+module _ (M : Model) (s : ℕ) (p : Plane) (sound : Sound M) (k : ℕ) (whole : straddles M p k ≡ false) (h : ℕ) (half : HasHalf M h) (at : face_at M h ≡ k) where
+  abbrev e : ℕ
+  e = edge_of h
+
+  both_ends : IsIn (tail M (plus e)) (corners M k) × IsIn (tail M (mate (plus e))) (corners M k)
+  both_ends =
+      let starts : IsIn (tail M h) (corners M k) = subst (λ f. IsIn (tail M h) (corners M f)) at (starts_in M sound h half) in
+      let ends : IsIn (tail M (mate h)) (corners M k) = subst (λ f. IsIn (tail M (mate h)) (corners M f)) at (ends_in M sound h half) in
+      elim (halves_of_edge h) [
+        | inl a ↦ subst (λ x. IsIn (tail M x) (corners M k) × IsIn (tail M (mate x)) (corners M k)) a.0 (starts, ends)
+        | inr a ↦ (
+          subst (λ x. IsIn (tail M x) (corners M k)) (ap mate a.0 ∙ mate_minus e) ends,
+          subst (λ x. IsIn (tail M x) (corners M k)) (a.0 ∙ sym (mate_plus e)) starts,
+        )
+      ]
+
+  pub uncut : lists (crossing_edges M p s) (edge_of h) ≡ false
+  uncut = false_from_ne_true (lists (crossing_edges M p s) e) (λ l. true≢false (sym (both_straddle M p k (tail M (plus e)) (tail M (mate (plus e))) both_ends.0 both_ends.1
+      (edge_facts M sound s p e (IsIn-from_listed e (crossing_edges M p s) l)).2) ∙ whole))
+
 -- ---- both rewritings
 
 module _ (M : Model) (s : ℕ) (p : Plane) (t : ℕ) (sound : Sound M) (accepted : split_refusal M s p t ≡ None) (k : ℕ) (there : Has M.faces k) (whole : straddles M p k ≡ false) where
-  abbrev C : Model
-  C = (with_crossings M s p).model
-
-  abbrev D : Model
-  D = (with_drawings M s p).model
+  open stages M s p t use {cut as C, drawn as D}
 
   begun : CanBegin M s p t
   begun = begins M s p t sound accepted
 
   kept : Kept M C
   kept = crossings_keep M s p t sound begun
-
-  -- ---- its half-edges aren't cut
-
-  module _ (h : ℕ) (half : HasHalf M h) (at : face_at M h ≡ k) where
-    corner_of : (x : ℕ) → HasHalf M x → loop_of M x ≡ loop_of M h → IsIn (tail M x) (corners M k)
-    corner_of x has same = subst (λ f. IsIn (tail M x) (corners M f)) (ap (face_of M) same ∙ at) (tail_in_face M x (loop_of M x) (loop_there M sound x has) (cycle_there M sound x has))
-
-    starts : IsIn (tail M h) (corners M k)
-    starts = corner_of h half refl
-
-    ends : IsIn (tail M (mate h)) (corners M k)
-    ends = subst (λ v. IsIn v (corners M k)) (sound.ends_meet h half) (corner_of (after M h) (half_after M sound h half) (loop_after M sound h half))
-
-    abbrev e : ℕ
-    e = edge_of h
-
-    both_ends : IsIn (tail M (plus e)) (corners M k) × IsIn (tail M (mate (plus e))) (corners M k)
-    both_ends = elim (halves_of_edge h) [
-      | inl a ↦ subst (λ x. IsIn (tail M x) (corners M k) × IsIn (tail M (mate x)) (corners M k)) a.0 (starts, ends)
-      | inr a ↦ (
-        subst (λ x. IsIn (tail M x) (corners M k)) (ap mate a.0 ∙ mate_minus e) ends,
-        subst (λ x. IsIn (tail M x) (corners M k)) (a.0 ∙ sym (mate_plus e)) starts,
-      )
-    ]
-
-    uncut : lists (crossing_edges M p s) (edge_of h) ≡ false
-    uncut = false_from_ne_true (lists (crossing_edges M p s) e) (λ l. true≢false (sym (both_straddle M p k (tail M (plus e)) (tail M (mate (plus e))) both_ends.0 both_ends.1
-        (edge_facts M sound s p e (IsIn-from_listed e (crossing_edges M p s) l)).2) ∙ whole))
 
   -- ---- so edges, loops and points stay
 
@@ -128,7 +118,7 @@ module _ (M : Model) (s : ℕ) (p : Plane) (t : ℕ) (sound : Sound M) (accepted
       let now = kept.halves h half in
       let other = kept.halves (mate h) (mate_there M h half) in
       edge_there D h (stays.halves h now) ∙ (λ i. Some (edge_row h (stays.tails h now i) (stays.tails (mate h) other i))) ∙ sym (edge_there C h now)
-      ∙ uncut_edge M s p t sound begun h half (uncut h half at)
+      ∙ uncut_edge M s p t sound begun h half (uncut M s p sound k whole h half at)
 
   points : (l v : ℕ) → IsIn v (vertices_on M (content M l)) → face_of M l ≡ k → table.get D.vertices v ≡ table.get M.vertices v
   points l v i at = ap (λ u. table.get u v) (drawn_stays M s p t sound accepted).vertices ∙ kept.points v (vertex_there M sound l v i)
@@ -139,7 +129,7 @@ module _ (M : Model) (s : ℕ) (p : Plane) (t : ℕ) (sound : Sound M) (accepted
     none h is = elim (IsIn_or_not h (items_of (content M l))) [
       | inl j ↦
           let stands = in-holds h (content M l) j in
-          let off = uncut h (sound.only_edges h l stands) (ap (face_of M) (sound.one_loop h l stands) ∙ at) in
+          let off = uncut M s p sound k whole h (sound.only_edges h l stands) (ap (face_of M) (sound.one_loop h l stands) ∙ at) in
           absurd (true≢false (sym (listed-from_in e (crossing_edges M p s) i) ∙ ap (lists (crossing_edges M p s)) (sym is) ∙ off))
       | inr z ↦ z
     ]

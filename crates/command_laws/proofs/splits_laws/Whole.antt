@@ -1,5 +1,5 @@
 -- The models before and after a split agree but for the two parts, and each vertex keeps its point.
-use Rattle.command_laws.proofs.Prelude.{◌≡◌, ◌≢◌, ℕ, false, List, [], is_some, sym, ap, subst, ◌∙◌, filter, ne_eqb, arith, Plane, Model, rings_of, solid_of, Sound, Has, part, same_solid, faces_above, Drawing, with_drawings, below_halves, section_cycles, Opening, holes_closed, opened_at, split_model, crossings_keep, upper_faces, hole_ops, CanBeSplit, AreClosed, begins, drawn_stays, can_be_split, Machine, held, IsSplit, OfOthers, SplitKeepsRows, SplitKeepsOwners, SplitKeepsLoops, SplitKeepsEdges, SplitKeepsPoints, SplitKeepsShapes}
+use Rattle.command_laws.proofs.Prelude.{◌≡◌, ◌≢◌, ℕ, false, is_some, sym, ap, subst, ◌∙◌, filter, ne_eqb, arith, Plane, Model, rings_of, solid_of, Sound, Has, same_solid, split_model, crossings_keep, hole_ops, CanBeSplit, AreClosed, begins, drawn_stays, can_be_split, Machine, held, IsSplit, OfOthers, SplitKeepsRows, SplitKeepsOwners, SplitKeepsLoops, SplitKeepsEdges, SplitKeepsPoints, SplitKeepsShapes, stages}
 use Rattle.euler_operators.specs.Table as table
 use Rattle.split_laws.proofs.Whole.{split_sound}
 use Rattle.split_laws.proofs.volumes.Split as split
@@ -15,29 +15,7 @@ module _ (before after : Machine) (s : ℕ) (p : Plane) (t : ℕ) (sound : Sound
   abbrev M : Model
   M = held before
 
-  abbrev d : Drawing
-  d = with_drawings M s p
-
-  abbrev above : List ℕ
-  above = faces_above d.model p s
-
-  abbrev cycles : List (List ℕ)
-  cycles = section_cycles d.model (below_halves d.model above s)
-
-  abbrev begun : Opening
-  begun = record { model = d.model; taken = d.taken; caps = [] }
-
-  abbrev X : Opening
-  X = opened_at d above s p
-
-  abbrev K : Model
-  K = holes_closed X.model X.caps
-
-  abbrev us : List ℕ
-  us = upper_faces above X.caps
-
-  abbrev N : Model
-  N = part K s t us
+  open stages M s p t use {drawing as d, above, cycles, begun, opened as X, closed as K, upper as us, parted as N}
 
   pub can : CanBeSplit d above s p t
   can = can_be_split M s p t sound made.0
