@@ -1,5 +1,5 @@
 -- The faces of the parts of a split: each part lies on its side of the plane.
-use Rattle.convex_laws.proofs.Prelude.{list_all, list_any, ◌≡◌, ◌⊎◌, ℕ, suc, ◌<◌, Bool, true, false, cond, not, ◌&&◌, ◌||◌, List, [], ◌∷◌, length, get_or, refl, sym, ap, subst, ◌∙◌, arith, true≢false, inl, inr, int_lt, pos, and_parts, Plane, Point, direction, dot, is_above, is_below, is_on, Model, point_of, solid_of, Sound, Has, IsIn, lists, part, listed-from_in, listed_cases, corners, faces_above, straddles, face_is_above, normal, reaches_above, reaches_below, Drawing, with_drawings, Caps, Opening, holes_closed, no_caps, opened_at, face_listed, none_straddles, on_both, cap_faces, upper_faces, drawn_sound, never_stuck, Machine, held, IsSplit, IsCapOf, cap, caps_of, SplitPartsLieApart, IsOfEither, IsTurned, turned_pass, caps_stand, holes_are_closed}
+use Rattle.convex_laws.proofs.Prelude.{list_all, list_any, ◌≡◌, ◌⊎◌, ℕ, suc, ◌<◌, Bool, true, false, cond, not, ◌&&◌, ◌||◌, List, [], ◌∷◌, length, get_or, refl, sym, ap, subst, ◌∙◌, arith, true≢false, inl, inr, int_lt, pos, and_parts, Plane, Point, direction, dot, is_above, is_below, is_on, Model, point_of, solid_of, Sound, Has, IsIn, lists, listed-from_in, listed_cases, corners, straddles, face_is_above, normal, reaches_above, reaches_below, Caps, no_caps, face_listed, none_straddles, on_both, cap_faces, drawn_sound, never_stuck, Machine, held, IsSplit, IsCapOf, cap, caps_of, SplitPartsLieApart, IsOfEither, IsTurned, turned_pass, caps_stand, holes_are_closed, stages}
 use Rattle.euler_operators.specs.Table as table
 use Rattle.split_laws.proofs.drawn.Drawn.{begins}
 use Rattle.command_laws.proofs.splits_laws.PartFaces.{part_of, part_turned}
@@ -58,17 +58,7 @@ module _ (before after : Machine) (s : ℕ) (p : Plane) (t : ℕ) (sound : Sound
   abbrev M : Model
   M = held before
 
-  abbrev d : Drawing
-  d = with_drawings M s p
-
-  abbrev above : List ℕ
-  above = faces_above d.model p s
-
-  abbrev X : Opening
-  X = opened_at d above s p
-
-  abbrev N : Model
-  N = part (holes_closed X.model X.caps) s t (upper_faces above X.caps)
+  open stages M s p t use {drawing as d, above, opened as X, parted as N}
 
   -- a cap that is there is one of an outer cycle's
   pub record OuterCap (k : ℕ) : Type 0 where

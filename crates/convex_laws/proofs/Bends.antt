@@ -1,5 +1,5 @@
 -- At each edge of a block the two faces bend away from each other: a table of its half-edges, of which each has its mate in one face.
-use Rattle.convex_laws.proofs.Prelude.{list_all, ◌≡◌, ◌⊎◌, ℕ, zero, suc, ◌+◌, ◌*◌, ◌≤◌, ◌<◌, inl, inr, ℤ, pos, negsuc, ◌+ℤ◌, ◌-ℤ◌, ◌*ℤ◌, int_lt, int_le, Bool, true, false, cond, not, ◌&&◌, ◌||◌, List, [], ◌∷◌, map, length, get_or, refl, sym, ap, subst, ◌∙◌, arith, and_parts, cases_lt, eqb_tells, ints, Point, moved, cross, direction, dot, mate, same_point, IsIn, Model, cycle_of, loop_of, face_at, outer, solid_of, Sound, Has, HasHalf, has_rings, is_empty, IsIn_one, cycle_there, row_of, tick_other, dif-parts, difs, mate-mate, mate_there, number, same_dif, same_vector, all_hold, half_face, no_rings_means, block_conditions, base_of, finish, next_place, normal, plane_of, start, towards, vector, at_most_greatest, same_is, Machine, held, IsBlock, BendsAway, BlocksAreConvex, IsFaceOf, all_moved, area_to, last_face, nth, side_over, turned_back, up_by, block_has_top_and_bottom, block_has_four_sides, block_takes_six_faces, IsOneOf, no_older, one_of, sound_after}
+use Rattle.convex_laws.proofs.Prelude.{list_all, ◌≡◌, ◌⊎◌, ℕ, zero, suc, ◌+◌, ◌*◌, ◌≤◌, ◌<◌, inl, inr, ℤ, pos, negsuc, ◌+ℤ◌, ◌-ℤ◌, ◌*ℤ◌, int_lt, int_le, Bool, true, false, cond, not, ◌&&◌, ◌||◌, List, [], ◌∷◌, map, length, get_or, refl, sym, ap, subst, ◌∙◌, arith, and_parts, cases_lt, eqb_tells, ints, Point, moved, cross, direction, dot, mate, same_point, IsIn, Model, cycle_of, loop_of, face_at, outer, solid_of, Sound, Has, HasHalf, has_rings, is_empty, IsIn_one, cycle_there, row_of, tick_other, dif-parts, difs, mate-mate, mate_there, number, same_dif, same_vector, all_hold, half_face, no_rings_means, block_conditions, base_of, finish, next_place, normal, plane_of, start, towards, vector, at_most_greatest, same_is, Machine, held, IsBlock, BendsAway, BlocksAreConvex, IsFaceOf, all_moved, area_to, last_face, nth, side_over, turned_back, up_by, block_has_top_and_bottom, block_has_four_sides, block_takes_six_faces, IsOneOf, no_older, one_of, sound_after, add_none, base_corners}
 use Rattle.convex_laws.proofs.Blocks.{block_convex}
 use Rattle.sweeps_laws.proofs.swept.Lifted.{IsPathOf}
 use Rattle.command_laws.proofs.Outlines.{points_are, ring_path}
@@ -149,9 +149,6 @@ or_either : (a b : Bool) → (a || b) ≡ true → (a ≡ true) ⊎ (b ≡ true)
 or_either true b e = inl refl
 or_either false b e = inr e
 
-none_more : (a : ℤ) → a +ℤ pos 0 ≡ a
-none_more a = omega (arith, ints)
-
 over : (n : ℕ) → int_lt (pos 0) (pos (suc n)) ≡ true
 over n = grind (arith, ints)
 
@@ -225,26 +222,19 @@ module _ (p : Point) (dx dy dz : ℤ) where
 
   -- ---- the points of the faces
 
-  abbrev q : Point
-  q = moved p (vector dx (pos 0) (pos 0))
-
-  abbrev r : Point
-  r = moved p (vector dx dy (pos 0))
-
-  abbrev t : Point
-  t = moved p (vector (pos 0) dy (pos 0))
+  open base_corners p dx dy use {q, r, t}
 
   q_is : q ≡ corner (at_bits true false false)
-  q_is = same_vector _ _ refl (none_more p.y) (none_more p.z)
+  q_is = same_vector _ _ refl (add_none p.y) (add_none p.z)
 
   r_is : r ≡ corner (at_bits true true false)
-  r_is = same_vector _ _ refl refl (none_more p.z)
+  r_is = same_vector _ _ refl refl (add_none p.z)
 
   t_is : t ≡ corner (at_bits false true false)
-  t_is = same_vector _ _ (none_more p.x) refl (none_more p.z)
+  t_is = same_vector _ _ (add_none p.x) refl (add_none p.z)
 
   raised : (x y : Bool) (o : Point) → o ≡ corner (at_bits x y false) → moved o (up_by dz) ≡ corner (at_bits x y true)
-  raised x y o e = same_vector _ _ (none_more o.x ∙ ap (λ c. c.x) e) (none_more o.y ∙ ap (λ c. c.y) e) (ap (λ c. c.z +ℤ dz) e)
+  raised x y o e = same_vector _ _ (add_none o.x ∙ ap (λ c. c.x) e) (add_none o.y ∙ ap (λ c. c.y) e) (ap (λ c. c.z +ℤ dz) e)
 
   top_points : all_moved (up_by dz) (base_of p dx dy) ≡ corners_of top
   top_points = λ i. raised false false p refl i ∷ raised true false q q_is i ∷ raised true true r r_is i ∷ raised false true t t_is i ∷ []

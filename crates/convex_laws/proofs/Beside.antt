@@ -1,11 +1,12 @@
 -- Each half-edge of a face of the drawn solid bends away from a plane beyond: one of the solid's, or the plane of the split.
-use Rattle.convex_laws.proofs.Prelude.{◌≡◌, ◌⊎◌, ℕ, Bool, true, false, not, ◌&&◌, ◌||◌, [], refl, sym, ap, subst, ◌∙◌, arith, true≢false, inl, inr, Plane, Point, IsIn, are_opposite, direction, is_above, is_below, is_on, mate, Model, after, face_at, point_of, solid_of, tail, Sound, Has, HasHalf, mate_there, back_of, half_face, corners, face_is_above, finish, plane_of, start, straddling_faces, towards, with_crossings, with_drawings, CanBegin, side_of, crossings_sound, place_of_end, place_on, side_within, turn_at, on_both, IsStrictlyConvex}
+use Rattle.convex_laws.proofs.Prelude.{◌≡◌, ◌⊎◌, ℕ, Bool, true, false, not, ◌||◌, [], refl, sym, ap, subst, ◌∙◌, true≢false, inl, inr, Plane, Point, IsIn, are_opposite, direction, is_above, is_below, is_on, mate, Model, after, face_at, point_of, solid_of, tail, Sound, Has, HasHalf, mate_there, back_of, half_face, corners, face_is_above, finish, plane_of, start, straddling_faces, towards, with_drawings, CanBegin, side_of, crossings_sound, place_of_end, place_on, side_within, turn_at, on_both, IsStrictlyConvex, starts_in, ends_in, stages}
 use Rattle.convex_laws.proofs.Drawn as drawn
-use Rattle.convex_laws.proofs.Drawn.{ends_in, IsInside, next_face, next_starts, starts_in, Strict}
+use Rattle.convex_laws.proofs.Drawn.{IsInside, next_face, next_starts, Strict}
 use Rattle.convex_laws.proofs.Links.{IsEnd, IsLink}
 use Rattle.convex_laws.proofs.Planes.{IsBent, above_facing, below_facing, down_step, facing, high_step, level_step, low_step, on_facing}
 use Rattle.convex_laws.proofs.Together.{drawn_shared}
 use Rattle.convex_laws.proofs.Turns.{drawn_bends, never_one_point, same_end}
+use Rattle.command_laws.proofs.splits_laws.Lower.{other_side}
 
 pub same_or_not : (a b : Bool) → (a ≡ b) ⊎ (a ≡ not b)
 same_or_not true true = inl refl
@@ -13,20 +14,13 @@ same_or_not true false = inr refl
 same_or_not false true = inr refl
 same_or_not false false = inl refl
 
-other_side : (a b c d : Bool) → ((a && b) || (c && d)) ≡ true → d ≡ false → b ≡ true
-other_side a b c d e f = grind arith
-
 -- what is below the plane seen from one side is above it seen from the other
 across : (b : Bool) (p : Plane) (q : Point) → is_below (facing (not b) p) q ≡ true → is_above (facing b p) q ≡ true
 across true p q e = above_facing true p q ∙ e
 across false p q e = sym (below_facing true p q) ∙ e
 
 module _ (M : Model) (s : ℕ) (p : Plane) (t : ℕ) (sound : Sound M) (begun : CanBegin M s p t) (unstuck : (with_drawings M s p).stuck ≡ 0) (convex : IsStrictlyConvex M s) where
-  abbrev C : Model
-  C = (with_crossings M s p).model
-
-  abbrev D : Model
-  D = (with_drawings M s p).model
+  open stages M s p t use {cut as C, drawn as D}
 
   D_sound : Sound D
   D_sound = drawn.D_sound M s p t sound begun unstuck convex

@@ -1,8 +1,8 @@
 -- A new block is convex: its corners are those of a box, and no point of the box lies above one of its faces.
-use Rattle.convex_laws.proofs.Prelude.{◌≡◌, ℕ, zero, suc, ◌+◌, ◌*◌, ◌≤◌, ◌<◌, inl, inr, ℤ, pos, negsuc, ◌+ℤ◌, ◌-ℤ◌, ◌*ℤ◌, neg_ℤ, int_lt, int_le, true, false, List, [], ◌∷◌, map, refl, sym, ap, subst, ◌∙◌, arith, true≢false, cases_lt, ints, Point, moved, cross, dot, is_above, Model, point_of, solid_of, Sound, Has, lists, same_vector, dif-parts, difs, neg-dif, number, same_dif, all_hold, listed_cases, block_conditions, corners, towards, next_place, vector, base_of, plane_of, scaled, at_most_greatest, Machine, held, IsBlock, IsFaceOf, all_moved, last_face, nth, plane_round, side_over, turned_back, up_by, IsConvex, block_has_top_and_bottom, block_has_four_sides, block_takes_six_faces, IsOneOf, blocks_lie_flat, no_older, one_of}
+use Rattle.convex_laws.proofs.Prelude.{◌≡◌, ℕ, zero, suc, ◌+◌, ◌*◌, ◌≤◌, ◌<◌, inl, inr, ℤ, pos, negsuc, ◌+ℤ◌, ◌-ℤ◌, ◌*ℤ◌, neg_ℤ, int_lt, int_le, true, false, List, [], ◌∷◌, map, refl, sym, ap, subst, ◌∙◌, arith, true≢false, cases_lt, ints, Point, moved, cross, dot, is_above, Model, point_of, solid_of, Sound, Has, lists, same_vector, dif-parts, difs, neg-dif, number, same_dif, all_hold, listed_cases, block_conditions, corners, towards, next_place, vector, base_of, plane_of, scaled, at_most_greatest, Machine, held, IsBlock, IsFaceOf, all_moved, last_face, nth, plane_round, side_over, turned_back, up_by, IsConvex, block_has_top_and_bottom, block_has_four_sides, block_takes_six_faces, IsOneOf, blocks_lie_flat, no_older, one_of, add_none, dot_turned, base_corners}
 use Rattle.command_laws.proofs.BlockFlat as flat
 use Rattle.command_laws.proofs.LyingFlat as lying
-use Rattle.convex_laws.proofs.Levels.{IsLow, height_at, is_low, low_times, twice_back}
+use Rattle.convex_laws.proofs.Levels.{IsLow, height_at, is_low, low_times, twice_back, dot_scaled}
 
 -- ---- a box
 
@@ -46,55 +46,37 @@ module _ (p : Point) (dx dy dz : ℤ) (x : IsSize dx) (y : IsSize dy) (z : IsSiz
   abbrev up : Point
   up = up_by dz
 
-  abbrev q : Point
-  q = moved p (vector dx (pos 0) (pos 0))
-
-  abbrev r : Point
-  r = moved p (vector dx dy (pos 0))
-
-  abbrev t : Point
-  t = moved p (vector (pos 0) dy (pos 0))
+  open base_corners p dx dy use {q, r, t}
 
   p_in : In p
   p_in = record { along_x = at_start p.x dx p.x x refl; along_y = at_start p.y dy p.y y refl; along_z = at_start p.z dz p.z z refl }
 
   q_in : In q
-  q_in = record { along_x = at_finish p.x dx q.x x refl; along_y = at_start p.y dy q.y y (still p.y); along_z = at_start p.z dz q.z z (still p.z) } where
-    still : (a : ℤ) → a +ℤ pos 0 ≡ a
-    still a = omega (arith, ints)
+  q_in = record { along_x = at_finish p.x dx q.x x refl; along_y = at_start p.y dy q.y y (add_none p.y); along_z = at_start p.z dz q.z z (add_none p.z) }
 
   r_in : In r
-  r_in = record { along_x = at_finish p.x dx r.x x refl; along_y = at_finish p.y dy r.y y refl; along_z = at_start p.z dz r.z z (still p.z) } where
-    still : (a : ℤ) → a +ℤ pos 0 ≡ a
-    still a = omega (arith, ints)
+  r_in = record { along_x = at_finish p.x dx r.x x refl; along_y = at_finish p.y dy r.y y refl; along_z = at_start p.z dz r.z z (add_none p.z) }
 
   t_in : In t
-  t_in = record { along_x = at_start p.x dx t.x x (still p.x); along_y = at_finish p.y dy t.y y refl; along_z = at_start p.z dz t.z z (still p.z) } where
-    still : (a : ℤ) → a +ℤ pos 0 ≡ a
-    still a = omega (arith, ints)
+  t_in = record { along_x = at_start p.x dx t.x x (add_none p.x); along_y = at_finish p.y dy t.y y refl; along_z = at_start p.z dz t.z z (add_none p.z) }
 
   -- what lies at the foot of the box lies in it once it is lifted
   lifted : (a : Point) → In a → a.z ≡ p.z → In (moved a up)
   lifted a w foot = record { along_x = same a.x w.along_x; along_y = same a.y w.along_y; along_z = at_finish p.z dz (a.z +ℤ dz) z (ap (λ h. h +ℤ dz) foot) } where
     same : {l d : ℤ} (a : ℤ) → InSpan l d a → InSpan l d (a +ℤ pos 0)
-    same {l} {d} a w = subst (InSpan l d) (none a) w where
-      none : (a : ℤ) → a ≡ a +ℤ pos 0
-      none a = omega (arith, ints)
-
-  foot : (a : ℤ) → a +ℤ pos 0 ≡ a
-  foot a = omega (arith, ints)
+    same {l} {d} a w = subst (InSpan l d) (sym (add_none a)) w
 
   p_up : In (moved p up)
   p_up = lifted p p_in refl
 
   q_up : In (moved q up)
-  q_up = lifted q q_in (foot p.z)
+  q_up = lifted q q_in (add_none p.z)
 
   r_up : In (moved r up)
-  r_up = lifted r r_in (foot p.z)
+  r_up = lifted r r_in (add_none p.z)
 
   t_up : In (moved t up)
-  t_up = lifted t t_in (foot p.z)
+  t_up = lifted t t_in (add_none p.z)
 
   top_in : AllIn (all_moved up (base_of p dx dy))
   top_in = (p_up, (q_up, (r_up, (t_up, tt))))
@@ -118,32 +100,20 @@ module _ (p : Point) (dx dy dz : ℤ) (x : IsSize dx) (y : IsSize dy) (z : IsSiz
 
 -- ---- its faces
 
-twice_part : (k a b c x y z : ℤ) → (k *ℤ a) *ℤ x +ℤ (k *ℤ b) *ℤ y +ℤ (k *ℤ c) *ℤ z ≡ k *ℤ (a *ℤ x +ℤ b *ℤ y +ℤ c *ℤ z)
-twice_part k a b c x y z = rw (dif-parts k, dif-parts a, dif-parts b, dif-parts c, dif-parts x, dif-parts y, dif-parts z) (simp difs (same_dif _ _ _ _ (omega arith)))
-
 -- what lies no higher than a, along the product of u and v, isn't above the parallelogram
 over_round : (a u v q : Point) → IsLow (dot (cross u v) (towards a q)) → is_above (plane_round (lying.corners_round a u v)) q ≡ false
 over_round a u v q low =
     let c = cross u v in let w = towards a q in
-    ap (λ f. is_above f q) (lying.plane_is a u v) ∙ ap (int_lt (pos 0)) (height_at (scaled (pos 2) c) a q ∙ twice_part (pos 2) c.x c.y c.z w.x w.y w.z) ∙ low_times 2 (dot c w) low
+    ap (λ f. is_above f q) (lying.plane_is a u v) ∙ ap (int_lt (pos 0)) (height_at (scaled (pos 2) c) a q ∙ dot_turned (scaled (pos 2) c) w ∙ dot_scaled (pos 2) w c ∙ ap (λ h. pos 2 *ℤ h) (dot_turned w c)) ∙ low_times 2 (dot c w) low
 
 x_y_none : (z d e a b c : ℤ) → z ≡ pos 0 → dot (cross (vector d z z) (vector z e z)) (vector a b c) ≡ (d *ℤ e) *ℤ c
 x_y_none z d e a b c none = rw (dif-parts d, dif-parts e, dif-parts a, dif-parts b, dif-parts c, none ∙ number 0) (simp difs (same_dif _ _ _ _ (omega arith)))
 
-x_y_part : (d e a b c : ℤ) → dot (cross (vector d (pos 0) (pos 0)) (vector (pos 0) e (pos 0))) (vector a b c) ≡ (d *ℤ e) *ℤ c
-x_y_part d e a b c = x_y_none (pos 0) d e a b c refl
-
 x_z_none : (z d e a b c : ℤ) → z ≡ pos 0 → dot (cross (vector d z z) (vector z z e)) (vector a b c) ≡ (d *ℤ e) *ℤ neg_ℤ b
 x_z_none z d e a b c none = rw (dif-parts d, dif-parts e, dif-parts a, dif-parts b, dif-parts c, none ∙ number 0) (simp (difs, neg-dif) (same_dif _ _ _ _ (omega arith)))
 
-x_z_part : (d e a b c : ℤ) → dot (cross (vector d (pos 0) (pos 0)) (vector (pos 0) (pos 0) e)) (vector a b c) ≡ (d *ℤ e) *ℤ neg_ℤ b
-x_z_part d e a b c = x_z_none (pos 0) d e a b c refl
-
 y_z_none : (z d e a b c : ℤ) → z ≡ pos 0 → dot (cross (vector z d z) (vector z z e)) (vector a b c) ≡ (d *ℤ e) *ℤ a
 y_z_none z d e a b c none = rw (dif-parts d, dif-parts e, dif-parts a, dif-parts b, dif-parts c, none ∙ number 0) (simp difs (same_dif _ _ _ _ (omega arith)))
-
-y_z_part : (d e a b c : ℤ) → dot (cross (vector (pos 0) d (pos 0)) (vector (pos 0) (pos 0) e)) (vector a b c) ≡ (d *ℤ e) *ℤ a
-y_z_part d e a b c = y_z_none (pos 0) d e a b c refl
 
 both_back : (d e c : ℤ) → (neg_ℤ d *ℤ e) *ℤ c ≡ (d *ℤ e) *ℤ neg_ℤ c
 both_back d e c = rw (dif-parts d, dif-parts e, dif-parts c) (simp (difs, neg-dif) (same_dif _ _ _ _ (omega arith)))
@@ -155,14 +125,7 @@ module _ (p : Point) (dx dy dz : ℤ) (x : IsSize dx) (y : IsSize dy) (z : IsSiz
   abbrev lift : Point
   lift = up_by dz
 
-  abbrev base_x : Point
-  base_x = moved p (vector dx (pos 0) (pos 0))
-
-  abbrev base_xy : Point
-  base_xy = moved p (vector dx dy (pos 0))
-
-  abbrev base_y : Point
-  base_y = moved p (vector (pos 0) dy (pos 0))
+  open base_corners p dx dy use {q as base_x, r as base_xy, t as base_y}
 
   abbrev NotAbove : List Point → Type 0
   NotAbove ps = is_above (plane_round ps) o ≡ false
@@ -180,7 +143,7 @@ module _ (p : Point) (dx dy dz : ℤ) (x : IsSize dx) (y : IsSize dy) (z : IsSiz
   over_top =
       let a = moved p lift in let u = vector dx (pos 0) (pos 0) in let v = vector (pos 0) dy (pos 0) in let c = towards a o in
       subst NotAbove (λ i. a ∷ top_second i ∷ top_third i ∷ top_fourth i ∷ [])
-      (over_round a u v o (subst IsLow (sym (x_y_part dx dy c.x c.y c.z)) (sized dx dy c.z x y w.along_z.left (to_far p.z dz o.z w.along_z.left w.along_z.rest)))) where
+      (over_round a u v o (subst IsLow (sym (x_y_none (pos 0) dx dy c.x c.y c.z refl)) (sized dx dy c.z x y w.along_z.left (to_far p.z dz o.z w.along_z.left w.along_z.rest)))) where
         top_second : moved (moved p lift) (vector dx (pos 0) (pos 0)) ≡ moved (moved p (vector dx (pos 0) (pos 0))) lift
         top_second = same_vector _ _ (flat.second p.x dx) refl (flat.at_end_turned p.z dz)
 
@@ -194,7 +157,7 @@ module _ (p : Point) (dx dy dz : ℤ) (x : IsSize dx) (y : IsSize dy) (z : IsSiz
   over_bottom =
       let a = moved p (vector dx (pos 0) (pos 0)) in let u = vector (neg_ℤ dx) (pos 0) (pos 0) in let v = vector (pos 0) dy (pos 0) in let c = towards a o in
       subst NotAbove (λ i. a ∷ bottom_second i ∷ bottom_third i ∷ bottom_fourth i ∷ [])
-      (over_round a u v o (subst IsLow (sym (x_y_part (neg_ℤ dx) dy c.x c.y c.z ∙ both_back dx dy c.z)) (sized dx dy (neg_ℤ c.z) x y w.along_z.from (to_near_still p.z o.z w.along_z.from w.along_z.is)))) where
+      (over_round a u v o (subst IsLow (sym (x_y_none (pos 0) (neg_ℤ dx) dy c.x c.y c.z refl ∙ both_back dx dy c.z)) (sized dx dy (neg_ℤ c.z) x y w.along_z.from (to_near_still p.z o.z w.along_z.from w.along_z.is)))) where
         bottom_second : moved (moved p (vector dx (pos 0) (pos 0))) (vector (neg_ℤ dx) (pos 0) (pos 0)) ≡ p
         bottom_second = same_vector _ p (flat.back p.x dx) (flat.none_more p.y) (flat.none_more p.z)
 
@@ -213,19 +176,19 @@ module _ (p : Point) (dx dy dz : ℤ) (x : IsSize dx) (y : IsSize dy) (z : IsSiz
   over_sides zero l =
       let a = p in let c = towards a o in
       over_side a base_x (vector dx (pos 0) (pos 0)) (same_vector _ _ (flat.ahead p.x dx) (flat.nothing_more p.y) (flat.nothing_more p.z))
-      (subst IsLow (sym (x_z_part dx dz c.x c.y c.z)) (sized dx dz (neg_ℤ c.y) x z w.along_y.from (to_near p.y o.y w.along_y.from w.along_y.is)))
+      (subst IsLow (sym (x_z_none (pos 0) dx dz c.x c.y c.z refl)) (sized dx dz (neg_ℤ c.y) x z w.along_y.from (to_near p.y o.y w.along_y.from w.along_y.is)))
   over_sides (suc zero) l =
       let a = base_x in let c = towards a o in
       over_side a base_xy (vector (pos 0) dy (pos 0)) (same_vector _ _ (flat.nothing (p.x +ℤ dx)) (flat.ahead_still p.y dy) (flat.nothing (p.z +ℤ pos 0)))
-      (subst IsLow (sym (y_z_part dy dz c.x c.y c.z)) (sized dy dz c.x y z w.along_x.left (to_far p.x dx o.x w.along_x.left w.along_x.rest)))
+      (subst IsLow (sym (y_z_none (pos 0) dy dz c.x c.y c.z refl)) (sized dy dz c.x y z w.along_x.left (to_far p.x dx o.x w.along_x.left w.along_x.rest)))
   over_sides (suc (suc zero)) l =
       let a = base_xy in let c = towards a o in
       over_side a base_y (vector (neg_ℤ dx) (pos 0) (pos 0)) (same_vector _ _ (flat.behind p.x dx) (flat.nothing (p.y +ℤ dy)) (flat.nothing (p.z +ℤ pos 0)))
-      (subst IsLow (sym (x_z_part (neg_ℤ dx) dz c.x c.y c.z ∙ both_back dx dz (neg_ℤ c.y) ∙ ap (λ h. (dx *ℤ dz) *ℤ h) (twice_back c.y))) (sized dx dz c.y x z w.along_y.left (to_far p.y dy o.y w.along_y.left w.along_y.rest)))
+      (subst IsLow (sym (x_z_none (pos 0) (neg_ℤ dx) dz c.x c.y c.z refl ∙ both_back dx dz (neg_ℤ c.y) ∙ ap (λ h. (dx *ℤ dz) *ℤ h) (twice_back c.y))) (sized dx dz c.y x z w.along_y.left (to_far p.y dy o.y w.along_y.left w.along_y.rest)))
   over_sides (suc (suc (suc zero))) l =
       let a = base_y in let c = towards a o in
       over_side a p (vector (pos 0) (neg_ℤ dy) (pos 0)) (same_vector _ _ (flat.nothing_less p.x) (flat.behind_all p.y dy) (flat.nothing_less p.z))
-      (subst IsLow (sym (y_z_part (neg_ℤ dy) dz c.x c.y c.z ∙ both_back dy dz c.x)) (sized dy dz (neg_ℤ c.x) y z w.along_x.from (to_near_still p.x o.x w.along_x.from w.along_x.is)))
+      (subst IsLow (sym (y_z_none (pos 0) (neg_ℤ dy) dz c.x c.y c.z refl ∙ both_back dy dz c.x)) (sized dy dz (neg_ℤ c.x) y z w.along_x.from (to_near_still p.x o.x w.along_x.from w.along_x.is)))
   over_sides (suc (suc (suc (suc i)))) l = absurd (omega (arith, l))
 
 -- ---- a whole block

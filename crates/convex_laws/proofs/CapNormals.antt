@@ -1,30 +1,21 @@
 -- The caps of a strictly convex solid look along the plane.
-use Rattle.convex_laws.proofs.Prelude.{◌≡◌, ℕ, zero, suc, ◌<◌, ℤ, pos, ◌+ℤ◌, ◌*ℤ◌, neg_ℤ, int_lt, false, List, [], ◌∷◌, map, length, get_or, sym, ap, subst, ◌∙◌, arith, length-map, Plane, direction, dot, moved, Model, Sound, dif-parts, difs, neg-dif, none_moved, same_dif, faces_above, is_hole, negated, normal, with_drawings, CanBegin, AreSectionCycles, IsSectionCycle, never_stuck, Machine, held, IsSplit, area_below, cap, caps_of, cycles_of, sum_of, caps_have_normals, IsStrictlyConvex}
+use Rattle.convex_laws.proofs.Prelude.{◌≡◌, ℕ, zero, suc, ◌<◌, ℤ, pos, ◌+ℤ◌, ◌*ℤ◌, neg_ℤ, int_lt, false, List, [], ◌∷◌, map, length, get_or, sym, ap, subst, ◌∙◌, arith, length-map, Plane, direction, dot, moved, Model, Sound, dif-parts, difs, neg-dif, none_moved, same_dif, is_hole, negated, normal, with_drawings, AreSectionCycles, IsSectionCycle, Machine, held, IsSplit, area_below, cap, caps_of, cycles_of, sum_of, caps_have_normals, IsStrictlyConvex, stages}
 use Rattle.split_laws.proofs.Flags.{flags_are}
-use Rattle.command_laws.proofs.splits_laws.Lines as lines
 use Rattle.command_laws.proofs.splits_laws.Whole as whole
 use Rattle.convex_laws.proofs.Planes.{turned_over}
 use Rattle.convex_laws.proofs.Turns.{IsHigh}
 use Rattle.convex_laws.proofs.Caps.{cycle_high, none_of}
+use Rattle.convex_laws.proofs.Drawn.{drawn_through}
 
 module _ (before after_it : Machine) (s : ℕ) (p : Plane) (t : ℕ) (sound : Sound (held before)) (made : IsSplit before after_it s p t) (convex : IsStrictlyConvex (held before) s) where
   abbrev M : Model
   M = held before
 
-  abbrev D : Model
-  D = (with_drawings M s p).model
-
-  abbrev above : List ℕ
-  above = faces_above D p s
+  open stages M s p t use {drawn as D, above}
+  open drawn_through M s p t sound made.0 use {begun, unstuck}
 
   abbrev over : Plane
   over = turned_over p
-
-  abbrev begun : CanBegin M s p t
-  begun = lines.begun before after_it s p t sound made
-
-  abbrev unstuck : (with_drawings M s p).stuck ≡ 0
-  unstuck = never_stuck M s p t sound made.0
 
   cycle_at : (cs : List (List ℕ)) → AreSectionCycles D above s cs → (i : ℕ) → i < length cs → IsSectionCycle D above s (get_or cs i [])
   cycle_at [] each i l = absurd (omega (arith, l))

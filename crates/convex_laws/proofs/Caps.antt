@@ -1,37 +1,16 @@
 -- The area round each cycle of the section of a strictly convex solid points along the plane; so the section has no holes.
-use Rattle.convex_laws.proofs.Prelude.{◌≡◌, ℕ, suc, ◌<◌, ℤ, pos, ◌+ℤ◌, ◌*ℤ◌, neg_ℤ, unsigned_abs, int_lt, Bool, true, false, cond, List, [], ◌∷◌, length, get_or, refl, sym, ap, subst, ◌∙◌, arith, true≢false, inl, inr, ints, Plane, Point, IsIn, direction, dot, height, is_on, mate, Model, face_at, faces_of, point_of, solid_of, tail, Sound, Has, HasHalf, lists, IsIn-filter, IsIn_head, dif-parts, difs, dot_turned, filter_passes, mate-mate, mate_there, neg-dif, same_dif, IsIn-from_listed, half_face, listed-from_in, area, corners, face_is_above, faces_above, finish, holes_in, is_hole, next_place, plane_of, start, towards, with_crossings, with_drawings, IsClosed, IsPathTo, area_mates, CanBegin, in_solid, AreSectionCycles, IsBelowHalf, IsSectionCycle, area_below, half_comes, IsStrictlyConvex, IsVertexOf}
-use Rattle.split_opening_laws.proofs.strips.Cycle.{next_cases}
+use Rattle.convex_laws.proofs.Prelude.{◌≡◌, ℕ, ℤ, pos, ◌+ℤ◌, ◌*ℤ◌, neg_ℤ, unsigned_abs, int_lt, Bool, true, false, cond, List, [], ◌∷◌, refl, sym, ap, subst, ◌∙◌, arith, true≢false, inl, inr, ints, Plane, Point, IsIn, direction, dot, height, is_on, mate, Model, face_at, faces_of, point_of, solid_of, tail, Sound, Has, HasHalf, lists, IsIn-filter, IsIn_head, dot_turned, filter_passes, mate-mate, mate_there, IsIn-from_listed, half_face, listed-from_in, area, corners, face_is_above, finish, holes_in, is_hole, plane_of, start, towards, with_drawings, area_mates, CanBegin, in_solid, AreSectionCycles, IsBelowHalf, IsSectionCycle, area_below, half_comes, IsStrictlyConvex, IsVertexOf, dot_back, starts_in, ends_in, stages}
 use Rattle.convex_laws.proofs.Drawn as drawn
-use Rattle.convex_laws.proofs.Drawn.{beyond_of, ends_in, IsInside, starts_in}
+use Rattle.convex_laws.proofs.Drawn.{beyond_of, IsInside}
 use Rattle.convex_laws.proofs.Levels.{IsLow, low_times, twice_back}
 use Rattle.convex_laws.proofs.Pieces.{balanced, first_down, not_less, one_weight, some_weight, turned_low}
 use Rattle.convex_laws.proofs.Planes.{IsBent, above_facing, below_facing, level_step, on_facing, step_from, turned_over}
 use Rattle.convex_laws.proofs.Rounds.{path_looks, weighed_low}
 use Rattle.convex_laws.proofs.Section as section
-use Rattle.convex_laws.proofs.Section.{between}
-use Rattle.convex_laws.proofs.Turns.{Edge, IsHigh, either_sign, leads_on, never_back, not_under, nothing, swept_over, turn_over, weighed}
+use Rattle.split_laws.proofs.measures.Splittable.{level as between}
+use Rattle.split_laws.proofs.opened.Caps.{closed_round}
+use Rattle.convex_laws.proofs.Turns.{Edge, IsHigh, either_sign, leads_on, never_back, not_under, nothing, swept_over, turn_over, weighed, dot_negated}
 use Rattle.convex_laws.proofs.Volumes.{depth, height_is, under}
-
--- ---- paths
-
-leads_by : (M : Model) (hs : List ℕ) (e : Point) → ((i : ℕ) → suc i < length hs → finish M (get_or hs i 0) ≡ start M (get_or hs (suc i) 0)) →
-    ((i : ℕ) → suc i ≡ length hs → finish M (get_or hs i 0) ≡ e) → IsPathTo M hs e
-leads_by M [] e step last = tt
-leads_by M (h ∷ []) e step last = (last 0 (omega arith), tt)
-leads_by M (h ∷ g ∷ gs) e step last = (step 0 (omega arith), leads_by M (g ∷ gs) e (λ i l. step (suc i) (omega (arith, l))) (λ i q. last (suc i) (omega (arith, q))))
-
--- half-edges that meet in turn make a closed path
-closed_round : (M : Model) (hs : List ℕ) → ((i : ℕ) → i < length hs → tail M (get_or hs (next_place (length hs) i) 0) ≡ tail M (mate (get_or hs i 0))) → IsClosed M hs
-closed_round M [] meet = tt
-closed_round M (h ∷ hs) meet = leads_by M (h ∷ hs) (start M h)
-    (λ i l. ap (point_of M) (sym (meet i (omega (arith, l))) ∙ ap (λ n. tail M (get_or (h ∷ hs) n 0)) (step i l)))
-    (λ i q. ap (point_of M) (sym (meet i (omega (arith, q))) ∙ ap (λ n. tail M (get_or (h ∷ hs) n 0)) (last i q)))
-  where
-    step : (i : ℕ) → suc i < length (h ∷ hs) → next_place (length (h ∷ hs)) i ≡ suc i
-    step i l = grind (arith, next_cases)
-
-    last : (i : ℕ) → suc i ≡ length (h ∷ hs) → next_place (length (h ∷ hs)) i ≡ 0
-    last i q = grind (arith, next_cases)
 
 exchanged_sum : (x y : ℤ) → x +ℤ y ≡ y +ℤ x
 exchanged_sum x y = omega (arith, ints)
@@ -39,18 +18,8 @@ exchanged_sum x y = omega (arith, ints)
 pub high_weight : (x : ℤ) → IsHigh x → IsHigh (pos (unsigned_abs x))
 high_weight x e = grind (arith, ints)
 
-over_part : (a b c x y z : ℤ) → neg_ℤ a *ℤ x +ℤ neg_ℤ b *ℤ y +ℤ neg_ℤ c *ℤ z ≡ a *ℤ neg_ℤ x +ℤ b *ℤ neg_ℤ y +ℤ c *ℤ neg_ℤ z
-over_part a b c x y z = rw (dif-parts a, dif-parts b, dif-parts c, dif-parts x, dif-parts y, dif-parts z) (simp (difs, neg-dif) (same_dif _ _ _ _ (omega arith)))
-
 module _ (M : Model) (s : ℕ) (p : Plane) (t : ℕ) (sound : Sound M) (begun : CanBegin M s p t) (unstuck : (with_drawings M s p).stuck ≡ 0) (convex : IsStrictlyConvex M s) where
-  abbrev C : Model
-  C = (with_crossings M s p).model
-
-  abbrev D : Model
-  D = (with_drawings M s p).model
-
-  abbrev above : List ℕ
-  above = faces_above D p s
+  open stages M s p t use {cut as C, drawn as D, above}
 
   D_sound : Sound D
   D_sound = drawn.D_sound M s p t sound begun unstuck convex
@@ -204,7 +173,7 @@ module _ (M : Model) (s : ℕ) (p : Plane) (t : ℕ) (sound : Sound M) (begun : 
 
     -- the area round the cycle, in the sense of its cap below, points along the plane's direction
     pub cycle_looks : IsHigh (dot (direction p) (area_below D bs))
-    cycle_looks = let a = area D bs in ap (λ x. int_lt (pos 0) (dot (direction p) x)) (area_mates D bs) ∙ ap (int_lt (pos 0)) (sym (over_part p.a p.b p.c a.x a.y a.z)) ∙ turned_round
+    cycle_looks = let a = area D bs in ap (λ x. int_lt (pos 0) (dot (direction p) x)) (area_mates D bs) ∙ ap (int_lt (pos 0)) (sym (dot_negated (direction p) a ∙ sym (dot_back (direction p) a))) ∙ turned_round
 
   first_half : (bs : List ℕ) → IsSectionCycle D above s bs → (b : ℕ) × IsIn b bs
   first_half [] cycle = absurd (omega (arith, cycle.two_halves))

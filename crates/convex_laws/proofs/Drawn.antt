@@ -1,6 +1,6 @@
 -- A strictly convex solid once it is drawn: each half-edge of a face lies on the plane of the face from which that comes, and of one beyond, from which
 -- it bends away. That is the plane of another face of the solid, or the one of the split.
-use Rattle.convex_laws.proofs.Prelude.{◌≡◌, ◌≢◌, ℕ, ◌+◌, pos, int_lt, Bool, true, false, not, ◌&&◌, [], neg_ℤ, ℤ, refl, sym, ap, subst, ◌∙◌, arith, and_parts, ints, Plane, Point, IsIn, cross, direction, dot, is_above, is_below, is_on, mate, Model, after, content, face_at, face_of, items_of, loop_of, point_of, solid_of, tail, Sound, Has, HasHalf, lists, cycle_there, loop_there, mate-mate, mate_there, IsIn-from_listed, half_after, half_face, listed-from_in, loop_after, corners, face_is_above, finish, is_flat, normal, plane_of, reaches_above, reaches_below, start, straddles, straddling_pairs, towards, with_crossings, with_drawings, face_listed, CanBegin, Stays, side_of, tail_in_face, crossings_sound, start_stays, drawing_stays, none_straddles, none_passes, can_be_drawn, rewritings_sound, ComesOf, half_comes, spread, IsStrictlyConvex, IsVertexOf}
+use Rattle.convex_laws.proofs.Prelude.{◌≡◌, ◌≢◌, ℕ, ◌+◌, pos, int_lt, Bool, true, false, not, ◌&&◌, [], neg_ℤ, ℤ, refl, sym, ap, subst, ◌∙◌, arith, and_parts, ints, Plane, Point, IsIn, cross, direction, dot, is_above, is_below, is_on, mate, Model, after, face_at, face_of, point_of, solid_of, tail, Sound, Has, HasHalf, lists, mate-mate, mate_there, IsIn-from_listed, half_face, listed-from_in, loop_after, corners, face_is_above, finish, is_flat, normal, plane_of, reaches_above, reaches_below, start, straddles, straddling_pairs, towards, with_crossings, with_drawings, face_listed, CanBegin, Stays, side_of, crossings_sound, start_stays, drawing_stays, none_straddles, none_passes, can_be_drawn, rewritings_sound, ComesOf, half_comes, spread, IsStrictlyConvex, IsVertexOf, None, never_stuck, starts_in, ends_in, stages, split_refusal}
 use Rattle.split_drawing_laws.specs.drawings.Laws.{CanBeDrawn}
 use Rattle.split_drawing_laws.proofs.cut_volumes.CutWhole.{crossings_measured}
 use Rattle.split_drawing_laws.proofs.cut_volumes.Told.{solid_stays}
@@ -14,17 +14,11 @@ use Rattle.convex_laws.proofs.Links.{AreLinked, IsEnd, drawings_linked}
 use Rattle.convex_laws.proofs.Planes.{IsBent, above_facing, facing, on_line, turns_too}
 use Rattle.convex_laws.proofs.Volumes.{depth, height_is, under}
 use Rattle.convex_laws.proofs.Within.{drawn_under, half_on}
+use Rattle.split_laws.proofs.drawn.Drawn.{begins}
 
--- ---- the ends of a half-edge are corners of its face
+-- ---- the half-edge after
 
 module _ (G : Model) (sound : Sound G) (h : ℕ) (half : HasHalf G h) where
-  pub starts_in : IsIn (tail G h) (corners G (face_at G h))
-  starts_in = tail_in_face G h (loop_of G h) (loop_there G sound h half) (cycle_there G sound h half)
-
-  pub ends_in : IsIn (tail G (mate h)) (corners G (face_at G h))
-  ends_in = subst (λ v. IsIn v (corners G (face_at G h))) (sound.ends_meet h half) (tail_in_face G (after G h) (loop_of G h) (loop_there G sound h half)
-      (subst (λ l. IsIn (after G h) (items_of (content G l))) (loop_after G sound h half) (cycle_there G sound (after G h) (half_after G sound h half))))
-
   pub next_starts : start G (after G h) ≡ finish G h
   next_starts = ap (point_of G) (sound.ends_meet h half)
 
@@ -92,12 +86,16 @@ IsInside M s q = (j : ℕ) → Has M.faces j → solid_of M j ≡ s → is_above
 
 -- ---- the drawn solid
 
-module _ (M : Model) (s : ℕ) (p : Plane) (t : ℕ) (sound : Sound M) (begun : CanBegin M s p t) (unstuck : (with_drawings M s p).stuck ≡ 0) (convex : IsStrictlyConvex M s) where
-  abbrev C : Model
-  C = (with_crossings M s p).model
+-- the drawing of an accepted split begins, and isn't stuck
+pub record IsDrawnThrough (M : Model) (s : ℕ) (p : Plane) (t : ℕ) : Type 0 where
+  pub begun : CanBegin M s p t
+  pub unstuck : (with_drawings M s p).stuck ≡ 0
 
-  abbrev D : Model
-  D = (with_drawings M s p).model
+pub drawn_through : (M : Model) (s : ℕ) (p : Plane) (t : ℕ) → Sound M → split_refusal M s p t ≡ None → IsDrawnThrough M s p t
+drawn_through M s p t sound accepted = record { begun = begins M s p t sound accepted; unstuck = never_stuck M s p t sound accepted }
+
+module _ (M : Model) (s : ℕ) (p : Plane) (t : ℕ) (sound : Sound M) (begun : CanBegin M s p t) (unstuck : (with_drawings M s p).stuck ≡ 0) (convex : IsStrictlyConvex M s) where
+  open stages M s p t use {cut as C, drawn as D}
 
   pub C_sound : Sound C
   C_sound = crossings_sound M s p t sound begun

@@ -1,5 +1,6 @@
 -- How high a point lies over a plane: signs of products and sums, heights along a normal, and of a point that divides a step.
-use Rattle.convex_laws.proofs.Prelude.{◌≡◌, ◌≢◌, ℕ, zero, suc, ◌+◌, ◌*◌, ℤ, pos, negsuc, ◌+ℤ◌, ◌-ℤ◌, ◌*ℤ◌, neg_ℤ, int_lt, true, false, refl, sym, ap, subst, ◌∙◌, arith, true≢false, ints, Plane, Point, direction, dot, height, dif-parts, difs, neg-dif, same_dif, plane_through, scaled, towards}
+use Rattle.convex_laws.proofs.Prelude.{◌≡◌, ◌≢◌, ℕ, zero, suc, ◌+◌, ◌*◌, ℤ, pos, negsuc, ◌+ℤ◌, ◌-ℤ◌, ◌*ℤ◌, neg_ℤ, int_lt, true, false, refl, sym, ap, subst, ◌∙◌, arith, true≢false, ints, Plane, Point, direction, dot, height, dif-parts, difs, neg-dif, same_dif, plane_through, scaled, towards, dot_towards, dot_turned}
+use Rattle.command_laws.proofs.splits_laws.Along.{both, parted}
 
 -- ---- signs
 
@@ -54,19 +55,15 @@ low_back m (negsuc n) e = is_low (suc n)
 
 -- ---- heights
 
-level_part : (a b c x y z u v w : ℤ) → (a *ℤ x +ℤ b *ℤ y +ℤ c *ℤ z) +ℤ neg_ℤ (a *ℤ u +ℤ b *ℤ v +ℤ c *ℤ w) ≡ a *ℤ (x -ℤ u) +ℤ b *ℤ (y -ℤ v) +ℤ c *ℤ (z -ℤ w)
-level_part a b c x y z u v w = rw (dif-parts a, dif-parts b, dif-parts c, dif-parts x, dif-parts y, dif-parts z, dif-parts u, dif-parts v, dif-parts w) (simp (difs, neg-dif) (same_dif _ _ _ _ (omega arith)))
-
 -- the height over the plane through r, across n
 pub height_at : (n r q : Point) → height (plane_through n r) q ≡ dot n (towards r q)
-height_at n r q = level_part n.x n.y n.z q.x q.y q.z r.x r.y r.z
-
-direction_part : (a b c d x y z u v w : ℤ) → a *ℤ (x -ℤ u) +ℤ b *ℤ (y -ℤ v) +ℤ c *ℤ (z -ℤ w) ≡ (a *ℤ x +ℤ b *ℤ y +ℤ c *ℤ z +ℤ d) -ℤ (a *ℤ u +ℤ b *ℤ v +ℤ c *ℤ w +ℤ d)
-direction_part a b c d x y z u v w = rw (dif-parts a, dif-parts b, dif-parts c, dif-parts d, dif-parts x, dif-parts y, dif-parts z, dif-parts u, dif-parts v, dif-parts w) (simp difs (same_dif _ _ _ _ (omega arith)))
+height_at n r q = sym (dot_turned n (towards r q) ∙ dot_towards r q n ∙ (λ i. dot_turned q n i -ℤ dot_turned r n i))
 
 -- what a plane's direction tells of a step
 pub step_told : (t : Plane) (r q : Point) → dot (direction t) (towards r q) ≡ height t q -ℤ height t r
-step_told t r q = direction_part t.a t.b t.c t.d q.x q.y q.z r.x r.y r.z
+step_told t r q = sym (height_at (direction t) r q) ∙ same_rise (dot (direction t) q) (dot (direction t) r) t.d where
+  same_rise : (x y d : ℤ) → x -ℤ y ≡ (x +ℤ d) -ℤ (y +ℤ d)
+  same_rise x y d = omega (arith, ints)
 
 -- ---- a point that divides a step
 
@@ -78,12 +75,6 @@ dot_scaled k n p = scaled_part k n.x n.y n.z p.x p.y p.z
 
 shares_part : (m n : ℕ) (c p q : ℤ) → pos (m + n) *ℤ (c -ℤ p) ≡ pos m *ℤ (q -ℤ p) → pos (m + n) *ℤ c ≡ pos m *ℤ q +ℤ pos n *ℤ p
 shares_part m n c p q e = turned (pos (m + n) *ℤ c) (pos (m + n) *ℤ p) (pos m *ℤ q) (pos m *ℤ p) (pos n *ℤ p) (sym (parted (pos (m + n)) c p) ∙ e ∙ parted (pos m) q p) (summed m n p) where
-  parted : (k a b : ℤ) → k *ℤ (a -ℤ b) ≡ k *ℤ a -ℤ k *ℤ b
-  parted k a b = rw (dif-parts k, dif-parts a, dif-parts b) (simp difs (same_dif _ _ _ _ (omega arith)))
-
-  both : (a b p : ℤ) → (a +ℤ b) *ℤ p ≡ a *ℤ p +ℤ b *ℤ p
-  both a b p = rw (dif-parts a, dif-parts b, dif-parts p) (simp difs (same_dif _ _ _ _ (omega arith)))
-
   summed : (m n : ℕ) (p : ℤ) → pos (m + n) *ℤ p ≡ pos m *ℤ p +ℤ pos n *ℤ p
   summed m n p = both (pos m) (pos n) p
 

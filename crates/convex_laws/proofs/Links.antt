@@ -1,14 +1,13 @@
 -- The edges that are drawn in the faces that straddle a plane: each half-edge that is new leads from a place of its face to one on the other side, and
 -- the half-edge that starts there follows it.
-use Rattle.convex_laws.proofs.Prelude.{◌≡◌, ◌≢◌, ◌⊎◌, ℕ, ◌+◌, ◌≤◌, Bool, true, false, cond, not, nat_eq, nat_lt, ◌&&◌, List, [], ◌∷◌, ◌++◌, length, fold, None, IsTrue, refl, sym, ap, subst, ◌∙◌, arith, inl, inr, eq-eqb, eqb-true, append_assoc, append-nil, Plane, IsIn, IsApart, count, tick, is_number, is_ring_of, after_mef, after_mev, mate, plus, minus, Model, after, face_at, has_rings, loop_of, tail, effect, ring_in, Sound, HasHalf, count-append, mate_minus, mate_plus, mate_there, plus_other, splice_at, splice_at_other, splice_elsewhere, tick_same, Drawing, FacePairs, all_drawn, all_joined, all_pairs, draw_next, drawn_between, drawn_pairs, in_one_loop, join_edge, join_next, join_pair, next_drawn, ring_free, rings_above, straddling_faces, straddling_pairs, stuck_at, undrawn, with_crossings, with_drawings, with_rings, CanBegin, DrawnIn, JoinedIn, Stays, Drawable, Going, Joining, Ready, side_of, draw_stays, draw_tails, join_stays, join_tails, stays_on, drawable, drawable_on, next_is, ready, take_sides, after_drawn, after_joined, halves_drawn, halves_joined, none_new, can_be_drawn}
+use Rattle.convex_laws.proofs.Prelude.{◌≡◌, ◌≢◌, ◌⊎◌, ℕ, ◌≤◌, Bool, not, List, [], ◌∷◌, None, refl, sym, ap, subst, ◌∙◌, arith, inl, inr, eq-eqb, Plane, IsIn, IsApart, count, after_mef, after_mev, mate, plus, minus, Model, after, face_at, tail, ring_in, Sound, HasHalf, mate_minus, mate_plus, mate_there, plus_other, splice_at, splice_at_other, splice_elsewhere, tick_same, all_pairs, drawn_pairs, straddling_faces, straddling_pairs, undrawn, with_crossings, with_drawings, CanBegin, DrawnIn, Stays, side_of, draw_stays, draw_tails, join_stays, join_tails, stays_on, drawable, take_sides, after_drawn, after_joined, halves_drawn, halves_joined, none_new, can_be_drawn}
 use Rattle.euler_operators.specs.Table as table
-use Rattle.split_drawing_laws.specs.drawings.Pairs.{AllFit, AllOf, FacesFit, Fits}
-use Rattle.split_drawing_laws.specs.loop_sides.Parted.{AllCross, Crosses, FacesCross, Open, all_ends, ends}
-use Rattle.split_drawing_laws.proofs.drawings.Drawn.{CanDraw, CanJoin, face_drawn, loops_joined}
-use Rattle.split_drawing_laws.proofs.drawings.Faces.{above_apart, are_rings, begun_joining, fitting, going_free, last, newer_face}
-use Rattle.split_drawing_laws.proofs.drawings.Pairs.{can_back, can_on}
-use Rattle.split_drawing_laws.proofs.drawings.Passes.{all_of_last, can_now, draws_keep, edge_fits_now, edge_free, joins_keep}
-use Rattle.split_drawing_laws.proofs.drawings.Rings.{Newer, RingOf, moved_after, ring_back, ring_goes, ring_stays, rings_keep}
+use Rattle.split_drawing_laws.specs.drawings.Pairs.{AllFit, AllOf, FacesFit}
+use Rattle.split_drawing_laws.specs.loop_sides.Parted.{AllCross, Crosses, FacesCross, Open, ends}
+use Rattle.split_drawing_laws.proofs.drawings.Drawn.{face_drawn, loops_joined}
+use Rattle.split_drawing_laws.proofs.drawings.Rings.{Newer, RingOf, moved_after, ring_back, ring_goes, ring_stays}
+use Rattle.split_drawing_laws.proofs.loop_sides.Between.{Closes, IsKept, faces_kept}
+use Rattle.split_drawing_laws.proofs.loop_sides.SidesWhole.{crosses_back, fewer}
 use Rattle.split_drawing_laws.proofs.loop_sides.Follows.{mev_at_h, mev_else}
 
 -- once m is put before d, d follows it
@@ -38,9 +37,6 @@ pub record IsLink (B N : Model) (first : ℕ → Bool) (Place : ℕ → Type 0) 
 pub record AreLinked (B N : Model) (first : ℕ → Bool) (Place : ℕ → Type 0) (places : List ℕ) : Type 0 where
   pub stays : Stays B N
   pub news : (x : ℕ) → HasHalf N x → HasHalf B x ⊎ IsLink B N first Place places x
-
-abbrev Closes : ℕ → ℕ → List ℕ → List ℕ → Type 0
-Closes c d places rest = (x : ℕ) → count x places ≡ count x rest + tick x c + tick x d
 
 module _ (B : Model) (p : Plane) (first : ℕ → Bool) (Place : ℕ → Type 0) where
   abbrev Linked : Model → List ℕ → Type 0
@@ -148,24 +144,6 @@ module _ (B : Model) (p : Plane) (first : ℕ → Bool) (Place : ℕ → Type 0)
       ];
     }
 
-  other_order : (c d : ℕ) (places rest : List ℕ) → Closes c d places rest → Closes d c places rest
-  other_order c d places rest closes x = omega (arith, closes x)
-
-  drawn_linked : (N : Model) (q : ℕ × ℕ) (e f l : ℕ) (places rest : List ℕ) → CanDraw N q.0 q.1 e f l → IsGood q → Open B places → Closes q.0 q.1 places rest → Linked N places → Linked (face_drawn N q.0 q.1 e f l) rest
-  drawn_linked N q e f l places rest can good fine closes w = linked_more N (face_drawn N q.0 q.1 e f l) q.0 q.1 e places rest can.edge_free good.pair good.cross.apart fine.apart closes w
-      (draw_stays N q.0 q.1 e f l can) (after_drawn N q.0 q.1 e f l can) (halves_drawn N q.0 q.1 e f l can) (draw_tails N q.0 q.1 e f l can)
-
-  joined_linked : (N : Model) (c d e : ℕ) (places rest : List ℕ) → CanJoin N c d e → IsPair B first Place c d → c ≢ d → Open B places → Closes c d places rest → Linked N places → Linked (loops_joined N c d e) rest
-  joined_linked N c d e places rest can pair apart fine closes w = linked_more N (loops_joined N c d e) c d e places rest can.edge_free pair apart fine.apart closes w
-      (join_stays N c d e can) (after_joined N c d e can) (halves_joined N c d e can) (join_tails N c d e can)
-
-  pair_linked : (M : Model) (f : ℕ) (N : Model) (q : ℕ × ℕ) (e : ℕ) (places rest : List ℕ) → JoinedIn M N f → Fits M f q → in_one_loop N q ≡ false → table.get N.edges e ≡ None → IsTrue (is_number e) →
-      IsGood q → Open B places → Closes q.0 q.1 places rest → Linked N places → Linked (effect N (join_pair N q e)) rest
-  pair_linked M f N q e places rest joined fits two free efits good fine closes w = by_ring (is_ring_of N (face_at N q.0) (loop_of N q.0)) refl where
-    by_ring : (b : Bool) → is_ring_of N (face_at N q.0) (loop_of N q.0) ≡ b → Linked (effect N (cond b (join_edge q.1 q.0 e) (join_edge q.0 q.1 e))) rest
-    by_ring true r = joined_linked N q.1 q.0 e places rest (can_back M N f q e joined fits two free efits r) (turned_pair q.0 q.1 good.pair) (λ s. good.cross.apart (sym s)) fine (other_order q.0 q.1 places rest closes) w
-    by_ring false r = joined_linked N q.0 q.1 e places rest (can_on M N f q e joined fits two free efits r) good.pair good.cross.apart fine closes w
-
   ring_linked : (M : Model) (f k : ℕ) (places : List ℕ) (N : Model) (l : ℕ) → DrawnIn M N f → RingOf N f l → Newer M N f k → Linked N places → Linked (ring_in N l k) places
   ring_linked M f k places N l drawn ring newer w =
       let goes = ring_goes M N f l k drawn ring newer in
@@ -187,99 +165,22 @@ module _ (B : Model) (p : Plane) (first : ℕ → Bool) (Place : ℕ → Type 0)
         ];
       }
 
-  -- ---- the two passes over the pairs of a face
-
-  count-ends : (x : ℕ) (as_ bs : List (ℕ × ℕ)) → count x (ends (as_ ++ bs)) ≡ count x (ends as_) + count x (ends bs)
-  count-ends x [] bs = omega arith
-  count-ends x (q ∷ qs) bs = let s : count x (ends (qs ++ bs)) ≡ count x (ends qs) + count x (ends bs) = count-ends x qs bs in omega (arith, s)
-
-  fewer : (places rest : List ℕ) (c d : ℕ) → Closes c d places rest → Open B places → Open B rest
-  fewer places rest c d closes fine = grind arith
-
-  module _ (others : List ℕ) (M : Model) (f : ℕ) where
-    abbrev open_in : List (ℕ × ℕ) → List ℕ
-    open_in qs = ends qs ++ others
-
-    closed_between : (ls : List (ℕ × ℕ)) (q : ℕ × ℕ) (qs : List (ℕ × ℕ)) → Closes q.0 q.1 (open_in (ls ++ q ∷ qs)) (open_in (ls ++ qs))
-    closed_between ls q qs x = omega (arith, count-append x (ends (ls ++ q ∷ qs)) others, count-append x (ends (ls ++ qs)) others, count-ends x ls (q ∷ qs), count-ends x ls qs)
-
-    abbrev AtJoin : Drawing → List (ℕ × ℕ) → Type 0
-    AtJoin d qs = AllOf IsGood d.left × Open B (open_in (d.left ++ qs)) × Linked d.model (open_in (d.left ++ qs)) × AllOf IsGood qs
-
-    joins_link : (d : Drawing) (qs : List (ℕ × ℕ)) (n : ℕ) → AllFit M f qs → Joining M f d qs n → AtJoin d qs → AtJoin (fold join_next d qs) []
-    joins_link d qs n fit w a = joins_keep M f AtJoin
-        (λ d q qs n fits w e a. (
-          all_of_last IsGood d.left q a.0 a.3.0,
-          subst (λ ps. Open B (open_in ps)) (sym (append_assoc d.left (q ∷ []) qs)) a.1,
-          subst (λ ps. Linked d.model (open_in ps)) (sym (append_assoc d.left (q ∷ []) qs)) a.2,
-          a.3.1,
-        ))
-        (λ d q qs n fits w e a. (
-          a.0,
-          fewer (open_in (d.left ++ q ∷ qs)) (open_in (d.left ++ qs)) q.0 q.1 (closed_between d.left q qs) a.1,
-          pair_linked M f d.model q (d.taken.edge + 1) (open_in (d.left ++ q ∷ qs)) (open_in (d.left ++ qs)) w.joined fits e (edge_free M f d q qs n fits w) (edge_fits_now M f d q qs n fits w) a.3.0 a.1 (closed_between d.left q qs) a.2,
-          a.3.1,
-        )) d qs n fit w a
-
-    abbrev AtDraw : Drawing → List (ℕ × ℕ) → Type 0
-    AtDraw d qs = Open B (open_in qs) × Linked d.model (open_in qs) × AllOf IsGood qs
-
-    less : (q : ℕ × ℕ) (qs : List (ℕ × ℕ)) (x : ℕ) → count x (open_in qs) ≤ count x (open_in (q ∷ qs))
-    less q qs x = omega (arith, closed_between [] q qs x)
-
-    draws_link : (d : Drawing) (qs : List (ℕ × ℕ)) (n : ℕ) → Sound M → AllFit M f qs → Going M f d qs n → AtDraw d qs → AtDraw (fold (draw_next f) d qs) []
-    draws_link d qs n sound fit w a = draws_keep M f AtDraw sound
-        (λ d q qs n fits w e a. (
-          fewer (open_in (q ∷ qs)) (open_in qs) q.0 q.1 (closed_between [] q qs) a.0,
-          fewer_open d.model (open_in (q ∷ qs)) (open_in qs) (less q qs) a.1,
-          a.2.1,
-        ))
-        (λ d q qs n fits w e a. (
-          fewer (open_in (q ∷ qs)) (open_in qs) q.0 q.1 (closed_between [] q qs) a.0,
-          drawn_linked d.model q (d.taken.edge + 1) (d.taken.face + 1) (d.taken.loop + 1) (open_in (q ∷ qs)) (open_in qs) (can_now M f sound d q qs n fits w e) a.2.0 a.0 (closed_between [] q qs) a.1,
-          a.2.1,
-        )) d qs n fit w a
-
-  -- ---- a whole face
-
-  module _ (others : List ℕ) (f : ℕ) (qs : List (ℕ × ℕ)) (d : Drawing) (n : ℕ) (w : Ready p f qs d n) (good : AllOf IsGood qs) (fine : Open B (ends qs ++ others)) (linked : Linked d.model (ends qs ++ others)) where
-    abbrev J : Drawing
-    J = all_joined qs d
-
-    abbrev R : Drawing
-    R = ring_free f qs J
-
-    abbrev L : Drawing
-    L = all_drawn f R
-
-    at_joined : AtJoin others d.model f J []
-    at_joined = joins_link others d.model f (record d { left = [] }) qs n w.fit (begun_joining p f qs d n w) (tt, fine, linked, good)
-
-    abbrev Left : Drawing → Type 0
-    Left x = AtDraw others d.model f x x.left
-
-    at_left : Left (ring_free f qs (all_joined qs d))
-    at_left = left_or_stuck (nat_lt 1 (length qs) && has_rings J.model f)
-        (subst (λ ps. Open B (ends ps ++ others)) (append-nil J.left) at_joined.1, subst (λ ps. Linked J.model (ends ps ++ others)) (append-nil J.left) at_joined.2, at_joined.0) where
-          left_or_stuck : (b : Bool) → Left J → Left (cond b (stuck_at f J) J)
-          left_or_stuck true a = a
-          left_or_stuck false a = a
-
-    at_drawn : AtDraw others d.model f L []
-    at_drawn = draws_link others d.model f R R.left n w.sound (fitting p f qs d n w) (going_free p f qs d n w) at_left
-
-    face_linked : Open B others × Linked (drawn_between p f qs d).model others
-    face_linked = (at_drawn.0, shared_or_not (nat_eq (length qs) 1) refl) where
-      shared_or_not : (b : Bool) → nat_eq (length qs) 1 ≡ b → Linked (cond b (record L { model = with_rings L.model (rings_above L.model p f) L.taken.face }) L).model others
-      shared_or_not true e = rings_keep d.model f L.taken.face (λ X. Linked X others) (λ N l. ring_linked d.model f L.taken.face others N l) L.model (rings_above L.model p f) (last p f qs d n w).drawn
-          (are_rings p f qs d n w) (above_apart p f qs d n w) (newer_face p f qs d n w (eqb-true (length qs) 1 e)) at_drawn.1
-      shared_or_not false e = at_drawn.1
-
-  faces_linked : (d : Drawing) (fs : List FacePairs) (n : ℕ) → Drawable d fs n → AllOf (λ f. AllOf IsGood f.pairs) fs → Open B (all_ends fs) → Linked d.model (all_ends fs) → Linked (fold (next_drawn p) d fs).model []
-  faces_linked d [] n w good fine linked = linked
-  faces_linked d (f ∷ fs) n w good fine linked =
-      let r = face_linked (all_ends fs) f.face f.pairs d _ (ready p d f fs n w) good.0 fine linked in
-      faces_linked (next_drawn p d f) fs n (drawable_on p d f fs n w) good.1 r.0 (subst (λ x. Linked x.model (all_ends fs)) (sym (next_is p d f fs n w)) r.1)
+  linked_kept : IsKept IsGood (λ n N places. Open B places × Linked N places)
+  linked_kept = record {
+    turned = λ c d good. record { cross = crosses_back B p first c d good.cross; pair = turned_pair c d good.pair };
+    join = λ n N c d e places rest can good closes a. (
+      fewer B places rest (λ x. omega (arith, closes x)) a.0,
+      linked_more N (loops_joined N c d e) c d e places rest can.edge_free good.pair good.cross.apart a.0.apart closes a.1
+          (join_stays N c d e can) (after_joined N c d e can) (halves_joined N c d e can) (join_tails N c d e can),
+    );
+    draw = λ n N c d e f l places rest can good closes a. (
+      fewer B places rest (λ x. omega (arith, closes x)) a.0,
+      linked_more N (face_drawn N c d e f l) c d e places rest can.edge_free good.pair good.cross.apart a.0.apart closes a.1
+          (draw_stays N c d e f l can) (after_drawn N c d e f l can) (halves_drawn N c d e f l can) (draw_tails N c d e f l can),
+    );
+    stop = λ f d places rest some less a. (fewer B places rest less a.0, fewer_open d.model places rest less a.1);
+    move = λ n M f k N l places drawn ring newer a. (a.0, ring_linked M f k places N l drawn ring newer a.1);
+  }
 
 -- ---- the faces of a solid that straddle
 
@@ -327,6 +228,6 @@ module _ (M : Model) (s : ℕ) (p : Plane) (t : ℕ) (sound : Sound M) (begun : 
   drawings_linked =
       let can = can_be_drawn M s p t sound begun in
       let sides = take_sides M s p t sound begun in
-      faces_linked C p (side_of M s p) (IsEnd M C s p) (undrawn (with_crossings M s p)) (straddling_pairs M s p) 0 (drawable (with_crossings M s p) (straddling_pairs M s p) can)
-      (each_good (straddling_faces M p s) (λ f j. j) can.fit sides.cross) sides.fine
-      (record { stays = record { halves = λ h there. there; tails = λ h there. refl; vertices = refl; faces = λ g there. there }; news = λ x there. inl there })
+      (faces_kept p Good (λ n N places. Open C places × AreLinked C N (side_of M s p) (IsEnd M C s p) places) (linked_kept C p (side_of M s p) (IsEnd M C s p))
+      (undrawn (with_crossings M s p)) (straddling_pairs M s p) 0 (drawable (with_crossings M s p) (straddling_pairs M s p) can) sides.some (each_good (straddling_faces M p s) (λ f j. j) can.fit sides.cross)
+      (sides.fine, record { stays = record { halves = λ h there. there; tails = λ h there. refl; vertices = refl; faces = λ g there. there }; news = λ x there. inl there })).1

@@ -1,13 +1,10 @@
 -- Both parts of a strictly convex solid are convex: its pieces look as their faces did, and the caps along the plane.
-use Rattle.convex_laws.proofs.Prelude.{◌≡◌, ℕ, pos, int_lt, true, false, ◌&&◌, List, [], ◌∷◌, refl, sym, ap, subst, ◌∙◌, inl, inr, Plane, Point, IsIn, direction, dot, is_above, is_on, Model, after, LoopContent, lone, cycle, content, face_at, face_of, items_of, outer, point_of, solid_of, Sound, Has, HasHalf, lists, IsIn_head, in-holds, item_loop, IsIn-from_listed, first_listed, listed-from_in, rest_listed, corners, face_is_above, is_flat, normal, plane_of, with_crossings, with_drawings, are_on, CanBegin, none_lone, cap_faces, never_stuck, Machine, held, IsSplit, IsCapOf, cap, caps_of, IsOfEither, IsTurned, turned_lies, caps_stand, IsConvex, IsStrictlyConvex, LiesAbove, LiesBelow}
-use Rattle.command_laws.proofs.splits_laws.Lines as lines
+use Rattle.convex_laws.proofs.Prelude.{◌≡◌, ℕ, pos, int_lt, true, false, ◌&&◌, List, [], ◌∷◌, refl, sym, ap, subst, ◌∙◌, inl, inr, Plane, Point, IsIn, direction, dot, is_above, is_on, Model, after, LoopContent, lone, cycle, content, face_at, face_of, items_of, outer, point_of, solid_of, Sound, Has, HasHalf, lists, IsIn_head, in-holds, item_loop, IsIn-from_listed, first_listed, listed-from_in, rest_listed, corners, face_is_above, is_flat, normal, plane_of, are_on, none_lone, cap_faces, Machine, held, IsSplit, IsCapOf, cap, caps_of, IsOfEither, IsTurned, turned_lies, caps_stand, IsConvex, IsStrictlyConvex, LiesAbove, LiesBelow, stages}
 use Rattle.command_laws.proofs.splits_laws.Whole as whole
 use Rattle.convex_laws.proofs.Apart as apart
-use Rattle.convex_laws.proofs.Apart.{OuterCap, split_parts_lie_apart}
 use Rattle.convex_laws.proofs.Beside as next
 use Rattle.convex_laws.proofs.CapNormals.{cap_looks}
 use Rattle.convex_laws.proofs.Drawn as drawn
-use Rattle.convex_laws.proofs.Drawn.{next_face}
 use Rattle.convex_laws.proofs.Pieces.{piece_looks}
 use Rattle.convex_laws.proofs.Planes.{above_facing, on_facing, turned_over}
 use Rattle.convex_laws.proofs.Rounds.{lies_flat, under_face}
@@ -22,17 +19,8 @@ module _ (before after_it : Machine) (s : ℕ) (p : Plane) (t : ℕ) (sound : So
   abbrev M : Model
   M = held before
 
-  abbrev begun : CanBegin M s p t
-  begun = lines.begun before after_it s p t sound made
-
-  abbrev unstuck : (with_drawings M s p).stuck ≡ 0
-  unstuck = never_stuck M s p t sound made.0
-
-  abbrev C : Model
-  C = (with_crossings M s p).model
-
-  abbrev D : Model
-  D = (with_drawings M s p).model
+  open stages M s p t use {cut as C, drawn as D}
+  open drawn.drawn_through M s p t sound made.0 use {begun, unstuck}
 
   abbrev N : Model
   N = held after_it
@@ -66,7 +54,7 @@ module _ (before after_it : Machine) (s : ℕ) (p : Plane) (t : ℕ) (sound : So
   some_old k has of =
       let h = some_half k has of in elim ((drawn.linked M s p t sound begun unstuck convex).news h.0 h.1) [
         | inl was ↦ record { old = h.0; was = was; at = h.2 }
-        | inr l ↦ record { old = after D h.0; was = l.pair.d_there; at = next_face D D_sound h.0 h.1 ∙ h.2 }
+        | inr l ↦ record { old = after D h.0; was = l.pair.d_there; at = drawn.next_face D D_sound h.0 h.1 ∙ h.2 }
       ]
 
   -- ---- a face of the drawn solid
@@ -80,7 +68,7 @@ module _ (before after_it : Machine) (s : ℕ) (p : Plane) (t : ℕ) (sound : So
         (λ v l. next.corner_level M s p t sound begun unstuck convex (face_is_above D p k) k has of refl y y_was y_at v (IsIn-from_listed v (corners D k) l)))
 
     pub face_looks : IsHigh (dot (direction (plane_of M (face_at C y))) (normal N k))
-    face_looks = ap (λ v. int_lt (pos 0) (dot (direction (plane_of M (face_at C y))) v)) turned.normal ∙ piece_looks before after_it s p t sound made convex (face_is_above D p k) k has of refl y y_was y_at
+    face_looks = ap (λ v. int_lt (pos 0) (dot (direction (plane_of M (face_at C y))) v)) turned.normal ∙ piece_looks M s p t sound made.0 convex (face_is_above D p k) k has of refl y y_was y_at
 
     face_flat : is_flat N k ≡ true
     face_flat = lies_flat N N_sound k turned.there (plane_of M (face_at C y)) face_on face_looks
@@ -94,7 +82,7 @@ module _ (before after_it : Machine) (s : ℕ) (p : Plane) (t : ℕ) (sound : So
 
   -- ---- a cap
 
-  module _ (k : ℕ) (there : Has N.faces k) (c : OuterCap before after_it s p t sound made k) where
+  module _ (k : ℕ) (there : Has N.faces k) (c : apart.OuterCap before after_it s p t sound made k) where
     pub stand : IsCapOf N p s (cap M s p c.index).lower × IsCapOf N p t (cap M s p c.index).upper
     stand = caps_stand before after_it s p t c.index sound made c.within c.outer
 
@@ -108,7 +96,7 @@ module _ (before after_it : Machine) (s : ℕ) (p : Plane) (t : ℕ) (sound : So
     upper_on = all_level N (turned_over p) (corners N (cap M s p c.index).upper) (λ v l. on_facing true p (point_of N v) (stand.1.on_plane v l))
 
     lie_apart : LiesBelow N p s × LiesAbove N p t
-    lie_apart = split_parts_lie_apart before after_it s p t sound made
+    lie_apart = apart.split_parts_lie_apart before after_it s p t sound made
 
   -- ---- both
 
@@ -125,7 +113,7 @@ module _ (before after_it : Machine) (s : ℕ) (p : Plane) (t : ℕ) (sound : So
         record { flat = flat; below = λ v w. face_below k has of o.old o.was o.at (point_of N v) (b.1 v w) },
       )
 
-  cap_good : (k : ℕ) → Has N.faces k → OuterCap before after_it s p t sound made k → (solid_of N k ≡ s → IsGood k s) × (solid_of N k ≡ t → IsGood k t)
+  cap_good : (k : ℕ) → Has N.faces k → apart.OuterCap before after_it s p t sound made k → (solid_of N k ≡ s → IsGood k s) × (solid_of N k ≡ t → IsGood k t)
   cap_good k there c =
       let w = stand k there c in let l = looks k there c in let a = lie_apart k there c in elim c.which [
         | inl e ↦ (

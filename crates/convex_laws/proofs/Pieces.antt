@@ -1,10 +1,9 @@
 -- The faces of a strictly convex solid once it is drawn look as those do from which they come.
-use Rattle.convex_laws.proofs.Prelude.{◌≡◌, ℕ, zero, suc, ℤ, pos, negsuc, ◌+ℤ◌, ◌*ℤ◌, neg_ℤ, unsigned_abs, int_lt, Bool, true, false, not, refl, sym, ap, subst, ◌∙◌, arith, inl, inr, and_parts, ints, Plane, Point, IsIn, direction, dot, height, is_above, is_on, mate, origin, Model, face_at, point_of, same_point, solid_of, Sound, Has, HasHalf, listed-from_in, boundary, corners, face_is_above, finish, is_flat, normal, plane_of, start, straddles, towards, with_crossings, with_drawings, some_direction, CanBegin, never_stuck, Machine, held, IsSplit, IsStrictlyConvex}
-use Rattle.command_laws.proofs.splits_laws.Lines as lines
+use Rattle.convex_laws.proofs.Prelude.{◌≡◌, ℕ, zero, suc, ℤ, pos, negsuc, ◌+ℤ◌, ◌*ℤ◌, neg_ℤ, unsigned_abs, int_lt, Bool, true, false, not, refl, sym, ap, subst, ◌∙◌, arith, inl, inr, and_parts, ints, Plane, Point, IsIn, direction, dot, height, is_above, is_on, mate, origin, Model, face_at, point_of, same_point, solid_of, Sound, Has, HasHalf, listed-from_in, boundary, corners, face_is_above, finish, is_flat, normal, plane_of, start, straddles, towards, some_direction, IsStrictlyConvex, None, stages, split_refusal}
 use Rattle.command_laws.proofs.splits_laws.Uncut.{uncut_turned}
 use Rattle.convex_laws.proofs.Beside as next
 use Rattle.convex_laws.proofs.Drawn as drawn
-use Rattle.convex_laws.proofs.Drawn.{corner_on, IsInside}
+use Rattle.convex_laws.proofs.Drawn.{corner_on, IsInside, drawn_through}
 use Rattle.convex_laws.proofs.Levels.{IsLow, low_times, product_back}
 use Rattle.convex_laws.proofs.Planes.{IsBent, facing, level_step, step_from}
 use Rattle.convex_laws.proofs.Rounds.{boundary_half, face_looks, in_boundary, weighed_low, weighed_none}
@@ -43,21 +42,9 @@ first_down a b x y some none high low = sum_back (a *ℤ x) (b *ℤ y) (subst Is
   sum_back : (u v : ℤ) → IsHigh (neg_ℤ u) → IsLow v → IsHigh (neg_ℤ (u +ℤ v))
   sum_back u v e f = grind (arith, ints)
 
-module _ (before after_it : Machine) (s : ℕ) (p : Plane) (t : ℕ) (sound : Sound (held before)) (made : IsSplit before after_it s p t) (convex : IsStrictlyConvex (held before) s) where
-  abbrev M : Model
-  M = held before
-
-  abbrev C : Model
-  C = (with_crossings M s p).model
-
-  abbrev D : Model
-  D = (with_drawings M s p).model
-
-  abbrev begun : CanBegin M s p t
-  begun = lines.begun before after_it s p t sound made
-
-  abbrev unstuck : (with_drawings M s p).stuck ≡ 0
-  unstuck = never_stuck M s p t sound made.0
+module _ (M : Model) (s : ℕ) (p : Plane) (t : ℕ) (sound : Sound M) (accepted : split_refusal M s p t ≡ None) (convex : IsStrictlyConvex M s) where
+  open stages M s p t use {cut as C, drawn as D}
+  open drawn_through M s p t sound accepted use {begun, unstuck}
 
   D_sound : Sound D
   D_sound = drawn.D_sound M s p t sound begun unstuck convex
@@ -164,7 +151,7 @@ module _ (before after_it : Machine) (s : ℕ) (p : Plane) (t : ℕ) (sound : So
     unfolding is_flat plane_of
     whole_looks whole =
         let at : k ≡ face_at C y = sym y_at ∙ whole_stays M s p t sound begun y y_was whole in
-        let same : normal D k ≡ normal M (face_at C y) = ap (normal D) at ∙ (uncut_turned M s p t sound made.0 (face_at C y) face_facts.0 whole).normal in
+        let same : normal D k ≡ normal M (face_at C y) = ap (normal D) at ∙ (uncut_turned M s p t sound accepted (face_at C y) face_facts.0 whole).normal in
         ap (λ v. int_lt (pos 0) (dot (normal M (face_at C y)) v)) same
         ∙ has_length (normal M (face_at C y)) (some_direction (plane_of M (face_at C y)) (and_parts (not (same_point (direction (plane_of M (face_at C y))) origin)) _ (convex.convex.flat (face_at C y) face_facts.0 face_facts.1)).0)
 

@@ -1,5 +1,5 @@
 -- Why a split of a strictly convex solid can be refused: each other condition holds.
-use Rattle.convex_laws.proofs.Prelude.{◌≡◌, ℕ, Bool, ◌+◌, true, false, cond, not, ◌&&◌, nat_eq, nat_lt, List, [], ◌∷◌, ◌++◌, length, None, Option, Some, is_some, refl, sym, ap, subst, ◌∙◌, arith, true≢false, Condition, IsIn, Model, Plane, faces_of, first_refusal, Sound, IsIn_head, IsIn_rest, count-filter, filter_passes, IsIn-from_listed, below_halves, face_is_above, faces_above, first_conditions, first_such, has_stray_hole, is_cut_often, is_flat, is_touched, later_conditions, least_branched, least_lone, section_conditions, section_cycles, section_ends, split_conditions, straddles, straddling_faces, with_drawings, early_split_conditions, CanBegin, face_facts, solid_facts, rewritings_sound, AreOf, held, ConvexSplitsAreRefusedFor, IsStrictlyConvex, MayRefuseConvexSplit, all_on_one_side, cut_off_the_lattice, lone_loop, no_such_solid, number_out_of_range, numbers_spent, places_crossed, plane_out_of_range, solid_there_already, vertex_branched}
+use Rattle.convex_laws.proofs.Prelude.{◌≡◌, ℕ, Bool, ◌+◌, true, false, cond, not, ◌&&◌, nat_eq, nat_lt, List, [], ◌∷◌, ◌++◌, length, None, Option, Some, is_some, refl, sym, ap, subst, ◌∙◌, arith, true≢false, Condition, IsIn, Model, Plane, faces_of, first_refusal, Sound, IsIn_head, IsIn_rest, count-filter, filter_passes, IsIn-from_listed, below_halves, face_is_above, faces_above, first_conditions, first_such, has_stray_hole, is_cut_often, is_flat, is_touched, later_conditions, least_branched, least_lone, section_conditions, section_cycles, section_ends, split_conditions, straddles, straddling_faces, with_drawings, early_split_conditions, CanBegin, face_facts, solid_facts, rewritings_sound, AreOf, held, ConvexSplitsAreRefusedFor, IsStrictlyConvex, MayRefuseConvexSplit, all_on_one_side, cut_off_the_lattice, lone_loop, no_such_solid, number_out_of_range, numbers_spent, places_crossed, plane_out_of_range, solid_there_already, vertex_branched, stages}
 use Rattle.euler_operators.specs.declared.Refusal.{Refusal}
 use Rattle.euler_operators.specs.declared.Why.{Why}
 use Rattle.shapes.proofs.fresh.Tests.{none_found, zero_found}
@@ -36,6 +36,10 @@ module _ (P : Why → Type 0) where
   both_fail [] ds w later = later refl
   both_fail (c ∷ cs) ds w later = (w.0, λ h. both_fail cs ds (w.1 h) (λ e. later (ap (λ b. cond b (first_refusal cs) (Some c.refusal)) h ∙ e)))
 
+-- the first fails for this reason, and whether it does tells nothing of the rest
+so : {A B X Y : Type 0} → X → Y → (A → X) × (B → Y)
+so reason rest = (λ e. reason, λ h. rest)
+
 -- a search for what isn't there doesn't fail
 finds_none : (p : ℕ → Bool) (ns : List ℕ) → ((x : ℕ) → IsIn x ns → p x ≡ false) → not (is_some (first_such p ns)) ≡ false → ⊥
 finds_none p ns each e = true≢false (ap (λ o. not (is_some o)) (sym (none ns each)) ∙ e) where
@@ -52,62 +56,25 @@ module _ (M : Model) (s : ℕ) (p : Plane) (t : ℕ) (sound : Sound M) (convex :
 
   first_fail : FailFor MayRefuseConvexSplit (first_conditions M s p t)
   unfolding first_conditions early_split_conditions
-  first_fail = (
-    λ e. number_out_of_range,
-    λ h. (
-      λ e. number_out_of_range,
-      λ h. (
-        λ e. no_such_solid,
-        λ h. (
-          λ e. solid_there_already,
-          λ h. (
-            λ e. plane_out_of_range,
+  first_fail =
+      so number_out_of_range (so number_out_of_range (so no_such_solid (so solid_there_already (so plane_out_of_range (so plane_out_of_range (so plane_out_of_range (so plane_out_of_range (so plane_out_of_range (
+        λ e. lone_loop,
+        λ lone. (
+          λ e. absurd (finds_none (λ f. not (is_flat M f)) (faces_of M s) each_flat e),
+          λ h. so all_on_one_side (so cut_off_the_lattice (
+            λ e. absurd (finds_none (is_touched M p) (straddling_faces M p s) (λ f i. let w = face_facts M s p f i in never_touched M s sound convex f w.0 w.1 p (straddling f i)) e),
             λ h. (
-              λ e. plane_out_of_range,
-              λ h. (
-                λ e. plane_out_of_range,
-                λ h. (
-                  λ e. plane_out_of_range,
-                  λ h. (
-                    λ e. plane_out_of_range,
-                    λ h. (
-                      λ e. lone_loop,
-                      λ lone. (
-                        λ e. absurd (finds_none (λ f. not (is_flat M f)) (faces_of M s) each_flat e),
-                        λ h. (
-                          λ e. all_on_one_side,
-                          λ h. (
-                            λ e. cut_off_the_lattice,
-                            λ h. (
-                              λ e. absurd (finds_none (is_touched M p) (straddling_faces M p s) (λ f i. let w = face_facts M s p f i in never_touched M s sound convex f w.0 w.1 p (straddling f i)) e),
-                              λ h. (
-                                λ e. absurd (finds_none (is_cut_often M p) (straddling_faces M p s) (λ f i. let w = face_facts M s p f i in never_often M s sound convex (none_found (least_lone M (faces_of M s)) lone) f w.0 w.1 p (straddling f i)) e),
-                                λ h.
-                                    (λ e. places_crossed, λ h. (λ e. numbers_spent, λ h. (λ e. numbers_spent, λ h. (λ e. numbers_spent, λ h. (λ e. numbers_spent, λ h. tt))))),
-                              ),
-                            ),
-                          ),
-                        ),
-                      ),
-                    ),
-                  ),
-                ),
-              ),
+              λ e. absurd (finds_none (is_cut_often M p) (straddling_faces M p s) (λ f i. let w = face_facts M s p f i in never_often M s sound convex (none_found (least_lone M (faces_of M s)) lone) f w.0 w.1 p (straddling f i)) e),
+              λ h. so places_crossed (so numbers_spent (so numbers_spent (so numbers_spent (so numbers_spent tt)))),
             ),
-          ),
+          )),
         ),
-      ),
-    ),
-  )
+      )))))))))
 
   abbrev halves : List ℕ
   halves = below_halves (with_drawings M s p).model (faces_above (with_drawings M s p).model p s) s
 
-  abbrev D : Model
-  D = (with_drawings M s p).model
-
-  abbrev above : List ℕ
-  above = faces_above (with_drawings M s p).model p s
+  open stages M s p t use {drawn as D, above}
 
   above_of : AreOf (with_drawings M s p).model (faces_above (with_drawings M s p).model p s) s
   above_of f l = (solid_facts D s f (omega (arith, IsIn-from_listed f above l, count-filter (face_is_above D p) f (faces_of D s)))).1
@@ -127,8 +94,7 @@ module _ (M : Model) (s : ℕ) (p : Plane) (t : ℕ) (sound : Sound M) (convex :
       λ e. vertex_branched,
       λ branched. (
         λ e. absurd (true≢false (sym (ap not (no_stray begun (zero_found (with_drawings M s p).stuck (none_found _ stuck)) (none_found _ branched))) ∙ e)),
-        λ h.
-            (λ e. numbers_spent, λ h. (λ e. numbers_spent, λ h. (λ e. numbers_spent, λ h. (λ e. numbers_spent, λ h. tt)))),
+        λ h. so numbers_spent (so numbers_spent (so numbers_spent (so numbers_spent tt))),
       ),
     ),
   )

@@ -1,9 +1,9 @@
 -- Which way a face looks, seen from a point between two others; and what it says of a face whose corners lie on a plane that it looks along it.
-use Rattle.convex_laws.proofs.Prelude.{int_eq, ◌≡◌, ◌≢◌, ℕ, ℤ, pos, ◌+ℤ◌, ◌*ℤ◌, neg_ℤ, int_lt, true, false, not, ◌&&◌, List, [], ◌∷◌, refl, sym, ap, subst, ◌∙◌, arith, true≢false, inl, inr, eqb_tells, and_parts, false_from_ne_true, ints, Plane, Point, IsIn, cross, direction, dot, height, is_above, is_on, origin, same_point, Model, face_at, face_of, loop_of, point_of, Sound, Has, HasHalf, cycle_there, dif-parts, difs, dot_origin, dot_turned, IsIn_head, IsIn_rest, item_loop, loop_there, same_dif, tick_other, anchor, area, boundary, corners, finish, is_flat, loops_of, normal, plane_of, scaled, start, towards, IsClosed, anchor_on, are_on, cross_nothing, face_of_loop, items_there, same_is, told_alike, cross_across, item_in_face, swept_from}
+use Rattle.convex_laws.proofs.Prelude.{int_eq, ◌≡◌, ◌≢◌, ℕ, ℤ, pos, ◌+ℤ◌, ◌*ℤ◌, neg_ℤ, int_lt, true, false, not, ◌&&◌, List, [], ◌∷◌, refl, sym, ap, subst, ◌∙◌, arith, true≢false, inl, inr, eqb_tells, and_parts, false_from_ne_true, ints, Plane, Point, IsIn, cross, direction, dot, height, is_above, is_on, origin, same_point, Model, face_at, face_of, loop_of, point_of, Sound, Has, HasHalf, cycle_there, dif-parts, difs, dot_origin, dot_turned, IsIn_head, IsIn_rest, item_loop, loop_there, same_dif, tick_other, anchor, area, boundary, corners, finish, is_flat, loops_of, normal, plane_of, scaled, start, towards, IsClosed, anchor_on, are_on, cross_nothing, face_of_loop, items_there, same_is, told_alike, cross_across, item_in_face, swept_from, dot_sum}
 use Rattle.shapes.proofs.measures.FlatFaces.{loops_flat}
 use Rattle.convex_laws.proofs.Levels.{IsLow, dot_scaled, first_more, height_at, low_sum, low_times, no_less, rest_more}
 use Rattle.convex_laws.proofs.Planes.{low_step}
-use Rattle.convex_laws.proofs.Seen.{closed_seen, dot_more, face_seen, seen}
+use Rattle.convex_laws.proofs.Seen.{closed_seen, face_seen, seen}
 use Rattle.convex_laws.proofs.Turns.{IsHigh, either_sign, exchanged_product, has_length, low_factor, low_product, no_times, same_end, swept_over, weighed, high_factor, high_times}
 use Rattle.convex_laws.proofs.Volumes.{item_of_one}
 
@@ -49,7 +49,7 @@ module _ (M : Model) (n u w : Point) (a b : ℕ) where
   total_is [] = sym (weighed_none (pos a) (pos b) (dot n origin) (dot_turned n origin ∙ dot_origin n))
   total_is (h ∷ hs) = ap (λ x. seen_by h +ℤ x) (total_is hs)
       ∙ weighed_sum (pos a) (pos b) (dot n (swept_from M u h)) (dot n (swept_from M w h)) (dot n (seen M u hs)) (dot n (seen M w hs))
-      ∙ (λ i. weighed a b (sym (dot_more M u n (swept_from M u h) (seen M u hs)) i) (sym (dot_more M w n (swept_from M w h) (seen M w hs)) i))
+      ∙ (λ i. weighed a b (sym (dot_sum n (swept_from M u h) (seen M u hs)) i) (sym (dot_sum n (swept_from M w h) (seen M w hs)) i))
 
   none_back : (hs : List ℕ) → ((h : ℕ) → IsIn h hs → int_lt (seen_by h) (pos 0) ≡ false) → int_lt (seen_total hs) (pos 0) ≡ false
   none_back [] each = refl

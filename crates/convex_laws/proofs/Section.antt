@@ -1,8 +1,9 @@
 -- At the edges of the section the faces of the drawn solid bend away from the plane; so the caps look along it, and the section has no holes.
-use Rattle.convex_laws.proofs.Prelude.{list_any, int_eq, ◌≡◌, ◌≢◌, ℕ, ℤ, pos, neg_ℤ, int_lt, Bool, true, false, not, refl, sym, ap, subst, ◌∙◌, arith, true≢false, inl, inr, ints, Plane, Point, IsIn, direction, dot, height, is_above, is_below, is_on, mate, origin, Model, after, face_at, faces_of, point_of, same_point, solid_of, Sound, Has, HasHalf, level_on, IsIn-from_listed, half_face, listed-from_in, corners, face_is_above, finish, plane_of, start, straddles, towards, with_crossings, with_drawings, split_begins, CanBegin, solid_facts, any_from, IsStrictlyConvex, IsVertexOf}
+use Rattle.convex_laws.proofs.Prelude.{list_any, ◌≡◌, ◌≢◌, ℕ, ℤ, pos, neg_ℤ, Bool, true, false, not, refl, sym, ap, subst, ◌∙◌, arith, true≢false, inl, inr, ints, Plane, Point, IsIn, direction, dot, height, is_above, is_below, is_on, mate, origin, Model, after, face_at, faces_of, point_of, same_point, solid_of, Sound, Has, HasHalf, IsIn-from_listed, half_face, listed-from_in, corners, face_is_above, finish, plane_of, start, straddles, towards, with_drawings, split_begins, CanBegin, solid_facts, any_from, IsStrictlyConvex, IsVertexOf, stages}
+use Rattle.split_laws.proofs.measures.Splittable.{level as between}
 use Rattle.convex_laws.proofs.Beside as next
 use Rattle.convex_laws.proofs.Drawn as drawn
-use Rattle.convex_laws.proofs.Drawn.{corner_on, ends_in, IsInside, next_face, starts_in}
+use Rattle.convex_laws.proofs.Drawn.{corner_on, IsInside, next_face}
 use Rattle.convex_laws.proofs.Levels.{IsLow}
 use Rattle.convex_laws.proofs.Touched.{far_corner}
 use Rattle.convex_laws.proofs.Planes.{IsBent, above_facing, below_facing, down_step, facing, high_step, level_step, low_step, on_facing}
@@ -10,17 +11,8 @@ use Rattle.convex_laws.proofs.Standing.{corner_stays}
 use Rattle.convex_laws.proofs.Together.{whole_stays}
 use Rattle.convex_laws.proofs.Turns.{IsHigh, bends_to, has_length, lies_left, never_flat, step_length, strictly_left, turn, up_length}
 
-pub between : (h : ℤ) → int_lt (pos 0) h ≡ false → int_lt h (pos 0) ≡ false → int_eq h (pos 0) ≡ true
-between h e f = level_on h (none h e f) where
-  none : (h : ℤ) → int_lt (pos 0) h ≡ false → int_lt h (pos 0) ≡ false → h ≡ pos 0
-  none h e f = grind (arith, ints)
-
 module _ (M : Model) (s : ℕ) (p : Plane) (t : ℕ) (sound : Sound M) (begun : CanBegin M s p t) (unstuck : (with_drawings M s p).stuck ≡ 0) (convex : IsStrictlyConvex M s) where
-  abbrev C : Model
-  C = (with_crossings M s p).model
-
-  abbrev D : Model
-  D = (with_drawings M s p).model
+  open stages M s p t use {cut as C, drawn as D}
 
   D_sound : Sound D
   D_sound = drawn.D_sound M s p t sound begun unstuck convex

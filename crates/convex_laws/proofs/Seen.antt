@@ -1,5 +1,5 @@
 -- The normal of a face is the sum of what its half-edges sweep over, seen from any point.
-use Rattle.convex_laws.proofs.Prelude.{◌≡◌, ℕ, ℤ, pos, ◌+ℤ◌, ◌-ℤ◌, ◌*ℤ◌, int_lt, true, false, List, [], ◌∷◌, ◌++◌, refl, sym, ap, ◌∙◌, arith, inl, inr, eqb_tells, ints, Point, cross, dot, moved, origin, IsIn, Model, LoopContent, lone, cycle, content, items_of, Sound, IsIn_head, IsIn_rest, dif-parts, difs, number, same_dif, same_vector, tick_other, area, boundary, finish, items_in, loops_of, normal, start, towards, area-append, IsClosed, IsPathTo, begins, loop_closed, RoundLooksAlong, swept_from}
+use Rattle.convex_laws.proofs.Prelude.{◌≡◌, ℕ, ℤ, pos, ◌+ℤ◌, ◌-ℤ◌, ◌*ℤ◌, int_lt, true, false, List, [], ◌∷◌, ◌++◌, refl, sym, ap, ◌∙◌, arith, inl, inr, eqb_tells, Point, cross, dot, moved, origin, IsIn, Model, LoopContent, lone, cycle, content, items_of, Sound, IsIn_head, IsIn_rest, dif-parts, difs, same_dif, same_vector, tick_other, area, boundary, finish, items_in, loops_of, normal, start, towards, area-append, IsClosed, IsPathTo, begins, loop_closed, RoundLooksAlong, swept_from, none_moved, moved_twice, dot_sum, dot_turned, dot_origin}
 use Rattle.convex_laws.proofs.Levels.{first_more, no_less, rest_more}
 
 step_part : (sy sz fy fz qy qz ey ez r : ℤ) → (sy *ℤ fz -ℤ sz *ℤ fy) +ℤ (r +ℤ (qy *ℤ (ez -ℤ fz) -ℤ qz *ℤ (ey -ℤ fy)))
@@ -31,17 +31,9 @@ module _ (M : Model) (q : Point) where
       let s = start M h in let r = seen (h ∷ hs) in
       path_seen (h ∷ hs) s closed ∙ same_vector _ _ (no_part q.y q.z r.x s.z s.y) (no_part q.z q.x r.y s.x s.z) (no_part q.x q.y r.z s.y s.x)
 
-  sum_part : (a b c : ℤ) → (a +ℤ b) +ℤ c ≡ a +ℤ (b +ℤ c)
-  sum_part a b c = omega (arith, ints)
-
-  none_before : (a : ℤ) → a ≡ pos 0 +ℤ a
-  none_before a = omega (arith, ints)
-
   seen-append : (xs ys : List ℕ) → seen (xs ++ ys) ≡ moved (seen xs) (seen ys)
-  seen-append [] ys = let r = seen ys in same_vector r _ (none_before r.x) (none_before r.y) (none_before r.z)
-  seen-append (x ∷ xs) ys =
-      let a = swept_from M q x in let b = seen xs in let c = seen ys in
-      ap (moved a) (seen-append xs ys) ∙ sym (same_vector (moved (moved a b) c) (moved a (moved b c)) (sum_part a.x b.x c.x) (sum_part a.y b.y c.y) (sum_part a.z b.z c.z))
+  seen-append [] ys = sym (none_moved (seen ys))
+  seen-append (x ∷ xs) ys = let a = swept_from M q x in ap (moved a) (seen-append xs ys) ∙ sym (moved_twice a (seen xs) (seen ys))
 
   content_seen : (x : LoopContent) → IsClosed M (items_of x) → area M (items_of x) ≡ seen (items_of x)
   content_seen (lone v) closed = refl
@@ -61,24 +53,13 @@ module _ (M : Model) (q : Point) where
   -- ---- along a vector
 
   module _ (n : Point) where
-    more_part : (a b c x y z u v w : ℤ) → a *ℤ (x +ℤ u) +ℤ b *ℤ (y +ℤ v) +ℤ c *ℤ (z +ℤ w) ≡ (a *ℤ x +ℤ b *ℤ y +ℤ c *ℤ z) +ℤ (a *ℤ u +ℤ b *ℤ v +ℤ c *ℤ w)
-    more_part a b c x y z u v w = rw (dif-parts a, dif-parts b, dif-parts c, dif-parts x, dif-parts y, dif-parts z, dif-parts u, dif-parts v, dif-parts w) (simp difs (same_dif _ _ _ _ (omega arith)))
-
-    pub dot_more : (p r : Point) → dot n (moved p r) ≡ dot n p +ℤ dot n r
-    dot_more p r = more_part n.x n.y n.z p.x p.y p.z r.x r.y r.z
-
-    none_dot : (z : ℤ) → z ≡ pos 0 → int_lt (n.x *ℤ z +ℤ n.y *ℤ z +ℤ n.z *ℤ z) (pos 0) ≡ false
-    none_dot z e = ap (λ h. int_lt h (pos 0)) (zero_part n.x n.y n.z z e) where
-      zero_part : (a b c z : ℤ) → z ≡ pos 0 → a *ℤ z +ℤ b *ℤ z +ℤ c *ℤ z ≡ pos 0
-      zero_part a b c z e = rw (dif-parts a, dif-parts b, dif-parts c, e ∙ number 0, number 0) (simp difs (same_dif _ _ _ _ (omega arith)))
-
     none_back : (hs : List ℕ) → ((h : ℕ) → IsIn h hs → int_lt (dot n (swept_from M q h)) (pos 0) ≡ false) → int_lt (dot n (seen hs)) (pos 0) ≡ false
-    none_back [] each = none_dot (pos 0) refl
-    none_back (h ∷ hs) each = ap (λ x. int_lt x (pos 0)) (dot_more (swept_from M q h) (seen hs)) ∙ no_less (dot n (swept_from M q h)) (dot n (seen hs)) (each h (IsIn_head h hs)) (none_back hs (λ x i. each x (IsIn_rest x h hs i)))
+    none_back [] each = ap (λ h. int_lt h (pos 0)) (dot_turned n origin ∙ dot_origin n)
+    none_back (h ∷ hs) each = ap (λ x. int_lt x (pos 0)) (dot_sum n (swept_from M q h) (seen hs)) ∙ no_less (dot n (swept_from M q h)) (dot n (seen hs)) (each h (IsIn_head h hs)) (none_back hs (λ x i. each x (IsIn_rest x h hs i)))
 
     goes_on : (hs : List ℕ) → ((h : ℕ) → IsIn h hs → int_lt (dot n (swept_from M q h)) (pos 0) ≡ false) → (x : ℕ) → IsIn x hs → int_lt (pos 0) (dot n (swept_from M q x)) ≡ true → int_lt (pos 0) (dot n (seen hs)) ≡ true
     goes_on [] each x i on = absurd (omega (arith, i))
-    goes_on (h ∷ hs) each x i on = ap (int_lt (pos 0)) (dot_more (swept_from M q h) (seen hs)) ∙ elim (eqb_tells x h) [
+    goes_on (h ∷ hs) each x i on = ap (int_lt (pos 0)) (dot_sum n (swept_from M q h) (seen hs)) ∙ elim (eqb_tells x h) [
       | inl e ↦ first_more (dot n (swept_from M q h)) (dot n (seen hs)) (ap (λ y. int_lt (pos 0) (dot n (swept_from M q y))) (sym e.1) ∙ on) (none_back hs (λ y j. each y (IsIn_rest y h hs j)))
       | inr e ↦ rest_more (dot n (swept_from M q h)) (dot n (seen hs)) (each h (IsIn_head h hs)) (goes_on hs (λ y j. each y (IsIn_rest y h hs j)) x (omega (arith, i, tick_other x h e.1)) on)
     ]

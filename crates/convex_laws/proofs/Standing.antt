@@ -1,47 +1,17 @@
 -- A face that the plane doesn't straddle keeps its corners while the other faces are drawn.
-use Rattle.convex_laws.proofs.Prelude.{◌≡◌, ◌⊎◌, ℕ, Bool, true, false, ◌&&◌, ◌||◌, unwrap_or, sym, ap, subst, ◌∙◌, arith, true≢false, inl, inr, false_from_ne_true, Plane, IsIn, are_opposite, edge_of, mate, plus, no_point, Model, face_at, lists, point_of, solid_of, tail, Sound, Has, HasHalf, mate_minus, mate_plus, IsIn-from_listed, halves_of_edge, corners, crossing_edges, straddles, straddling_pairs, with_crossings, with_drawings, split_begins, CanBegin, Stays, any_passes, edge_facts, crossings_keep, tails_stay, drawing_stays, old_face, can_be_drawn, rewritings_sound}
+use Rattle.convex_laws.proofs.Prelude.{◌≡◌, ℕ, false, unwrap_or, sym, ap, subst, ◌∙◌, inl, inr, Plane, IsIn, edge_of, no_point, Model, face_at, point_of, solid_of, tail, Sound, Has, HasHalf, halves_of_edge, corners, straddles, straddling_pairs, with_crossings, with_drawings, split_begins, CanBegin, Stays, crossings_keep, tails_stay, drawing_stays, old_face, can_be_drawn, rewritings_sound, starts_in, stages}
 use Rattle.euler_operators.specs.Table as table
-use Rattle.convex_laws.proofs.Drawn.{ends_in, starts_in}
+use Rattle.command_laws.proofs.splits_laws.Uncut.{uncut}
 use Rattle.convex_laws.proofs.Filled.{corner_half}
 use Rattle.convex_laws.proofs.Together.{whole_stays}
 
-opposite_cases : (a b c d : Bool) → ((a && b) || (c && d)) ≡ true → ((a ≡ true) × (b ≡ true)) ⊎ ((c ≡ true) × (d ≡ true))
-opposite_cases a b c d e = grind arith
-
-both_straddle : (M : Model) (p : Plane) (k a b : ℕ) → IsIn a (corners M k) → IsIn b (corners M k) → are_opposite p (point_of M a) (point_of M b) ≡ true → straddles M p k ≡ true
-unfolding straddles
-both_straddle M p k a b i j e = grind (arith, any_passes, opposite_cases)
-
 module _ (M : Model) (s : ℕ) (p : Plane) (t : ℕ) (sound : Sound M) (begun : CanBegin M s p t) (f : ℕ) (has : Has M.faces f) (of : solid_of M f ≡ s) (whole : straddles M p f ≡ false) where
-  abbrev C : Model
-  C = (with_crossings M s p).model
-
-  abbrev D : Model
-  D = (with_drawings M s p).model
+  open stages M s p t use {cut as C, drawn as D}
 
   module _ (h : ℕ) (half : HasHalf M h) (at : face_at M h ≡ f) where
-    abbrev e : ℕ
-    e = edge_of h
-
-    both_ends : IsIn (tail M (plus e)) (corners M f) × IsIn (tail M (mate (plus e))) (corners M f)
-    both_ends =
-        let starts : IsIn (tail M h) (corners M f) = subst (λ k. IsIn (tail M h) (corners M k)) at (starts_in M sound h half) in
-        let ends : IsIn (tail M (mate h)) (corners M f) = subst (λ k. IsIn (tail M (mate h)) (corners M k)) at (ends_in M sound h half) in
-        elim (halves_of_edge h) [
-          | inl a ↦ subst (λ x. IsIn (tail M x) (corners M f) × IsIn (tail M (mate x)) (corners M f)) a.0 (starts, ends)
-          | inr a ↦ (
-            subst (λ x. IsIn (tail M x) (corners M f)) (ap mate a.0 ∙ mate_minus e) ends,
-            subst (λ x. IsIn (tail M x) (corners M f)) (a.0 ∙ sym (mate_plus e)) starts,
-          )
-        ]
-
-    uncut : lists (crossing_edges M p s) (edge_of h) ≡ false
-    uncut = false_from_ne_true (lists (crossing_edges M p s) e) (λ l. true≢false (sym (both_straddle M p f (tail M (plus e)) (tail M (mate (plus e))) both_ends.0 both_ends.1
-        (edge_facts M sound s p e (IsIn-from_listed e (crossing_edges M p s) l)).2) ∙ whole))
-
     still_starts : tail C h ≡ tail M h
-    still_starts = let w = tails_stay M s p t sound begun e half in elim (halves_of_edge h) [
-      | inl a ↦ subst (λ x. tail C x ≡ tail M x) (sym a.0) (w.1 uncut)
+    still_starts = let w = tails_stay M s p t sound begun (edge_of h) half in elim (halves_of_edge h) [
+      | inl a ↦ subst (λ x. tail C x ≡ tail M x) (sym a.0) (w.1 (uncut M s p sound f whole h half at))
       | inr a ↦ subst (λ x. tail C x ≡ tail M x) (sym a.0) w.0
     ]
 

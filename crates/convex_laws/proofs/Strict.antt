@@ -1,20 +1,17 @@
 -- Both parts of a strictly convex solid are strictly convex: at each of their edges the two faces bend away from each other.
-use Rattle.convex_laws.proofs.Prelude.{◌≡◌, ℕ, pos, int_lt, Bool, true, false, cond, not, List, [], ◌∷◌, filter, fold, map, refl, sym, ap, subst, ◌∙◌, arith, inl, inr, Plane, Point, IsIn, after, cross, direction, dot, is_on, mate, Model, face_at, face_of, loop_of, point_of, tail, solid_of, Sound, Has, HasHalf, part, IsIn_or_not, mate-mate, mate_there, half_face, listed-from_in, Caps, Drawing, Opening, corners, face_is_above, faces_above, finish, hole_closed, is_hole, normal, opened_at, outer_caps, plane_of, start, towards, with_crossings, with_drawings, are_on, IsBelowHalf, cap_faces, upper_faces, CanBegin, side_of, never_stuck, Machine, held, IsSplit, caps_of, cycles_of, IsOfEither, BendsAway, IsStrictlyConvex, PartsOfConvexSolidsHaveVolume, SplitsKeepStrictlyConvex}
+use Rattle.convex_laws.proofs.Prelude.{◌≡◌, ℕ, pos, int_lt, Bool, true, false, cond, not, List, [], ◌∷◌, filter, fold, map, refl, sym, ap, subst, ◌∙◌, arith, inl, inr, Plane, Point, IsIn, after, cross, direction, dot, is_on, mate, Model, face_at, face_of, loop_of, point_of, tail, solid_of, Sound, Has, HasHalf, part, mate-mate, mate_there, half_face, listed-from_in, Caps, corners, face_is_above, finish, hole_closed, is_hole, normal, outer_caps, plane_of, start, towards, are_on, IsBelowHalf, cap_faces, upper_faces, side_of, Machine, held, IsSplit, caps_of, cycles_of, IsOfEither, BendsAway, IsStrictlyConvex, PartsOfConvexSolidsHaveVolume, SplitsKeepStrictlyConvex, count, ◌≤◌, stages}
 use Rattle.split_laws.proofs.measures.Parts.{parts_there}
 use Rattle.split_laws.proofs.volumes.Split as split
-use Rattle.command_laws.proofs.caps_laws.OpenedCaps.{told_filtered}
-use Rattle.command_laws.proofs.splits_laws.Lines as lines
+use Rattle.command_laws.proofs.caps_laws.OpenedCaps.{no_first, told_filtered}
+use Rattle.command_laws.proofs.splits_laws.PartFaces.{uppers_counted}
 use Rattle.command_laws.proofs.splits_laws.Whole as whole
 use Rattle.convex_laws.proofs.Apart as apart
-use Rattle.convex_laws.proofs.Apart.{OuterCap}
 use Rattle.convex_laws.proofs.Beside as next
 use Rattle.convex_laws.proofs.CapNormals.{cycles}
 use Rattle.convex_laws.proofs.Caps as caps
 use Rattle.convex_laws.proofs.Drawn as drawn
-use Rattle.convex_laws.proofs.Drawn.{next_face}
 use Rattle.convex_laws.proofs.Links.{IsEnd, IsLink}
 use Rattle.convex_laws.proofs.Parts as parts
-use Rattle.convex_laws.proofs.Parts.{both_convex}
 use Rattle.convex_laws.proofs.Planes.{turned_over}
 use Rattle.convex_laws.proofs.Rounds.{high_too}
 use Rattle.convex_laws.proofs.Section as section
@@ -24,23 +21,11 @@ use Rattle.convex_laws.proofs.Turns.{IsHigh, turn, turn_first, turn_mate, turn_s
 
 none_mapped : {X Y : Type 0} (f : X → Y) (xs : List X) → map f xs ≡ [] → xs ≡ []
 none_mapped f [] e = refl
-none_mapped f (x ∷ xs) e = absurd (no_first e) where
-  no_first : {Z : Type 0} {v : Z} {vs : List Z} → v ∷ vs ≡ [] → ⊥
-  no_first e = cc
+none_mapped f (x ∷ xs) e = absurd (no_first e)
 
-lower_in : (f : ℕ) (ks : List Caps) → IsIn f (map (λ k. k.lower) ks) → IsIn f (cap_faces ks)
-lower_in f [] i = absurd (omega (arith, i))
-lower_in f (k ∷ ks) i = let later : IsIn f (map (λ k. k.lower) ks) → IsIn f (cap_faces ks) = lower_in f ks in elim (IsIn_or_not f (map (λ k. k.lower) ks)) [
-  | inl j ↦ omega (arith, later j)
-  | inr z ↦ omega (arith, i, z)
-]
-
-upper_in : (f : ℕ) (ks : List Caps) → IsIn f (map (λ k. k.upper) ks) → IsIn f (cap_faces ks)
-upper_in f [] i = absurd (omega (arith, i))
-upper_in f (k ∷ ks) i = let later : IsIn f (map (λ k. k.upper) ks) → IsIn f (cap_faces ks) = upper_in f ks in elim (IsIn_or_not f (map (λ k. k.upper) ks)) [
-  | inl j ↦ omega (arith, later j)
-  | inr z ↦ omega (arith, i, z)
-]
+lowers_counted : (k : ℕ) (ks : List Caps) → count k (map (λ c. c.lower) ks) ≤ count k (cap_faces ks)
+lowers_counted k [] = omega arith
+lowers_counted k (c ∷ cs) = omega (arith, lowers_counted k cs)
 
 -- half-edge h is as it was
 record IsSame (K G : Model) (h : ℕ) : Type 0 where
@@ -57,26 +42,8 @@ module _ (before after_it : Machine) (s : ℕ) (p : Plane) (t : ℕ) (sound : So
   abbrev M : Model
   M = held before
 
-  abbrev begun : CanBegin M s p t
-  begun = lines.begun before after_it s p t sound made
-
-  abbrev unstuck : (with_drawings M s p).stuck ≡ 0
-  unstuck = never_stuck M s p t sound made.0
-
-  abbrev C : Model
-  C = (with_crossings M s p).model
-
-  abbrev d : Drawing
-  d = with_drawings M s p
-
-  abbrev D : Model
-  D = (with_drawings M s p).model
-
-  abbrev above : List ℕ
-  above = faces_above D p s
-
-  abbrev X : Opening
-  X = opened_at d above s p
+  open stages M s p t use {cut as C, drawing as d, drawn as D, above, opened as X}
+  open drawn.drawn_through M s p t sound made.0 use {begun, unstuck}
 
   abbrev N : Model
   N = held after_it
@@ -185,7 +152,7 @@ module _ (before after_it : Machine) (s : ℕ) (p : Plane) (t : ℕ) (sound : So
       never_new : IsLink C D (side_of M s p) (IsEnd M C s p) [] x → ⊥
       never_new l =
           let b = face_is_above D p k in
-          let z_at = next_face D D_sound x w.there in
+          let z_at = drawn.next_face D D_sound x w.there in
           let c_side = next.c_side M s p t sound begun unstuck convex b k k_has k_of refl (after D x) l.pair.d_there z_at x w.there refl l in
           let c_face = next.c_face M s p t sound begun unstuck convex b k k_has k_of refl (after D x) l.pair.d_there z_at x w.there refl l in
           let c_of = next.c_of M s p t sound begun unstuck convex b k k_has k_of refl (after D x) l.pair.d_there z_at x w.there refl l in
@@ -203,12 +170,12 @@ module _ (before after_it : Machine) (s : ℕ) (p : Plane) (t : ℕ) (sound : So
 
     -- ---- a cap lies beyond
 
-    outer : IsIn (face_at X.model (mate h)) (cap_faces X.caps) → OuterCap before after_it s p t sound made (face_at N (mate h))
+    outer : IsIn (face_at X.model (mate h)) (cap_faces X.caps) → apart.OuterCap before after_it s p t sound made (face_at N (mate h))
     outer i = apart.outer_cap before after_it s p t sound made (face_at N (mate h)) beyond_there (listed-from_in (face_at N (mate h)) (cap_faces (caps_of M s p)) (subst (λ f. IsIn f (cap_faces X.caps)) (sym (same (mate h)).face) i))
 
     lower_bends : IsBelowHalf D above s x → IsIn (face_at X.model (mate h)) (map (λ c. c.lower) X.caps) → BendsAway N h
     lower_bends b i =
-        let c = outer (lower_in (face_at X.model (mate h)) X.caps i) in
+        let c = outer (omega (arith, i, lowers_counted (face_at X.model (mate h)) X.caps)) in
         let e = caps.edge M s p t sound begun unstuck convex x b in
         let a = piece_along k k_has k_of e.old e.was e.now in
         let stand = parts.stand before after_it s p t sound made convex (face_at N (mate h)) beyond_there c in
@@ -223,7 +190,7 @@ module _ (before after_it : Machine) (s : ℕ) (p : Plane) (t : ℕ) (sound : So
 
     upper_bends : IsBelowHalf D above s (mate x) → IsIn (face_at X.model (mate h)) (map (λ c. c.upper) X.caps) → BendsAway N h
     upper_bends b i =
-        let c = outer (upper_in (face_at X.model (mate h)) X.caps i) in
+        let c = outer (omega (arith, i, uppers_counted (face_at X.model (mate h)) X.caps)) in
         let side : face_is_above D p k ≡ true = subst (λ y. face_is_above D p (face_at D y) ≡ true) (mate-mate x) (caps.above_side M s p t sound begun unstuck convex (mate x) b) in
         let e = section.section_edge M s p t sound begun unstuck convex true x w.there k_of side
         (subst (λ y. is_on p (start D y) ≡ true) (mate-mate x) (caps.ends_on M s p t sound begun unstuck convex (mate x) b)) (caps.starts_on M s p t sound begun unstuck convex (mate x) b) in
@@ -265,7 +232,7 @@ module _ (before after_it : Machine) (s : ℕ) (p : Plane) (t : ℕ) (sound : So
     ]
 
   pub both_strict : IsStrictlyConvex (held after_it) s × IsStrictlyConvex (held after_it) t
-  both_strict = let c = both_convex before after_it s p t sound made convex in (
+  both_strict = let c = parts.both_convex before after_it s p t sound made convex in (
     record { convex = c.0; bends = λ h there of. all_bend h there (inl of) },
     record { convex = c.1; bends = λ h there of. all_bend h there (inr of) },
   )

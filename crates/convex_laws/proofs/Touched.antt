@@ -1,6 +1,6 @@
 -- A face of a strictly convex solid that straddles the plane isn't touched by it: at each corner on the plane it goes through.
-use Rattle.convex_laws.proofs.Prelude.{int_eq, ◌≡◌, ℕ, ℤ, pos, neg_ℤ, int_lt, Bool, true, false, not, ◌&&◌, ◌||◌, refl, sym, ap, subst, ◌∙◌, arith, true≢false, and_parts, false_from_ne_true, ints, Plane, Point, IsIn, are_opposite, cross, direction, dot, is_above, is_below, is_on, height, opposite, mate, Model, after, before, face_at, point_of, solid_of, tail, Sound, Has, HasHalf, mate_there, IsIn-from_listed, back_of, half_after, half_face, listed-from_in, boundary, corners, crosses, finish, is_place, is_touched, plane_of, reaches_above, reaches_below, start, straddles, towards, any_from, none_from, before_after, IsStrictlyConvex, IsVertexOf}
-use Rattle.convex_laws.proofs.Drawn.{bent_here, beyond_of, corner_on, next_face, next_starts, starts_in, turned_sign}
+use Rattle.convex_laws.proofs.Prelude.{int_eq, ◌≡◌, ℕ, ℤ, pos, neg_ℤ, int_lt, Bool, true, false, not, ◌&&◌, ◌||◌, refl, sym, ap, subst, ◌∙◌, arith, true≢false, and_parts, false_from_ne_true, ints, Plane, Point, IsIn, are_opposite, cross, direction, dot, is_above, is_below, is_on, height, opposite, mate, Model, after, before, face_at, point_of, solid_of, tail, Sound, Has, HasHalf, mate_there, IsIn-from_listed, back_of, half_after, half_face, listed-from_in, boundary, corners, crosses, finish, is_place, is_touched, plane_of, reaches_above, reaches_below, start, straddles, towards, any_from, none_from, before_after, IsStrictlyConvex, IsVertexOf, starts_in}
+use Rattle.convex_laws.proofs.Drawn.{bent_here, beyond_of, corner_on, next_face, next_starts, turned_sign}
 use Rattle.convex_laws.proofs.Levels.{IsLow, twice_back}
 use Rattle.convex_laws.proofs.Planar.{none_below}
 use Rattle.convex_laws.proofs.Planes.{IsBent, above_facing, below_facing, down_step, facing, high_step, level_step, low_step, on_facing}

@@ -1,5 +1,5 @@
 -- How far a vector lies to the right of a step, seen from above: signs of products, and what three vectors across a step tell of each other.
-use Rattle.convex_laws.proofs.Prelude.{◌≡◌, ◌≢◌, ◌⊎◌, ℕ, zero, suc, ◌+◌, ◌*◌, ℤ, pos, negsuc, ◌+ℤ◌, ◌-ℤ◌, ◌*ℤ◌, neg_ℤ, int_lt, Bool, true, false, refl, sym, ap, subst, ◌∙◌, arith, true≢false, inl, inr, ints, Point, dot, cross, moved, origin, dif-parts, difs, neg-dif, same_dif, same_vector, dot_turned, dot_origin, number, negated, scaled, towards, cross_nothing, cross_across}
+use Rattle.convex_laws.proofs.Prelude.{◌≡◌, ◌≢◌, ◌⊎◌, ℕ, zero, suc, ◌+◌, ◌*◌, ℤ, pos, negsuc, ◌+ℤ◌, ◌-ℤ◌, ◌*ℤ◌, neg_ℤ, int_lt, Bool, true, false, refl, sym, ap, subst, ◌∙◌, arith, true≢false, inl, inr, ints, Point, dot, cross, moved, origin, dif-parts, difs, neg-dif, same_dif, same_vector, dot_turned, dot_origin, number, negated, scaled, towards, cross_nothing, cross_across, dot_sum, dot_back, cross_back}
 use Rattle.convex_laws.proofs.Levels.{IsLow, dot_scaled, is_low, low_is, product_back, product_part, twice_back}
 
 -- ---- signs
@@ -99,11 +99,8 @@ module _ (n d m : Point) (level : dot d n ≡ pos 0) (beside : dot d m ≡ pos 0
   turn_key e across = ap (λ x. turn n d m *ℤ x) (dot_turned d (cross n e)) ∙ told_along (cross n e)
       ∙ ap (λ x. dot d d *ℤ x) (triple n e (cross n m) ∙ ap (dot n) (cross_across e n m (dot e m) (pos 0) refl across) ∙ less_none n m n (dot e m))
 
-back_part : (a b c d e f g h k : ℤ) → d *ℤ (b *ℤ k -ℤ c *ℤ h) +ℤ e *ℤ (c *ℤ g -ℤ a *ℤ k) +ℤ f *ℤ (a *ℤ h -ℤ b *ℤ g) ≡ neg_ℤ (g *ℤ (b *ℤ f -ℤ c *ℤ e) +ℤ h *ℤ (c *ℤ d -ℤ a *ℤ f) +ℤ k *ℤ (a *ℤ e -ℤ b *ℤ d))
-back_part a b c d e f g h k = rw (dif-parts a, dif-parts b, dif-parts c, dif-parts d, dif-parts e, dif-parts f, dif-parts g, dif-parts h, dif-parts k) (simp (difs, neg-dif) (same_dif _ _ _ _ (omega arith)))
-
 pub turn_back : (n d e : Point) → turn n d e ≡ neg_ℤ (turn n e d)
-turn_back n d e = back_part n.x n.y n.z d.x d.y d.z e.x e.y e.z
+turn_back n d e = sym (triple d n e) ∙ dot_turned (cross d n) e ∙ ap (dot e) (cross_back n d) ∙ dot_back e (cross n d)
 
 swept_part : (a b c p q r s t u x y z : ℤ) →
     a *ℤ ((t -ℤ q) *ℤ (z -ℤ r) -ℤ (u -ℤ r) *ℤ (y -ℤ q)) +ℤ b *ℤ ((u -ℤ r) *ℤ (x -ℤ p) -ℤ (s -ℤ p) *ℤ (z -ℤ r)) +ℤ c *ℤ ((s -ℤ p) *ℤ (y -ℤ q) -ℤ (t -ℤ q) *ℤ (x -ℤ p))
@@ -169,11 +166,8 @@ weighed a b x y = pos a *ℤ x +ℤ pos b *ℤ y
 abbrev pub mixed : ℕ → ℕ → Point → Point → Point
 mixed a b p q = moved (scaled (pos a) p) (scaled (pos b) q)
 
-more_part : (a b c x y z u v w : ℤ) → a *ℤ (x +ℤ u) +ℤ b *ℤ (y +ℤ v) +ℤ c *ℤ (z +ℤ w) ≡ (a *ℤ x +ℤ b *ℤ y +ℤ c *ℤ z) +ℤ (a *ℤ u +ℤ b *ℤ v +ℤ c *ℤ w)
-more_part a b c x y z u v w = rw (dif-parts a, dif-parts b, dif-parts c, dif-parts x, dif-parts y, dif-parts z, dif-parts u, dif-parts v, dif-parts w) (simp difs (same_dif _ _ _ _ (omega arith)))
-
 dot_mixed : (a b : ℕ) (n p q : Point) → dot n (mixed a b p q) ≡ weighed a b (dot n p) (dot n q)
-dot_mixed a b n p q = more_part n.x n.y n.z (pos a *ℤ p.x) (pos a *ℤ p.y) (pos a *ℤ p.z) (pos b *ℤ q.x) (pos b *ℤ q.y) (pos b *ℤ q.z) ∙ (λ i. dot_scaled (pos a) n p i +ℤ dot_scaled (pos b) n q i)
+dot_mixed a b n p q = dot_sum n (scaled (pos a) p) (scaled (pos b) q) ∙ (λ i. dot_scaled (pos a) n p i +ℤ dot_scaled (pos b) n q i)
 
 pub turn_second : (n d m : Point) → turn n d m ≡ dot (cross d n) m
 turn_second n d m = sym (triple d n m)
@@ -311,11 +305,8 @@ towards_back s f = same_vector _ _ (back f.x s.x) (back f.y s.y) (back f.z s.z) 
   back : (x y : ℤ) → y -ℤ x ≡ neg_ℤ (x -ℤ y)
   back x y = omega (arith, ints)
 
-dot_back_part : (a b c x y z : ℤ) → neg_ℤ a *ℤ x +ℤ neg_ℤ b *ℤ y +ℤ neg_ℤ c *ℤ z ≡ neg_ℤ (a *ℤ x +ℤ b *ℤ y +ℤ c *ℤ z)
-dot_back_part a b c x y z = rw (dif-parts a, dif-parts b, dif-parts c, dif-parts x, dif-parts y, dif-parts z) (simp (difs, neg-dif) (same_dif _ _ _ _ (omega arith)))
-
 pub dot_negated : (p q : Point) → dot (negated p) q ≡ neg_ℤ (dot p q)
-dot_negated p q = dot_back_part p.x p.y p.z q.x q.y q.z
+dot_negated p q = dot_turned (negated p) q ∙ dot_back q p ∙ ap neg_ℤ (dot_turned q p)
 
 module _ (n p s f e m : Point) (d_level : dot n (towards s f) ≡ pos 0) (d_on : dot p (towards s f) ≡ pos 0) (e_level : dot n e ≡ pos 0) (e_beside : dot m e ≡ pos 0) (e_bends : IsHigh (turn n e m)) (under : IsLow (dot m (towards f s))) (down : IsHigh (neg_ℤ (dot p e))) (apart : towards s f ≢ origin) where
   back_level : dot n (towards f s) ≡ pos 0
@@ -330,12 +321,10 @@ module _ (n p s f e m : Point) (d_level : dot n (towards s f) ≡ pos 0) (d_on :
 
 -- ---- a face that lies along another plane
 
-cross_back_part : (a b c d e f x y z : ℤ) → x *ℤ (neg_ℤ b *ℤ f -ℤ neg_ℤ c *ℤ e) +ℤ y *ℤ (neg_ℤ c *ℤ d -ℤ neg_ℤ a *ℤ f) +ℤ z *ℤ (neg_ℤ a *ℤ e -ℤ neg_ℤ b *ℤ d) ≡ x *ℤ (e *ℤ c -ℤ f *ℤ b) +ℤ y *ℤ (f *ℤ a -ℤ d *ℤ c) +ℤ z *ℤ (d *ℤ b -ℤ e *ℤ a)
-cross_back_part a b c d e f x y z = rw (dif-parts a, dif-parts b, dif-parts c, dif-parts d, dif-parts e, dif-parts f, dif-parts x, dif-parts y, dif-parts z) (simp (difs, neg-dif) (same_dif _ _ _ _ (omega arith)))
-
 -- an edge between two faces, seen from the one turned over
 pub turn_over : (p d n : Point) → turn (negated p) d n ≡ turn n d p
-turn_over p d n = cross_back_part p.x p.y p.z n.x n.y n.z d.x d.y d.z
+turn_over p d n = dot_turned d (cross (negated p) n) ∙ triple (negated p) n d ∙ dot_negated p (cross n d) ∙ ap neg_ℤ (dot_turned p (cross n d))
+    ∙ sym (turn_second n d p ∙ ap (λ v. dot v p) (cross_back n d) ∙ dot_negated (cross n d) p)
 
 -- step d leads along two planes, and some point lies strictly on the left of it: where d doesn't turn from one plane to the other, they are parallel. Then
 -- not both a point above the one and a point below it lie under the other
@@ -378,9 +367,6 @@ module _ (n d p e u w : Point) (level : dot n d ≡ pos 0) (beside : dot p d ≡
 pub turn_first : (n d m : Point) → turn n d m ≡ dot (cross m d) n
 turn_first n d m = turn_second n d m ∙ dot_turned (cross d n) m ∙ sym (triple m d n)
 
-mate_part : (a b c l m n s t u x y z : ℤ) → (s -ℤ x) *ℤ (m *ℤ c -ℤ n *ℤ b) +ℤ (t -ℤ y) *ℤ (n *ℤ a -ℤ l *ℤ c) +ℤ (u -ℤ z) *ℤ (l *ℤ b -ℤ m *ℤ a)
-    ≡ (x -ℤ s) *ℤ (b *ℤ n -ℤ c *ℤ m) +ℤ (y -ℤ t) *ℤ (c *ℤ l -ℤ a *ℤ n) +ℤ (z -ℤ u) *ℤ (a *ℤ m -ℤ b *ℤ l)
-mate_part a b c l m n s t u x y z = rw (dif-parts a, dif-parts b, dif-parts c, dif-parts l, dif-parts m, dif-parts n, dif-parts s, dif-parts t, dif-parts u, dif-parts x, dif-parts y, dif-parts z) (simp difs (same_dif _ _ _ _ (omega arith)))
-
 pub turn_mate : (n m s f : Point) → turn m (towards f s) n ≡ turn n (towards s f) m
-turn_mate n m s f = mate_part n.x n.y n.z m.x m.y m.z s.x s.y s.z f.x f.y f.z
+turn_mate n m s f = let v = towards s f in
+    ap (λ d. turn m d n) (towards_back s f) ∙ dot_negated v (cross m n) ∙ ap neg_ℤ (ap (dot v) (cross_back n m) ∙ dot_back v (cross n m)) ∙ twice_back (turn n v m)

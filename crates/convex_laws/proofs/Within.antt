@@ -1,5 +1,5 @@
 -- A split makes no vertex outside: each half-space that holds the solid holds the cut points, and so both parts.
-use Rattle.convex_laws.proofs.Prelude.{◌≡◌, ◌≢◌, ◌⊎◌, ℕ, ◌+◌, ℤ, unsigned_abs, Bool, true, false, List, [], ◌∷◌, length, map, fold, Some, is_some, unwrap_or, refl, sym, ap, subst, ◌∙◌, arith, true≢false, inl, inr, filter, eq-eqb, eqb_tells, nat_tests, ints, Plane, Point, height, opposite, is_above, cut_between, IsIn, mate, plus, Table, Model, no_point, face_of, loop_of, solid_of, point_of, tail, Sound, Has, HasHalf, face_at, part, from_map, IsIn_head, IsIn_rest, loop_there, mate_there, plus_there, point_row, row_some, IsIn-from_listed, listed-from_in, start, finish, corners, loops_of, Growing, growing, crossing_edges, all_cut, next_cut, with_crossings, faces_above, Drawing, straddling_pairs, with_drawings, below_halves, section_cycles, Opening, both_lists, holes_closed, opened_along, numbers_after, opened_at, outer_caps, face_of_loop, get-put_cases, on_one, on_some, CanBegin, edge_facts, Stays, drawing_stays, can_be_drawn, rewritings_sound, CanBeOpenedInTurn, upper_faces, opened_sound, can_open, openings_carry, vertices_are, listed_front, Machine, held, IsSplit, IsVertexOf, LiesBelow, SplitsStayBelow, loop_in_face, vertex_there, Agree, OnSolid, agree_on, half_is_on, has_owner, is_either, is_of, owner_is, solid_of_vertex, vertex_kept}
+use Rattle.convex_laws.proofs.Prelude.{◌≡◌, ◌≢◌, ◌⊎◌, ℕ, ◌+◌, ℤ, unsigned_abs, Bool, true, false, List, [], ◌∷◌, length, map, fold, Some, is_some, unwrap_or, refl, sym, ap, subst, ◌∙◌, arith, true≢false, inl, inr, filter, eq-eqb, eqb_tells, nat_tests, ints, Plane, Point, height, opposite, is_above, cut_between, IsIn, mate, plus, Table, Model, no_point, face_of, loop_of, solid_of, point_of, tail, Sound, Has, HasHalf, face_at, from_map, IsIn_head, IsIn_rest, loop_there, mate_there, plus_there, point_row, row_some, IsIn-from_listed, listed-from_in, start, finish, corners, loops_of, Growing, growing, crossing_edges, all_cut, next_cut, with_crossings, straddling_pairs, with_drawings, below_halves, section_cycles, Opening, both_lists, opened_along, numbers_after, outer_caps, face_of_loop, get-put_cases, on_one, on_some, CanBegin, edge_facts, Stays, drawing_stays, can_be_drawn, rewritings_sound, CanBeOpenedInTurn, opened_sound, can_open, openings_carry, vertices_are, listed_front, Machine, held, IsSplit, IsVertexOf, LiesBelow, SplitsStayBelow, loop_in_face, vertex_there, Agree, OnSolid, agree_on, half_is_on, has_owner, is_either, is_of, owner_is, solid_of_vertex, vertex_kept, stages}
 use Rattle.euler_operators.specs.Table as table
 use Rattle.solid_measure_laws.proofs.Cuts.{cut_divides}
 use Rattle.split_drawing_laws.proofs.crossings.OneCut.{cut_rows, edge_cut}
@@ -105,11 +105,7 @@ abbrev IsUnder : ℕ → Plane → Model → Type 0
 IsUnder s q G = (v : ℕ) → OnSolid G s v → is_above q (point_of G v) ≡ false
 
 module _ (M : Model) (s : ℕ) (p : Plane) (t : ℕ) (sound : Sound M) (begun : CanBegin M s p t) (q : Plane) (below : LiesBelow M q s) where
-  abbrev C : Model
-  C = (with_crossings M s p).model
-
-  abbrev D : Model
-  D = (with_drawings M s p).model
+  open stages M s p t use {cut as C, drawn as D}
 
   first_under : IsUnder s q M
   first_under v w = below v (vertex_is M sound s v w)
@@ -149,20 +145,7 @@ module _ (before after : Machine) (s : ℕ) (p : Plane) (t : ℕ) (sound : Sound
   abbrev M : Model
   M = held before
 
-  abbrev d : Drawing
-  d = with_drawings M s p
-
-  abbrev above : List ℕ
-  above = faces_above d.model p s
-
-  abbrev X : Opening
-  X = opened_at d above s p
-
-  abbrev K : Model
-  K = holes_closed X.model X.caps
-
-  abbrev us : List ℕ
-  us = upper_faces above X.caps
+  open stages M s p t use {drawing as d, above, opened as X, closed as K, upper as us, parted as N}
 
   begun : CanBegin M s p t
   begun = begins M s p t sound made.0
@@ -200,9 +183,6 @@ module _ (before after : Machine) (s : ℕ) (p : Plane) (t : ℕ) (sound : Sound
       (section_cycles d.model (below_halves d.model above s)) (whole.can before after s p t sound made).opens (drawn_under M s p t sound begun q below)
 
   -- no vertex comes or moves then
-  abbrev N : Model
-  N = part K s t us
-
   parted : Agree X.model N (is_of s) (is_either s t)
   parted =
       let can = whole.can before after s p t sound made in
