@@ -1,7 +1,6 @@
 -- A command is one call of a history, whatever it is told.
 use Rattle.commands.proofs.Prelude.{◌≡◌, inl, inr, None, Option, refl, sym, ap, subst, plane_with, Change, Journal, Machine, Refusal, Told, accepted, held, refusal_of, made, Settled}
 use Rattle.undo_journal.specs.Histories as histories
-use Rattle.undo_journal.specs.Histories.{unless}
 use Rattle.undo_journal.specs.Machine.{act}
 use Rattle.undo_journal.proofs.Journals.{same_machine}
 use Rattle.sweeps.specs.Calls.{LaminasAreCalls, BlocksAreCalls, SweepsAreCalls}
@@ -32,7 +31,7 @@ settles o L G s t a goes h = elim (ended o L (t ≡ s) G a h) [
 ]
 
 changes : LargerAreCalls → (s : Machine) (c : Change) → Sound (held s) → refusal_of (held s) c ≡ None → IsCall s (accepted s (made (held s) c))
-changes l s (change.Act op) k goes = record { call = histories.acted op; leads = ap (λ (o : Option Refusal). unless o (act s op) s) goes }
+changes l s (change.Act op) k goes = record { call = histories.acted op; leads = ap (λ (o : Option Refusal). histories.unless o (act s op) s) goes }
 changes l s (change.Lamina n ps) k goes = record { call = histories.made _; leads = l.lamina s n ps k goes }
 changes l s (change.Block n p dx dy dz) k goes = record { call = histories.made _; leads = l.block s n p dx dy dz k goes }
 changes l s (change.Sweep f d) k goes = record { call = histories.made _; leads = l.sweep s f d k goes }

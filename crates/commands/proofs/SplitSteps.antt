@@ -4,10 +4,9 @@ use Rattle.euler_operators.specs.declared.Op.TheVariants.{Kef, Part}
 use Rattle.euler_laws.proofs.Common.{no_zero}
 use Rattle.shapes.proofs.split.Facts.{split_opens}
 use Rattle.split_drawing_laws.specs.crossings.CrossingOps as crossings
-use Rattle.split_drawing_laws.specs.crossings.CrossingOps.{crossing_ops}
 use Rattle.split_drawing_laws.specs.drawings.DrawingOps.{join_ops, draw_ops, ring_ops, share_ops, face_ops, ops_from, drawing_ops}
 use Rattle.split_drawing_laws.specs.drawings.Pairs.{AllOf, pairs_in}
-use Rattle.split_drawing_laws.proofs.crossings.Premises.{solid_facts}
+use Rattle.split_drawing_laws.proofs.crossings.Premises.{faces_not_zero}
 use Rattle.split_drawing_laws.proofs.drawings.Counted.{pairs_counted, of_all_pairs}
 use Rattle.split_drawing_laws.proofs.drawings.Passes.{join_next_one, join_next_two, draw_next_two, stuck_now}
 use Rattle.split_drawing_laws.proofs.loop_sides.SidesWhole.{draws_go_on, not_stuck}
@@ -20,8 +19,9 @@ use Rattle.split_opening_laws.proofs.sections.InTurn.{can_open, others_on}
 use Rattle.split_opening_laws.proofs.sections.Numbered.{length-numbers_after}
 use Rattle.split_opening_laws.proofs.cycles.NextBelow.{cycles_long}
 use Rattle.split_laws.specs.SplitOps.{openings_ops, closing_ops, hole_ops, split_ops}
-use Rattle.split_laws.proofs.Flags.{flags_are}
+use Rattle.split_laws.proofs.Flags.{filter_trues, flags_are, trues}
 use Rattle.split_laws.proofs.drawn.Drawn.{never_stuck, drawn_sound, above_facts, can_open_all}
+use Rattle.split_laws.proofs.Stages.{stages}
 
 -- ---- the operators that give no ring to another face
 
@@ -180,23 +180,12 @@ closing_others o (k ∷ ks) = omega (arith, closing_others o ks)
 
 -- as many of some things pass a test as of others, where the answers are the same
 same_passes : {X Y : Type 0} (f : X → Bool) (g : Y → Bool) (xs : List X) (ys : List Y) → map f xs ≡ map g ys → length (filter f xs) ≡ length (filter g ys)
-same_passes f g xs ys e = passes f xs ∙ ap trues e ∙ sym (passes g ys) where
-  trues : List Bool → ℕ
-  trues [] = 0
-  trues (b ∷ bs) = one_if b + trues bs
-
-  passes : {X : Type 0} (f : X → Bool) (xs : List X) → length (filter f xs) ≡ trues (map f xs)
-  passes f [] = refl
-  passes f (x ∷ xs) = omega (arith, length-cond (f x) x (filter f xs), passes f xs)
+same_passes f g xs ys e = filter_trues f xs ∙ ap trues e ∙ sym (filter_trues g ys)
 
 -- ---- a split
 
 module _ (M : Model) (s : ℕ) (p : Plane) (t : ℕ) (sound : Sound M) (accepted : split_refusal M s p t ≡ None) where
-  abbrev d : Drawing
-  d = with_drawings M s p
-
-  abbrev above : List ℕ
-  above = faces_above d.model p s
+  open stages M s p t use {drawing as d, above, begun, opened}
 
   abbrev section : List ℕ
   section = below_halves d.model above s
@@ -204,23 +193,14 @@ module _ (M : Model) (s : ℕ) (p : Plane) (t : ℕ) (sound : Sound M) (accepted
   abbrev cycles : List (List ℕ)
   cycles = section_cycles d.model section
 
-  abbrev begun : Opening
-  begun = record { model = d.model; taken = d.taken; caps = [] }
-
-  abbrev opened : Opening
-  opened = opened_at d above s p
-
-  some_face : (f : ℕ) → IsIn f (straddling_faces M p s) → f ≢ 0
-  some_face f i z = no_zero f z (sound.faces_fit f (solid_facts M s f (omega (arith, i, count-filter (straddles M p) f (faces_of M s)))).0)
-
   drawings : others (drawing_ops p (with_crossings M s p) (straddling_pairs M s p)) ≡ pair_count M p (straddling_faces M p s)
   unfolding drawing_ops with_drawings
   drawings =
-      faces_others p (undrawn (with_crossings M s p)) (straddling_pairs M s p) (of_all_pairs (λ (f : FacePairs). f.face ≢ 0) M (with_crossings M s p).model p (straddling_faces M p s) some_face) (never_stuck M s p t sound accepted)
+      faces_others p (undrawn (with_crossings M s p)) (straddling_pairs M s p) (of_all_pairs (λ (f : FacePairs). f.face ≢ 0) M (with_crossings M s p).model p (straddling_faces M p s) (faces_not_zero M sound s p)) (never_stuck M s p t sound accepted)
       ∙ pairs_counted M (with_crossings M s p).model p (straddling_faces M p s)
 
-  crossing : others (crossing_ops M s p) ≡ length (crossing_edges M p s)
-  unfolding crossing_ops
+  crossing : others (crossings.crossing_ops M s p) ≡ length (crossing_edges M p s)
+  unfolding crossings.crossing_ops
   crossing = crossing_others p (growing M) (crossing_edges M p s)
 
   can_open_cycles : CanBeOpenedInTurn above s begun cycles
@@ -235,7 +215,7 @@ module _ (M : Model) (s : ℕ) (p : Plane) (t : ℕ) (sound : Sound M) (accepted
   split_others : others (split_ops M s p t) ≡ length (crossing_edges M p s) + pair_count M p (straddling_faces M p s) + 3 * length section + length cycles + 2 * length (holes_in d.model p cycles) + 1
   unfolding split_ops
   split_others =
-      let cuts : List Op = crossing_ops M s p in let draws : List Op = drawing_ops p (with_crossings M s p) (straddling_pairs M s p) in
+      let cuts : List Op = crossings.crossing_ops M s p in let draws : List Op = drawing_ops p (with_crossings M s p) (straddling_pairs M s p) in
       let opens : List Op = openings_ops above s p begun cycles in let closes : List Op = hole_ops opened.caps in let parts : List Op = Part s t (upper_left above opened.caps) ∷ [] in
       omega (
         arith,
