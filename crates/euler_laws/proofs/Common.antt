@@ -23,7 +23,7 @@ pub use Rattle.euler_laws.proofs.mev.Mev.{lone_accepted, lone_goes, mev_accepted
 pub use Rattle.euler_laws.proofs.mev.MevSound.{MevGoes, tails_of_row, walks}
 pub use Rattle.euler_laws.proofs.shared.Arcs.{arc_is, halves_of_edge}
 pub use Rattle.euler_laws.proofs.shared.Bounds.{half_below, ring_number, steps, steps_are}
-pub use Rattle.euler_laws.proofs.shared.Counted.{all_where_has, all_where_in, counted_once, none_counted}
+pub use Rattle.euler_laws.proofs.shared.Counted.{all_where_has, all_where_in, counted_once, none_counted, none_in}
 pub use Rattle.euler_laws.proofs.shared.FaceRings.{outer_or_ring, ring_there}
 pub use Rattle.euler_laws.proofs.shared.Faces.{LoopMoves, SameWalks, face_kept, face_moved, walks_same}
 pub use Rattle.euler_laws.proofs.shared.Fans.{Fan, back_of, fan_of, half_after, half_face, loop_after, none_in_fan}

@@ -3,14 +3,11 @@ use Rattle.euler_laws.proofs.Prelude.{◌≡◌, ◌≢◌, ℕ, Bool, true, fal
 use Rattle.euler_laws.proofs.shared.Goes.{all_hold, none_refuses}
 use Rattle.euler_laws.proofs.shared.Undo.{parallel_none, none_parallel}
 use Rattle.euler_laws.proofs.mev.MevSound.{MevGoes, sound-mev}
-use Rattle.euler_laws.proofs.kev.MevUndo.{kev-mev_at}
 use Rattle.euler_laws.proofs.kev.MevUndo as undo
 use Rattle.euler_laws.proofs.kev.MevLone as alone
-use Rattle.euler_laws.proofs.kev.MevLone.{kev-mev_lone}
 use Rattle.euler_laws.proofs.mev.MevLoneSound.{sound-mev_lone}
 use Rattle.euler_laws.proofs.kev.KevSound.{KevGoes, sound-kev}
 use Rattle.euler_laws.proofs.kev.KevUndo as redo
-use Rattle.euler_laws.proofs.kev.KevUndo.{mev_at-kev, mev_lone-kev}
 use Rattle.euler_laws.proofs.mev.Mev.{mev_goes, mev_accepted, lone_goes, lone_accepted, mixed_first, mixed_second}
 use Rattle.euler_laws.proofs.shared.Rows.{half_of, ring_none}
 use Rattle.euler_laws.proofs.shared.Lawful.{IsLawful}
@@ -33,14 +30,14 @@ unfolding effect inverse
 mev_lawful (At g) (At k) h v p M sound e = let w = mev_goes M g k h v p e in let s = sound-mev M sound (code g) (code k) (code h) v p w in record {
   sound = s;
   goes = kev_accepted (mev_at M (code g) (code k) (code h) v p) h s (undo.kev_goes sound w);
-  undone = kev-mev_at sound w;
+  undone = undo.kev-mev_at sound w;
 }
 mev_lawful (At g) (Lone l) h v p M sound e = absurd (mixed_first M g l h v p sound e)
 mev_lawful (Lone l) (At k) h v p M sound e = absurd (mixed_second M l k h v p sound e)
 mev_lawful (Lone l) (Lone d) h v p M sound e = let w = lone_goes M l d h v p e in let u : ℕ = lone_vertex (content M l) in let s = sound-mev_lone sound w in record {
   sound = s;
   goes = kev_accepted (mev_lone M l (code h) v p) h s (alone.kev_goes sound w);
-  undone = kev-mev_lone sound w;
+  undone = alone.kev-mev_lone sound w;
 }
 
 -- ---- kev
@@ -81,8 +78,8 @@ module _ (M : Model) (h : HalfEdge) (sound : Sound M) (goes : KevGoes M (code h)
   unfolding effect
   kev_back =
       let one = eqb_tells (after M m) (code h) in let two = code-half (corner M (code h)) in let three = corners_bare M (code h) in
-      let four = mev_lone-kev sound goes in
-      grind (arith, one, three, goes.not_bare, four, goes, corners_open M (code h), two, code-half (after M m), mev_at-kev sound goes)
+      let four = redo.mev_lone-kev sound goes in
+      grind (arith, one, three, goes.not_bare, four, goes, corners_open M (code h), two, code-half (after M m), redo.mev_at-kev sound goes)
 
   kev_back_goes : first_false N (Mev (kev_corner M (code h)) (kev_corner_mate M (code h)) h (tail M m) p) ≡ None
   kev_back_goes =

@@ -8,13 +8,12 @@ use Rattle.euler_laws.proofs.shared.Undo.{same_edges, edge_again, same_model, ta
 use Rattle.euler_laws.proofs.shared.EdgeMore.{EdgeComes, tail-h, tail-m, OneMore, comes, tail_old}
 use Rattle.euler_laws.proofs.shared.EdgeLess.{of_edge}
 use Rattle.euler_laws.proofs.mev.MevSound as put
-use Rattle.euler_laws.proofs.mev.MevSound.{MevGoes}
 use Rattle.euler_laws.proofs.kev.KevSound as kill
 use Rattle.euler_laws.proofs.kev.KevSound.{KevGoes, without_both, back_none, back_h, back_m}
 use Rattle.euler_laws.proofs.kev.MevUndo.{as_cycle, loops_again}
 use Rattle.euler_laws.proofs.shared.Rows.{point_row, after_second}
 use Rattle.euler_laws.proofs.mev.MevLoneSound as lones
-use Rattle.euler_laws.proofs.mev.MevLoneSound.{LoneGoes}
+use Rattle.euler_laws.proofs.shared.Counted.{none_in}
 
 -- ---- lists
 
@@ -89,7 +88,7 @@ module _ {M : Model} (sound : Sound M) {h : ℕ} (goes : KevGoes M h) where
     to_m : after M h ≡ m
     to_m = goes.not_bare bare
 
-    pub lone_goes : LoneGoes N l h w u (point_of M w)
+    pub lone_goes : lones.LoneGoes N l h w u (point_of M w)
     lone_goes = record {
       is_lone = kill.lone_new M sound h goes bare;
       loop_there = (kill.same M sound h goes).loop l ∙ ap is_some (row_of M sound h goes.h_there);
@@ -177,7 +176,7 @@ module _ {M : Model} (sound : Sound M) {h : ℕ} (goes : KevGoes M h) where
           grind (arith, e, kill.half_old M sound h goes (after M h) t a, kill.tail_moved M sound h goes (after M h) t a, sound.ends_meet h goes.h_there)
     ]
 
-    pub put_goes : MevGoes N c d h w (point_of M w)
+    pub put_goes : put.MevGoes N c d h w (point_of M w)
     put_goes =
         let one = sound.vertices_fit in let two = sound.tails_there in
         grind (arith, one, two, c_new, d_new, kill.edge_gone, kill.vertex_gone, sound.edges_fit, goes.h_there, m_there, sound.points_fit, point_there)
@@ -193,13 +192,10 @@ module _ {M : Model} (sound : Sound M) {h : ℕ} (goes : KevGoes M h) where
 
     -- what follows an item of another loop isn't in this one
     after_out : (q x : ℕ) (hs : List ℕ) → content M q ≡ cycle hs → HasHalf M x → count x hs ≡ 0 → count (after M x) hs ≡ 0
-    after_out q x hs e t n = elim (IsIn_or_not (after M x) hs) [
-      | inl i ↦
-          let l : loop_of M x ≡ q = sym (loop_after M sound x t) ∙ sound.one_loop (after M x) q (in-holds (after M x) (content M q) (subst (λ c. IsIn (after M x) (items_of c)) (sym e) i)) in
-          let j : IsIn x hs = subst (λ c. IsIn x (items_of c)) (ap (content M) l ∙ e) (cycle_there M sound x t) in
-          absurd (omega arith)
-      | inr z ↦ z
-    ]
+    after_out q x hs e t n = none_in (after M x) hs (λ i.
+        let l : loop_of M x ≡ q = sym (loop_after M sound x t) ∙ sound.one_loop (after M x) q (in-holds (after M x) (content M q) (subst (λ c. IsIn (after M x) (items_of c)) (sym e) i)) in
+        let j : IsIn x hs = subst (λ c. IsIn x (items_of c)) (ap (content M) l ∙ e) (cycle_there M sound x t) in
+        omega arith)
 
     mate_apart : h ≢ m
     mate_apart = mate_other h

@@ -5,12 +5,10 @@ use Rattle.euler_laws.proofs.shared.EdgeMore.{OneMore, comes, half_h, half_old, 
 use Rattle.euler_laws.proofs.shared.Loops.{none_free}
 use Rattle.euler_laws.proofs.shared.Undo.{same_edges, edge_back, same_model}
 use Rattle.euler_laws.proofs.mev.MevLoneSound as put
-use Rattle.euler_laws.proofs.mev.MevLoneSound.{LoneGoes}
 use Rattle.euler_laws.proofs.kev.MevUndo.{loops_again}
 use Rattle.euler_laws.proofs.kev.KevSound as kill
-use Rattle.euler_laws.proofs.kev.KevSound.{KevGoes, back_none}
 
-module _ {M : Model} (sound : Sound M) {l h v u : ℕ} {p : Point} (goes : LoneGoes M l h v u p) where
+module _ {M : Model} (sound : Sound M) {l h v u : ℕ} {p : Point} (goes : put.LoneGoes M l h v u p) where
   abbrev N : Model
   N = mev_lone M l h v p
 
@@ -24,7 +22,7 @@ module _ {M : Model} (sound : Sound M) {l h v u : ℕ} {p : Point} (goes : LoneG
   sound-N = put.sound-mev_lone sound goes
 
   -- what kev asks is so after mev
-  pub kev_goes : KevGoes N h
+  pub kev_goes : kill.KevGoes N h
   kev_goes = record { h_there = half_h (comes edge); no_parallel = put.no_parallel-lone sound goes; not_bare = λ _. put.after-h sound goes }
 
   loop_h : loop_of N h ≡ l
@@ -34,7 +32,7 @@ module _ {M : Model} (sound : Sound M) {l h v u : ℕ} {p : Point} (goes : LoneG
   contents q there = elim (eqb_tells q l) [
     | inl e ↦ ap (content K) (e.1 ∙ sym loop_h) ∙ kill.lone_new N sound-N h kev_goes (put.after-m sound goes) ∙ ap lone (tail-h (comes edge)) ∙ sym (ap (content M) e.1 ∙ goes.is_lone)
     | inr e ↦ kill.content-N N sound-N h kev_goes q ∙ ap (kill.new N sound-N h kev_goes) (put.content_other sound goes q e.1)
-        ∙ back_none h (tail N h) (content M q) (none_free M sound h goes.edge_free q) (none_free M sound (mate h) (ap (table.get M.edges) (edge_of-mate h) ∙ goes.edge_free) q)
+        ∙ kill.back_none h (tail N h) (content M q) (none_free M sound h goes.edge_free q) (none_free M sound (mate h) (ap (table.get M.edges) (edge_of-mate h) ∙ goes.edge_free) q)
   ]
 
   loops-back : K.loops ≡ M.loops

@@ -6,7 +6,6 @@ use Rattle.euler_laws.proofs.shared.Same.{SameFaces}
 use Rattle.euler_laws.proofs.shared.Undo.{same_loops, same_edges, edge_back, same_model, taken_out, both_out, put_in, both_in}
 use Rattle.euler_laws.proofs.shared.EdgeMore.{EdgeComes, half_h, half_m, tail-h, tail-m, edge_apart, not_h, not_m, half_old, half_cases}
 use Rattle.euler_laws.proofs.mev.MevSound as put
-use Rattle.euler_laws.proofs.mev.MevSound.{MevGoes}
 use Rattle.euler_laws.proofs.kev.KevSound as kill
 use Rattle.euler_laws.proofs.kev.KevSound.{KevGoes, without_both, back_none, back_h, back_m}
 
@@ -51,7 +50,7 @@ module _ (h g k t : ℕ) where
         stay_in : IsIn k hs → IsIn g hs → IsIn k (canonical (insert_before g h hs))
         stay_in j i = omega (arith, count-canonical k (insert_before g h hs), count-insert_before k g h hs i)
 
-module _ {M : Model} (sound : Sound M) {g k h v : ℕ} {p : Point} (goes : MevGoes M g k h v p) where
+module _ {M : Model} (sound : Sound M) {g k h v : ℕ} {p : Point} (goes : put.MevGoes M g k h v p) where
   abbrev pub N : Model
   N = mev_at M g k h v p
 

@@ -6,7 +6,6 @@ use Rattle.euler_laws.proofs.shared.EdgeMore.{comes, half_h}
 use Rattle.euler_laws.proofs.shared.TwoRows.{content_first, face_same, has_same}
 use Rattle.euler_laws.proofs.mef.MefUndo.{loops-mef, no_h, no_m}
 use Rattle.euler_laws.proofs.mef.MefSound as made
-use Rattle.euler_laws.proofs.mef.MefSound.{MefGoes}
 use Rattle.euler_laws.proofs.mef.Mef.{mef_goes}
 use Rattle.euler_laws.proofs.mef.KefSound as gone
 use Rattle.euler_laws.proofs.mef.KefSound.{KefGoes, sound-kef}
@@ -25,7 +24,7 @@ unfolding first_false conditions
 kef_accepted N h sound goes =
     grind (arith, none_refuses, edge_of-code, sound.edges_fit, goes.h_there, ne_eqb, goes.faces_apart, means_no_rings, goes.no_rings)
 
-pub mef_accepted : (N : Model) (g k h : HalfEdge) (f l : ℕ) → Sound N → MefGoes N (code g) (code k) (code h) f l → first_false N (Mef g k h f l) ≡ None
+pub mef_accepted : (N : Model) (g k h : HalfEdge) (f l : ℕ) → Sound N → made.MefGoes N (code g) (code k) (code h) f l → first_false N (Mef g k h f l) ≡ None
 unfolding first_false conditions
 mef_accepted N g k h f l sound goes =
     grind (arith, none_refuses, edge_of-code, sound.edges_fit, goes, of_half, taken, not_false, ne_eqb, eq-eqb)
@@ -40,7 +39,7 @@ kef_lawful h M sound e =
 
 -- ---- mef
 
-made_goes : (M : Model) (sound : Sound M) (g k h f l : ℕ) (goes : MefGoes M g k h f l) → KefGoes (mef M g k h f l) h
+made_goes : (M : Model) (sound : Sound M) (g k h f l : ℕ) (goes : made.MefGoes M g k h f l) → KefGoes (mef M g k h f l) h
 made_goes M sound g k h f l goes =
     let N : Model = mef M g k h f l in
     let set = made.set sound goes in
@@ -52,7 +51,7 @@ made_goes M sound g k h f l goes =
       no_rings = grind (arith, made.outer_new sound goes, eqb_tells, made.not_f sound goes, sound.loops_of_faces, has_same set, face_same set);
     }
 
-module _ {M : Model} (sound : Sound M) {g k h f l : ℕ} (goes : MefGoes M g k h f l) where
+module _ {M : Model} (sound : Sound M) {g k h f l : ℕ} (goes : made.MefGoes M g k h f l) where
   abbrev E : Model
   E = mef M g k h f l
 

@@ -11,7 +11,6 @@ use Rattle.euler_laws.proofs.shared.EdgeLess.{ticks_apart}
 use Rattle.euler_laws.proofs.shared.TwoRows.{RowsSet, row_first, row_second, row_else, content_first, face_same, has_same, OneOf, TwoRows, lone_else, in_both, loop_both, Elsewhere, none_elsewhere, walks-rows, one_solid-rows, two_rows-more}
 use Rattle.euler_laws.proofs.mekr.MekrSpots.{JoinGoes, count_spot, half_there, loop_there, ring_there, first_cases, vertex_there, only_lone}
 use Rattle.euler_laws.proofs.kemr.KemrSound as parted
-use Rattle.euler_laws.proofs.kemr.KemrSound.{KemrGoes}
 use Rattle.euler_laws.proofs.shared.Undo.{same_model}
 
 -- Y of loop q and X of loop l become the loop h X m Y: mekr, by what its corners stand for
@@ -240,7 +239,7 @@ module _ {M : Model} (sound : Sound M) {h q l u w : ℕ} {Y X : List ℕ} (goes 
   loop_h : loop_of N h ≡ q
   loop_h = loop_new h (inl refl)
 
-  pub part_goes : KemrGoes N h l
+  pub part_goes : parted.KemrGoes N h l
   part_goes = grind (arith, half_h (comes more), comes more, row_second set, loop_h, loop_new m, sound.loops_fit l goes.second.there)
 
   cycle_h : cycle_of N h ≡ canonical ((h ∷ X) ++ m ∷ Y)

@@ -6,7 +6,6 @@ use Rattle.euler_laws.proofs.shared.Loops.{IsLoop, loop_sound, Walks, loop_at}
 use Rattle.euler_laws.proofs.shared.Same.{solid_at}
 use Rattle.euler_laws.proofs.shared.Parts.{set_row, set_here, set_other}
 use Rattle.euler_laws.proofs.shared.EdgeMore as more
-use Rattle.euler_laws.proofs.shared.EdgeMore.{OneMore}
 use Rattle.euler_laws.proofs.shared.EdgeLess as less
 use Rattle.euler_laws.proofs.shared.EdgeLess.{OneLess, of_edge}
 
@@ -194,7 +193,7 @@ pub record RowsChange (M N : Model) (h r s : ℕ) : Type 0 where
   pub others : (x : ℕ) → edge_of x ≢ edge_of h → in_both N r s x ≡ in_both M r s x
   pub once : (x : ℕ) → StandsIn N x r → StandsIn N x s → r ≡ s
 
-pub two_rows-more : {M N : Model} {h u w r s : ℕ} → OneMore M N h u w → RowsChange M N h r s → 1 ≤ in_both N r s h → 1 ≤ in_both N r s (mate h) → TwoRows M N (edge_of h) r s
+pub two_rows-more : {M N : Model} {h u w r s : ℕ} → more.OneMore M N h u w → RowsChange M N h r s → 1 ≤ in_both N r s h → 1 ≤ in_both N r s (mate h) → TwoRows M N (edge_of h) r s
 two_rows-more {M = M} {N = N} {h = h} {r = r} {s = s} edge rows first second = record {
   other_content = λ q n. same_content M N q (rows.other_row q n.0 n.1);
   other_loop = λ q n. ap is_some (rows.other_row q n.0 n.1);
