@@ -1,5 +1,5 @@
 -- The arc round a vertex whose half-edges lie on two sides, and where it lies once the strips are cut off and some copies raised.
-use Rattle.split_opening_laws.proofs.Prelude.{◌≡◌, ◌≢◌, ℕ, ◌+◌, Bool, true, false, List, [], ◌∷◌, ◌++◌, refl, sym, ap, ◌∙◌, subst, arith, ◌⊎◌, inl, inr, true≢false, suc, ◌≤◌, ◌<◌, cond, length, Some, is_some, map, get_or, nat_lt, not, ◌&&◌, option_map, lt-ltb, eqb_tells, nat_tests, le-ltb, cases_Bool, and_right, count, IsIn, IsApart, rotate_to, IsPath, IsRing, between, beyond, canonical, successor, Model, tail, after, arc, round, EdgeRow, tail_in, face_of, Sound, HasHalf, mate, edge_of, plus, minus, get-map_rows, face_at, lists, count-append, tick_same, tick_other, IsIn_or_not, rotate_to-rotates, count-rotate_to, canonical-rotates, IsPath-left, IsPath-right, IsRing-same, successor_same, successor_last, ring_split, upto_other, tail_row, plus_tail_row, minus_tail_row, mate_there, row_some, mate-mate, minus_row, mate_plus, mate_minus, arc_is, halves_of_edge, Fan, fan_of, loop_after, mapped_some, Around, loop_is, face_is, half_is, cycle_is, apart_xs, Taken, next_place, rewritten_row, renamed, opened_tail, opened_row, with_copies, with_rows, put_out, copy_riser, riser_edge, copied, raised_items, raised_loop, raised_edge, copies_raised, CanBeOpened, place_before}
+use Rattle.split_opening_laws.proofs.Prelude.{◌≡◌, ◌≢◌, ℕ, ◌+◌, Bool, true, false, List, [], ◌∷◌, ◌++◌, refl, sym, ap, ◌∙◌, subst, arith, ◌⊎◌, inl, inr, true≢false, suc, ◌≤◌, ◌<◌, cond, length, Some, is_some, map, get_or, nat_lt, not, ◌&&◌, option_map, lt-ltb, eqb_tells, nat_tests, le-ltb, cases_Bool, and_right, count, IsIn, IsApart, rotate_to, IsPath, IsRing, between, beyond, canonical, successor, Model, tail, after, arc, round, EdgeRow, tail_in, face_of, Sound, HasHalf, mate, edge_of, plus, minus, get-map_rows, face_at, lists, count-append, tick_same, tick_other, IsIn_or_not, rotate_to-rotates, count-rotate_to, canonical-rotates, IsPath-left, IsPath-right, IsRing-same, successor_same, successor_last, ring_split, upto_other, tail_row, plus_tail_row, minus_tail_row, mate_there, row_some, mate-mate, minus_row, mate_plus, mate_minus, arc_is, halves_of_edge, Fan, fan_of, loop_after, mapped_some, Around, loop_is, face_is, half_is, cycle_is, apart_xs, Taken, next_place, rewritten_row, renamed, opened_tail, opened_row, with_copies, with_rows, put_out, copy_riser, riser_edge, copied, raised_items, raised_loop, raised_edge, copies_raised, CanBeOpened, place_before, none_in}
 use Rattle.euler_operators.specs.Table as table
 use Rattle.split_opening_laws.proofs.sections.Numbered.{rows_at, rows_low, rows_split}
 use Rattle.split_opening_laws.proofs.strips.Cycle as on
@@ -88,10 +88,7 @@ module _ (N : Model) (sound : Sound N) (up : ℕ → Bool) (g k : ℕ) (w : Spli
   arc_down h d ne = grind (arith, nat_tests, arc_parts, IsIn_or_not, true≢false, between_up, tick_other)
 
   pub arc_else : (h : ℕ) → tail N h ≢ tail N g → count h (arc N g k) ≡ 0
-  arc_else h ne = elim (IsIn_or_not h (arc N g k)) [
-    | inl i ↦ absurd (ne (fan.of_it h (omega (arith, i, ap (count h) arc_parts, counts h))).1)
-    | inr n ↦ n
-  ]
+  arc_else h ne = none_in h (arc N g k) (λ i. ne (fan.of_it h (omega (arith, i, ap (count h) arc_parts, counts h))).1)
 
 -- ---- the model with its strips cut off and some copies raised: where half-edges stand, where they start, and on which side they lie
 

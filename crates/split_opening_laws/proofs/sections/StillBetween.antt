@@ -1,5 +1,5 @@
 -- Once a solid is opened along a cycle, the other cycles of its section are still such.
-use Rattle.split_opening_laws.proofs.Prelude.{◌≡◌, ◌≢◌, ℕ, ◌<◌, List, [], ◌∷◌, length, map, get_or, is_some, refl, sym, ap, subst, ◌∙◌, arith, ◌⊎◌, inl, inr, ◌+◌, ◌≤◌, true, false, ◌++◌, unwrap_or, true≢false, flat_map, map-append, get_or_default, eqb_tells, count, IsIn, IsApart, mate, edge_of, Model, tail, solid_of, loop_of, no_face, Sound, HasHalf, Has, face_at, lists, tick_same, count-append, IsIn_or_not, IsIn-get_or, Contains-from_in, from_map, mate-mate, row_of, mate_there, mate_there as half_mate, IsIn-map, in_use_within, halves_of_edge, other_last, listed-from_in, AreFree, Taken, numbers_after, next_place, opened_along, IsBelowHalf, IsSectionCycle, AreSectionCycles, AreApartCycles, halves_in, AreBetween, false_from_ne_true}
+use Rattle.split_opening_laws.proofs.Prelude.{◌≡◌, ◌≢◌, ℕ, ◌<◌, List, [], ◌∷◌, length, map, get_or, is_some, refl, sym, ap, subst, ◌∙◌, arith, ◌⊎◌, inl, inr, ◌+◌, ◌≤◌, true, false, ◌++◌, unwrap_or, true≢false, flat_map, map-append, get_or_default, eqb_tells, count, IsIn, IsApart, mate, edge_of, Model, tail, solid_of, loop_of, no_face, Sound, HasHalf, Has, face_at, lists, tick_same, count-append, IsIn_or_not, IsIn-get_or, Contains-from_in, from_map, mate-mate, row_of, mate_there, mate_there as half_mate, IsIn-map, in_use_within, halves_of_edge, other_last, listed-from_in, AreFree, Taken, numbers_after, next_place, opened_along, IsBelowHalf, IsSectionCycle, AreSectionCycles, AreApartCycles, halves_in, AreBetween, false_from_ne_true, none_in}
 use Rattle.euler_operators.specs.Table as table
 use Rattle.sweeps_laws.proofs.swept.Numbers.{next_within}
 use Rattle.split_opening_laws.proofs.sections.OpenedRows.{solid_kept, face_kept, half_kept, tail_cases, tail_kept, half_cases, face_still, upper_row, mate_face, minus_face, plus_face}
@@ -30,10 +30,7 @@ module _ (M : Model) (above : List ℕ) (s : ℕ) (c : Taken) (bs : List ℕ) (s
 
   -- what starts elsewhere is no mate of the cycle, nor is its mate
   pub no_mate : (h : ℕ) → count (tail M h) vertices ≡ 0 → count h (map mate bs) ≡ 0
-  no_mate h z = elim (IsIn_or_not h (map mate bs)) [
-    | inl i ↦ let r = from_map mate h bs i in absurd (omega (arith, z, ap (λ x. count (tail M x) vertices) r.2, mate_vertex r.0 r.1))
-    | inr n ↦ n
-  ]
+  no_mate h z = none_in h (map mate bs) (λ i. let r = from_map mate h bs i in omega (arith, z, ap (λ x. count (tail M x) vertices) r.2, mate_vertex r.0 r.1))
 
   pub no_mates_mate : (h : ℕ) → count (tail M h) vertices ≡ 0 → count (mate h) (map mate bs) ≡ 0
   no_mates_mate h z = elim (IsIn_or_not (mate h) (map mate bs)) [
@@ -157,10 +154,7 @@ module _ (M : Model) (above : List ℕ) (s : ℕ) (c : Taken) (bs : List ℕ) (c
 
   -- no half of the cycle is a mate
   half_no_mate : (b : ℕ) → IsIn b bs → count b (map mate bs) ≡ 0
-  half_no_mate b i = elim (IsIn_or_not b (map mate bs)) [
-    | inl j ↦ let r = from_map mate b bs j in absurd (true≢false (sym (between.mates_above r.0 (in_first r.0 r.1)) ∙ ap (λ x. lists fs (face_at M x)) (sym r.2) ∙ between.below b (in_first b i)))
-    | inr z ↦ z
-  ]
+  half_no_mate b i = none_in b (map mate bs) (λ j. let r = from_map mate b bs j in true≢false (sym (between.mates_above r.0 (in_first r.0 r.1)) ∙ ap (λ x. lists fs (face_at M x)) (sym r.2) ∙ between.below b (in_first b i)))
 
   of_mate : (a : ℕ) → IsIn a (map mate bs) → HasHalf M a
   of_mate a i = let r = from_map mate a bs i in subst (HasHalf M) (sym r.2) (half_mate M r.0 (first.halves r.0 r.1).there)
