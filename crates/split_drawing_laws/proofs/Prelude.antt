@@ -1,5 +1,5 @@
 -- What the proofs here take from elsewhere, passed on from one place. Declares nothing.
-pub use Rattle.euler_laws.proofs.Common.{AreAccepted-append, CornerAt, IsIn-from_listed, Leads, MekrGoes, MevGoes, Rewritten, RingGoes, SameWalks, after-walks, all_where-rises, all_where_has, all_where_in, back_of, content-new, content_either, count-halves, count-mef_new, count-mef_old, counted_once, edge_row_plus, effect_keeps_sound, effects-append, face-same, face_there, half_after, half_face, halves_of_edge, leads_none, leads_on, leads_one, light, listed-from_in, listed_passes, loop-same, loop_after, loop_row, loops-mef, map_twice, mef_accepted, mekr_accepted, mev_accepted, next_in, no_rings_means, no_zero, none_counted, none_else, none_free, not_false, not_lone_cycle, of_half, point_row, ring_in_accepted, ring_is, sound-ring_in, taken, test_ring, walks, where_held_none, where_held_there}
+pub use Rattle.euler_laws.proofs.Common.{AreAccepted-append, CornerAt, IsIn-from_listed, Leads, MekrGoes, MevGoes, Rewritten, RingGoes, SameWalks, after-walks, all_where-rises, all_where_has, all_where_in, back_of, content-new, content_either, count-halves, count-mef_new, count-mef_old, counted_once, edge_row_plus, effect_keeps_sound, effects-append, face-same, face_there, half_after, half_face, halves_of_edge, leads_none, leads_on, leads_one, light, listed-from_in, listed_passes, loop-same, loop_after, loop_row, loops-mef, map_twice, mef_accepted, mekr_accepted, mev_accepted, next_in, no_rings_means, no_zero, none_counted, none_else, none_free, not_false, not_lone_cycle, of_half, point_row, ring_in_accepted, ring_is, sound-ring_in, taken, test_ring, walks, where_held_none, where_held_there, none_in}
 pub use Rattle.euler_laws.specs.Laws.{AreAccepted, effects}
 pub use Rattle.euler_operators.proofs.Common.{IsApart-images, IsIn-filter, IsIn-map, IsIn_head, IsIn_one, IsIn_or_not, IsIn_rest, IsIn_some_head, IsIn_successor, IsRing-led_over_other, IsRing-mef, IsRing-mekr, IsRing-splice_other, IsRotation-sym, IsRotation-trans, add_assoc, all_mapped, and_false, apart_front, canonical-rotates, canonical_same, code-half, content_cycle, content_row, count-append, count-canonical, count-filter, count-insert_after, count-insert_before, count-rotate_to, cut_back, cut_fits, cycle_sound, cycle_there, dot_sum, dot_turned, each_mapped, edge_of-code, edge_of-mate, face_row, filter_passes, first_fails, from_is, from_map, get-put_here, get-put_other, get-remove_here, get-remove_other, greatest-map, held_row, holds-none, holds_in, in-holds, insert_after-rotates, insert_before-rotates, item_loop, item_there, level_first, level_is, level_on, level_second, lone_there, loop_there, map_alike, map_one, map_same, mate_minus, mate_plus, mate_there, minus_row, minus_tail_row, minus_there, moved_none, moved_twice, nat_eq_turned, never_lone, next_is_successor, no_row, none-holds, none_moved, not_held, not_level, not_or_fails, opposite_back, opposite_turned, other_loop, outer_row, plus_edge, plus_other, plus_row, plus_tail_row, plus_there, predecessor-successor, put_turned, rotate_to_head, rotate_to_is, rotate_to_same, rotation_at, row_elsewhere, row_of, row_some, same_as, same_content, same_edge, same_face, same_outer, same_solid, solid_row, splice_at, splice_at_other, splice_elsewhere, tick_le, tick_other, tick_same, zero_first_where}
 pub use Rattle.euler_operators.specs.Common.{At, EdgeRow, Has, HasHalf, IsApart, IsIn, IsInRange, IsPath, IsRing, IsRotation, LoopContent, LoopRow, Model, Plane, Point, SameItems, Sound, StandsIn, Table, after_mef, after_mev, are_opposite, count, cross, cut_between, cuts_lattice, cycle, cycle_of, differ, direction, dot, edge_of, edge_row, face_at, faces_of, first_false, first_refusal, half, has_half, has_rings, head_or, height, holds, insert_after, insert_before, is_above, is_below, is_first, is_lone, is_number, is_on, is_ring_of, items_of, lists, lone, loop_of, loop_to_face, mate, mef_new, mef_old, mekr_ring, minus, moved, no_edge, no_face, no_point, onward, opposite, origin, plus, rest, rings_of, same_point, same_table, successor, tables, tail_in, tick, upto, with_before, with_tails}

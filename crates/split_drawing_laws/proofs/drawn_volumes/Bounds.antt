@@ -1,5 +1,5 @@
 -- Faces by their half-edges: which half-edges bound a face, and when all corners of a face lie on a plane.
-use Rattle.split_drawing_laws.proofs.Prelude.{◌≡◌, ◌≢◌, ℕ, true, ◌&&◌, List, [], ◌∷◌, is_some, unwrap_or, refl, sym, ap, ◌∙◌, subst, arith, inl, inr, ◌⊎◌, ◌+◌, ◌++◌, true≢false, and_parts, eqb_tells, Plane, moved, cross, is_on, count, IsIn, SameItems, tick, mate, plus, minus, Model, LoopContent, lone, cycle, items_of, tail, content, outer, point_of, loop_of, face_of, no_face, solid_of, cycle_of, Sound, Has, HasHalf, face_at, Point, rotate_to, IsIn_or_not, tick_same, tick_other, count-append, cycle_there, loop_there, lone_there, item_there, item_loop, never_lone, mate_there, content_row, face_row, same_content, same_face, same_outer, all_mapped, IsIn_head, count-canonical, mate_plus, plus_other, row_elsewhere, moved_twice, none_moved, listed-from_in, count-mef_old, count-mef_new, half_face, start, finish, loops_of, boundary, vertices_on, corners, area, anchor, first_vertex, normal, are_on, face_of_loop, AreHalves, different_items, loops_of_apart, area-append, area_kept, area_same, halves_cancel, Stays}
+use Rattle.split_drawing_laws.proofs.Prelude.{◌≡◌, ◌≢◌, ℕ, true, ◌&&◌, List, [], ◌∷◌, is_some, unwrap_or, refl, sym, ap, ◌∙◌, subst, arith, inl, inr, ◌⊎◌, ◌+◌, ◌++◌, true≢false, and_parts, eqb_tells, Plane, moved, cross, is_on, count, IsIn, SameItems, tick, mate, plus, minus, Model, LoopContent, lone, cycle, items_of, tail, content, outer, point_of, loop_of, face_of, no_face, solid_of, cycle_of, Sound, Has, HasHalf, face_at, Point, rotate_to, tick_same, tick_other, count-append, cycle_there, loop_there, lone_there, item_there, item_loop, never_lone, mate_there, content_row, face_row, same_content, same_face, same_outer, all_mapped, IsIn_head, count-canonical, mate_plus, plus_other, row_elsewhere, moved_twice, none_moved, listed-from_in, count-mef_old, count-mef_new, half_face, start, finish, loops_of, boundary, vertices_on, corners, area, anchor, first_vertex, normal, are_on, face_of_loop, AreHalves, different_items, loops_of_apart, area-append, area_kept, area_same, halves_cancel, Stays, none_in}
 use Rattle.euler_operators.specs.Table as table
 use Rattle.split_drawing_laws.proofs.crossings.Premises.{loop_in_face, item_in_face}
 use Rattle.split_drawing_laws.proofs.crossings.Whole.{item_face}
@@ -32,10 +32,7 @@ module _ (N : Model) (sound : Sound N) where
 
   -- and no other does
   pub bound_none : (f h : ℕ) → Has N.faces f → (HasHalf N h → face_at N h ≢ f) → count h (boundary N f) ≡ 0
-  bound_none f h there never = elim (IsIn_or_not h (boundary N f)) [
-    | inl i ↦ absurd (never ((bound_halves f).there h i) (item_face N sound f there h i))
-    | inr z ↦ z
-  ]
+  bound_none f h there never = none_in h (boundary N f) (λ i. never ((bound_halves f).there h i) (item_face N sound f there h i))
 
   -- ---- corners
 

@@ -1,5 +1,5 @@
 -- The side of a half-edge, by the heights of its ends.
-use Rattle.split_drawing_laws.proofs.Prelude.{◌≡◌, true, false, not, ◌||◌, ℤ, pos, arith, ℕ, cond, ◌&&◌, List, sym, ap, ◌∙◌, subst, ◌⊎◌, inl, inr, true≢false, int_lt, int_eq, ints, and_parts, opposite, height, are_opposite, is_on, Plane, count, IsIn, edge_of, plus, minus, Model, tail, loop_of, face_of, after, before, point_of, Sound, HasHalf, face_at, IsIn_or_not, edge_of-mate, mate_plus, mate_minus, cycle_there, plus_there, minus_there, loop_there, mate_there, IsIn-filter, halves_of_edge, half_after, loop_after, back_of, start, finish, boundary, crosses, straddling_faces, crossing_edges, is_place, places, with_crossings, from_place, Kept, CanBegin, Cuttable}
+use Rattle.split_drawing_laws.proofs.Prelude.{◌≡◌, true, false, not, ◌||◌, ℤ, pos, arith, ℕ, cond, ◌&&◌, List, sym, ap, ◌∙◌, subst, ◌⊎◌, inl, inr, true≢false, int_lt, int_eq, ints, and_parts, opposite, height, are_opposite, is_on, Plane, count, IsIn, edge_of, plus, minus, Model, tail, loop_of, face_of, after, before, point_of, Sound, HasHalf, face_at, IsIn_or_not, edge_of-mate, mate_plus, mate_minus, cycle_there, plus_there, minus_there, loop_there, mate_there, IsIn-filter, halves_of_edge, half_after, loop_after, back_of, start, finish, boundary, crosses, straddling_faces, crossing_edges, is_place, places, with_crossings, from_place, Kept, CanBegin, Cuttable, none_in}
 use Rattle.split_drawing_laws.proofs.crossings.Premises.{item_in_face, crossing_is_place, edge_facts, plus_crosses, minus_crosses, minus_is}
 use Rattle.split_drawing_laws.proofs.crossings.Whole.{plus_on, minus_off, can_cut, crossings_keep, crossings_sound, start_minus, start_plus}
 use Rattle.split_drawing_laws.proofs.crossings.Runs.{kept_point}
@@ -189,11 +189,8 @@ module _ (M : Model) (s : ℕ) (p : Plane) (t : ℕ) (sound : Sound M) (begins :
       back_leads = (back_of M sound y old).2
 
       back_uncut : count (edge_of back) es ≡ 0
-      back_uncut = elim (IsIn_or_not (edge_of back) es) [
-        | inl i ↦ absurd (true≢false (sym (crossing_half back i) ∙ level_end (height p (start M back)) (height p (finish M back))
-            (ap (λ v. is_on p (point_of M v)) (sym (sound.ends_meet back back_there)) ∙ ap (λ z. is_on p (start M z)) back_leads ∙ on_old)))
-        | inr z ↦ z
-      ]
+      back_uncut = none_in (edge_of back) es (λ i. true≢false (sym (crossing_half back i) ∙ level_end (height p (start M back)) (height p (finish M back))
+          (ap (λ v. is_on p (point_of M v)) (sym (sound.ends_meet back back_there)) ∙ ap (λ z. is_on p (start M z)) back_leads ∙ on_old)))
 
       from_back : x ≡ back
       from_back = after_once N new_sound x back there (keep.halves back back_there)

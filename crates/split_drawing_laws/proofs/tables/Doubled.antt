@@ -1,5 +1,5 @@
 -- Edges cut one after the other: in the tables all are doubled at once.
-use Rattle.split_drawing_laws.proofs.Prelude.{◌≡◌, ℕ, ◌+◌, List, [], ◌∷◌, length, Some, is_some, option_map, refl, sym, ap, ◌∙◌, arith, flat_map, fold, true≢false, inl, inr, Point, Plane, count, IsIn, IsApart, canonical, plus, minus, Table, Model, LoopContent, LoopRow, EdgeRow, lone, cycle, content, tail, Sound, get-map_rows, content_row, count-canonical, map_same, tick_same, IsIn_or_not, Growing, growing, rewritten, rewritten_row, crossing_edges, all_cut, next_cut, with_crossings, CanBegin, Cut, cuts_from, doubled_in, with_two_edges, with_cut_point, doubled_at, edges_doubled, crossings_doubled}
+use Rattle.split_drawing_laws.proofs.Prelude.{◌≡◌, ℕ, ◌+◌, List, [], ◌∷◌, length, Some, is_some, option_map, refl, sym, ap, ◌∙◌, arith, flat_map, fold, true≢false, Point, Plane, count, IsIn, IsApart, canonical, plus, minus, Table, Model, LoopContent, LoopRow, EdgeRow, lone, cycle, content, tail, Sound, get-map_rows, content_row, count-canonical, map_same, tick_same, Growing, growing, rewritten, rewritten_row, crossing_edges, all_cut, next_cut, with_crossings, CanBegin, Cut, cuts_from, doubled_in, with_two_edges, with_cut_point, doubled_at, edges_doubled, crossings_doubled, none_in}
 use Rattle.euler_operators.specs.Table as table
 use Rattle.split_drawing_laws.proofs.crossings.OneCut.{maps_agree, cut_rows}
 use Rattle.split_drawing_laws.proofs.crossings.Runs.{Crossing, Going, all_gone, cut_at, same_cut, next_model, kept_edge, going_on, goes_now}
@@ -64,10 +64,7 @@ module _ (M : Model) (p : Plane) (sound : Sound M) (g : Growing) (ds : List ℕ)
   uncut = omega (arith, w.apart e, tick_same e)
 
   fresh : count (g.taken.edge + 1) rs ≡ 0
-  fresh = elim (IsIn_or_not (g.taken.edge + 1) rs) [
-    | inl i ↦ absurd (true≢false (sym (kept_edge M N w.cut.kept (g.taken.edge + 1) (w.crossing (g.taken.edge + 1) (omega (arith, i))).there) ∙ ap is_some (goes_now M p sound g ds e rs w).can.edge_free))
-    | inr none ↦ none
-  ]
+  fresh = none_in (g.taken.edge + 1) rs (λ i. true≢false (sym (kept_edge M N w.cut.kept (g.taken.edge + 1) (w.crossing (g.taken.edge + 1) (omega (arith, i))).there) ∙ ap is_some (goes_now M p sound g ds e rs w).can.edge_free))
 
   row_agrees : (n : ℕ) (row : LoopRow) → table.get N.loops n ≡ Some row → second n (first n row) ≡ rewritten_row (flat_map (doubled_in (one ∷ cs))) n row
   row_agrees n row at = ap (λ c. record row { content = c }) (content_agrees row.content refl) where
