@@ -1,5 +1,5 @@
 -- What the proofs here take from elsewhere, passed on from one place. Declares nothing.
-pub use Rattle.euler_laws.proofs.Common.{Around, CornerAt, IsIn-from_listed, KefGoes, KevGoes, KillGoes, Leads, MekrGoes, MergeGoes, OtherSolids, all_where-rises, apart_xs, both_out, corner_here, count_out, counted_once, cycle_is, edge_row_plus, effect_keeps_sound, effects_keep_sound, face_there, half_is, joined_same, joined_t, kef_accepted, kev_accepted, kfmrh_accepted, leads_first, leads_on, leads_one, leads_sound, listed-from_in, listed_as, listed_passes, loop_after, loop_is, loop_row, map_twice, mapped_some, mekr_accepted, merge_accepted, merge_other, none_counted, one_solid_round, same_tail, solid_either, solid_new, sound-merge, taken_out, within}
+pub use Rattle.euler_laws.proofs.Common.{Around, CornerAt, IsIn-from_listed, KefGoes, KevGoes, KillGoes, Leads, MekrGoes, MergeGoes, OtherSolids, all_where-rises, apart_xs, both_out, corner_here, count_out, counted_once, cycle_is, edge_row_plus, effect_keeps_sound, effects_keep_sound, face_there, half_is, joined_same, joined_t, kef_accepted, kev_accepted, kfmrh_accepted, leads_first, leads_on, leads_one, leads_sound, listed-from_in, listed_as, listed_passes, loop_after, loop_is, loop_row, map_twice, mapped_some, mekr_accepted, merge_accepted, merge_other, none_counted, one_solid_round, same_tail, solid_either, solid_new, sound-merge, taken_out, within, none_in}
 pub use Rattle.euler_laws.proofs.kev.MevUndo.{as_cycle}
 pub use Rattle.euler_laws.specs.Laws.{AreAccepted, effects}
 pub use Rattle.euler_operators.proofs.Common.{IsApart-canonical, IsIn-map, IsIn_head, IsIn_last, IsIn_or_not, IsIn_some_head, IsIn_successor, after_at, before_at, canonical-rotates, canonical_nil, canonical_same, code-half, content_row, count-append, count-canonical, count-reverse, cycle_sound, cycle_there, edge_of-mate, face_row, from_map, get-put_here, get-put_other, get-remove_other, holds-none, holds_in, in-holds, item_loop, last_or_push, map-put, map_one, map_same, mate-mate, mate_minus, mate_plus, mate_there, minus_row, moved_none, none-holds, none_added, not_held, or_true, other_loop, plus_row, remove-put, rest_at, rest_canonical, rest_head, rest_same, reverse-cons, row_of, same_edge, same_head, same_outer, successor_inner, successor_same, tail_row, tick_other, tick_same, without_none}

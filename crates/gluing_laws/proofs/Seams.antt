@@ -1,5 +1,5 @@
 -- Two faces of two solids along which these are glued: what follows in a sound model, and what the glued model holds.
-use Rattle.gluing_laws.proofs.Prelude.{◌≡◌, ◌≢◌, ℕ, nat_eq, List, [], true, sym, ap, ◌∙◌, arith, ◌⊎◌, inl, inr, map, option_map, IsIn, SameItems, count, mate, edge_of, Model, cycle, holds, tail, loop_of, content, face_of, solid_of, outer, rings_of, point_of, Sound, Has, HasHalf, StandsIn, faces_to_solid, get-map_rows, from_map, in-holds, mate_there, IsIn-map, IsIn_or_not, mate-mate, edge_of-mate, same_edge, one_solid_round, start, finish, rewritten_row, renamed, without_rows, is_flat, renamed_tails, paired, renamed_cases, without_there, tail_renamed}
+use Rattle.gluing_laws.proofs.Prelude.{◌≡◌, ◌≢◌, ℕ, nat_eq, List, [], true, sym, ap, ◌∙◌, arith, ◌⊎◌, inl, inr, map, option_map, IsIn, SameItems, count, mate, edge_of, Model, cycle, holds, tail, loop_of, content, face_of, solid_of, outer, rings_of, point_of, Sound, Has, HasHalf, StandsIn, faces_to_solid, get-map_rows, from_map, in-holds, mate_there, IsIn-map, mate-mate, edge_of-mate, same_edge, one_solid_round, start, finish, rewritten_row, renamed, without_rows, is_flat, renamed_tails, paired, renamed_cases, without_there, tail_renamed, none_in}
 use Rattle.euler_operators.specs.Table as table
 
 -- the items hs of f have partners, the items gs of g, which go back along them
@@ -104,10 +104,7 @@ module _ {M N : Model} {f g : ℕ} {partner_of : ℕ → ℕ} {hs gs : List ℕ}
   -- ---- vertices
 
   not_moved : (v : ℕ) → ((h : ℕ) → IsIn h hs → from_tail h ≢ v) → count v (map from_tail hs) ≡ 0
-  not_moved v none = elim (IsIn_or_not v (map from_tail hs)) [
-    | inl i ↦ let p = from_map from_tail v hs i in absurd (none p.0 p.1 (sym p.2))
-    | inr z ↦ z
-  ]
+  not_moved v none = none_in v (map from_tail hs) (λ i. let p = from_map from_tail v hs i in none p.0 p.1 (sym p.2))
 
   -- a vertex at which no partner starts keeps its point
   pub point_kept : (v : ℕ) → ((h : ℕ) → IsIn h hs → from_tail h ≢ v) → point_of N v ≡ point_of M v
@@ -142,10 +139,7 @@ module _ {M N : Model} {f g : ℕ} {partner_of : ℕ → ℕ} {hs gs : List ℕ}
   both_kept y there c = (start_kept y there c, start_kept (mate y) (mate_there M y there) (ap (λ e. count e gone) (edge_of-mate y) ∙ c))
 
   edge_left : (y : ℕ) → ((h : ℕ) → IsIn h hs → y ≢ partner_of h) → ((h : ℕ) → IsIn h hs → y ≢ mate (partner_of h)) → count (edge_of y) gone ≡ 0
-  edge_left y a b = elim (IsIn_or_not (edge_of y) gone) [
-    | inl i ↦ let p = from_map (λ h. edge_of (partner_of h)) (edge_of y) hs i in elim (same_edge y (partner_of p.0) p.2) [ inl e ↦ absurd (a p.0 p.1 e) | inr e ↦ absurd (b p.0 p.1 e) ]
-    | inr z ↦ z
-  ]
+  edge_left y a b = none_in (edge_of y) gone (λ i. let p = from_map (λ h. edge_of (partner_of h)) (edge_of y) hs i in elim (same_edge y (partner_of p.0) p.2) [ inl e ↦ a p.0 p.1 e | inr e ↦ b p.0 p.1 e ])
 
   item_left : (h : ℕ) → IsIn h hs → count (edge_of h) gone ≡ 0
   item_left h i = edge_left h

@@ -4,7 +4,6 @@ use Rattle.euler_operators.specs.Table as table
 use Rattle.euler_laws.proofs.mef.KefSound as kill
 use Rattle.shapes.proofs.glue.Facing as facing
 use Rattle.gluing_laws.proofs.glue.Stages as stages
-use Rattle.gluing_laws.proofs.glue.Stages.{Stage}
 
 -- the same with f's loop and face, and the last item's partner, gone
 abbrev pub glued_all : Model → ℕ → ℕ → (ℕ → ℕ) → List ℕ → Model
@@ -16,7 +15,7 @@ glued_all M f g partner_of hs = let s = solid_of M f in let t = solid_of M g in 
   vertices = without_rows M.vertices (map (λ h. tail M (partner_of h)) hs);
 }
 
-module _ (M : Model) (f g : ℕ) (partner_of : ℕ → ℕ) (hs : List ℕ) (x : ℕ) (done : List ℕ) (h : ℕ) (w : Stage M f g partner_of hs x h done (h ∷ [])) where
+module _ (M : Model) (f g : ℕ) (partner_of : ℕ → ℕ) (hs : List ℕ) (x : ℕ) (done : List ℕ) (h : ℕ) (w : stages.Stage M f g partner_of hs x h done (h ∷ [])) where
   abbrev N : Model
   N = glued_part M f g partner_of h done (h ∷ [])
 

@@ -3,10 +3,9 @@ use Rattle.gluing_laws.proofs.Prelude.{◌≡◌, ◌≢◌, ℕ, cond, nat_eq, 
 use Rattle.euler_operators.specs.Table as table
 use Rattle.shapes.proofs.glue.Facing as facing
 use Rattle.gluing_laws.proofs.glue.Stages as stages
-use Rattle.gluing_laws.proofs.glue.Stages.{Stage}
 use Rattle.gluing_laws.proofs.glue.Round.{Closes, closed, closing_leads}
 
-module _ (M : Model) (f g : ℕ) (partner_of : ℕ → ℕ) (hs : List ℕ) (x last : ℕ) (done : List ℕ) (h k : ℕ) (more : List ℕ) (w : Stage M f g partner_of hs x last done (h ∷ k ∷ more)) (later : IsIn last (k ∷ more)) where
+module _ (M : Model) (f g : ℕ) (partner_of : ℕ → ℕ) (hs : List ℕ) (x last : ℕ) (done : List ℕ) (h k : ℕ) (more : List ℕ) (w : stages.Stage M f g partner_of hs x last done (h ∷ k ∷ more)) (later : IsIn last (k ∷ more)) where
   abbrev N : Model
   N = glued_part M f g partner_of last done (h ∷ k ∷ more)
 
