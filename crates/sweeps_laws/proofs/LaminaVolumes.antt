@@ -4,7 +4,6 @@ use Rattle.sweeps_laws.proofs.lamina.Lists.{out_first, plus_halves, minus_halves
 use Rattle.sweeps_laws.proofs.LaminaRows as rows
 use Rattle.sweeps_laws.proofs.swept.Bounds.{HasFree}
 use Rattle.sweeps_laws.proofs.Loops.{normal_is}
-use Rattle.sweeps_laws.proofs.LaminaRows.{six_volume_is}
 
 -- ---- the loop the other way round, from its least half-edge on
 
@@ -95,7 +94,7 @@ module _ {M : Model} {c : Taken} (s : ℕ) (ps : List Point) (k : ℕ) (many : l
   -- ---- both
 
   faces_volume : faces_of M s ≡ [] → six_volume drawn s ≡ dot (get_or ps 0 no_point) (normal drawn face) +ℤ (dot (get_or ps 1 no_point) (normal drawn (c.face + 2)) +ℤ pos 0)
-  faces_volume none = six_volume_is drawn s ∙ ap (volume_in drawn) (rows.faces_are M c s ps b none)
+  faces_volume none = rows.six_volume_is drawn s ∙ ap (volume_in drawn) (rows.faces_are M c s ps b none)
       ∙ (λ i. dot (anchor_one i) (normal drawn face) +ℤ (dot (anchor_two i) (normal drawn (c.face + 2)) +ℤ pos 0))
 
   pub lamina_volume : faces_of M s ≡ [] → six_volume drawn s ≡ dot (get_or ps 0 no_point) (normal drawn face) -ℤ dot (get_or ps 1 no_point) (normal drawn face)
