@@ -1,5 +1,5 @@
 -- An edge drawn in a face, two loops of a face joined, and a face that becomes a ring of another leave all that isn't of the solid.
-use Rattle.command_laws.proofs.Prelude.{◌≡◌, ◌≢◌, ℕ, List, Some, None, is_some, refl, sym, ap, subst, ◌∙◌, true≢false, inl, inr, eqb-false, eqb_tells, Corner, HalfEdge, code, edge_of, Model, content, face_of, loop_of, solid_of, Sound, Has, HasHalf, corner_loop, face_at, first_false, effect, inverse, kemr, mef, mfkrh, Mef, Kemr, Mekr, Kfmrh, Mfkrh, same_edge, face_row, loop_there, same_solid, solid_row, get-put_here, get-put_other, get-remove_other, row_elsewhere, effect_keeps_sound, inverse_goes, inverse_undoes, MakeGoes, kfmrh_goes, mfkrh_goes, kemr_goes, KemrGoes, mef_goes, MefGoes, JoinGoes, join_goes, LoopMoves, face_kept, face_moved, walks_same, loop_row, face_same, row_second}
+use Rattle.command_laws.proofs.Prelude.{◌≡◌, ◌≢◌, ℕ, List, Some, None, is_some, refl, sym, ap, subst, ◌∙◌, true≢false, inl, inr, eqb-false, Corner, HalfEdge, code, edge_of, Model, content, face_of, loop_of, solid_of, Sound, Has, HasHalf, corner_loop, face_at, first_false, effect, inverse, kemr, mef, mfkrh, Mef, Kemr, Mekr, Kfmrh, Mfkrh, same_edge, face_row, loop_there, same_solid, solid_row, get-put_here, get-put_other, get-remove_other, row_elsewhere, effect_keeps_sound, inverse_goes, inverse_undoes, MakeGoes, kfmrh_goes, mfkrh_goes, kemr_goes, KemrGoes, mef_goes, MefGoes, JoinGoes, join_goes, LoopMoves, face_kept, face_moved, walks_same, loop_row, face_same, row_second}
 use Rattle.euler_operators.specs.Table as table
 use Rattle.euler_operators.specs.declared.Op.{Op}
 use Rattle.euler_laws.proofs.Common.{row_else}
@@ -7,7 +7,7 @@ use Rattle.euler_laws.proofs.kemr.KemrSound as parted
 use Rattle.euler_laws.proofs.mef.MefSound as drawn
 use Rattle.euler_laws.proofs.mekr.Mekr.{mekr_is}
 use Rattle.euler_laws.proofs.mekr.MekrSound as joins
-use Rattle.command_laws.proofs.Owners.{Agree, is_of, solid_of_half, solid_of_loop, turned}
+use Rattle.command_laws.proofs.Owners.{Agree, is_of, solid_of_half, solid_of_loop, turned, is_it}
 
 -- two models that agree but for one solid
 abbrev pub AgreeBut : ℕ → Model → Model → Type 0
@@ -20,10 +20,7 @@ same_row M N q there has face same = loop_row N q (has ∙ there) ∙ (λ i. Som
 -- what is new is of the solid
 module _ (M N : Model) (s : ℕ) (w : AgreeBut s M N) where
   pub new_face : (k : ℕ) → Has N.faces k → table.get M.faces k ≡ None → solid_of N k ≡ s
-  new_face k there free = elim (eqb_tells (solid_of N k) s) [
-    | inl e ↦ e.1
-    | inr e ↦ absurd (true≢false (sym there ∙ ap is_some ((w.faces_back k there e.0).0 ∙ free)))
-  ]
+  new_face k there free = is_it s (solid_of N k) (λ out. true≢false (sym there ∙ ap is_some ((w.faces_back k there out).0 ∙ free)))
 
 -- ---- an edge between two corners of a loop, and a new face
 

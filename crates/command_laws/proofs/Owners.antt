@@ -1,11 +1,15 @@
 -- The solid of each face, loop, edge and vertex.
-use Rattle.command_laws.proofs.Prelude.{◌≡◌, ◌≢◌, ℕ, Bool, false, nat_eq, ◌||◌, [], is_some, refl, sym, ap, subst, ◌∙◌, arith, inl, inr, nat_tests, IsIn, edge_of, plus, Model, LoopContent, LoopRow, lone, cycle, items_of, content, face_of, loop_of, solid_of, tail, Sound, Has, HasHalf, face_at, lists, tick_same, IsIn-map, IsIn_head, content_row, item_there, item_loop, lone_there, loop_there, cycle_there, same_solid, same_face, same_content, first_passes, listed_passes, IsIn-from_listed, listed-from_in, loop_row, one_solid_round, same_tail, vertices_on}
+use Rattle.command_laws.proofs.Prelude.{◌≡◌, ◌≢◌, ℕ, Bool, false, nat_eq, ◌||◌, [], is_some, refl, sym, ap, subst, ◌∙◌, arith, inl, inr, nat_tests, IsIn, edge_of, plus, Model, LoopContent, LoopRow, lone, cycle, items_of, content, face_of, loop_of, solid_of, tail, Sound, Has, HasHalf, face_at, lists, tick_same, IsIn-map, IsIn_head, content_row, item_there, item_loop, lone_there, loop_there, cycle_there, same_solid, same_face, same_content, first_passes, listed_passes, IsIn-from_listed, listed-from_in, loop_row, one_solid_round, same_tail, vertices_on, eqb_tells}
 use Rattle.euler_operators.specs.Table as table
 use Rattle.command_laws.proofs.OnFaces.{vertex_cases, vertex_there}
 
 -- whether a solid is solid s
 abbrev pub is_of : ℕ → ℕ → Bool
 is_of s u = nat_eq u s
+
+-- which is what can't be another
+pub is_it : (s u : ℕ) → (is_of s u ≡ false → ⊥) → u ≡ s
+is_it s u never = elim (eqb_tells u s) [ inl e ↦ e.1 | inr e ↦ absurd (never e.0) ]
 
 -- ---- of one solid or of another
 

@@ -9,7 +9,7 @@ pub use Rattle.command_laws.specs.RingedFaces.{IsFarFace, RingedFaceIsFar, loop_
 pub use Rattle.command_laws.specs.SplitEdges.{EndsOn, LeadsAlong, LeadsAlongSolid, SplitsMakeNoLines}
 pub use Rattle.command_laws.specs.Splits.{HasNewFace, IsCap, IsOfEither, IsPiece, LiesInPlaneOf, SplitKeepsBelow, SplitKeepsEdges, SplitKeepsLoops, SplitKeepsOwners, SplitKeepsPlanes, SplitKeepsPoints, SplitKeepsRows, SplitKeepsShapes, SplitPartsFaces, SplitSharesFaces, StraddlingGoAbove, StraddlingStayBelow}
 pub use Rattle.command_laws.specs.TakenOver.{AreTurned, IsTakenOver}
-pub use Rattle.euler_laws.proofs.Common.{IsIn-from_listed, IsLoop, JoinGoes, KemrGoes, LoopMoves, MakeGoes, MefGoes, all_hold, all_where-rises, all_where_has, back_of, content-new, edge_there, effect_keeps_sound, face_kept, face_moved, face_same, face_there, first_listed, first_passes, half_after, half_face, halves_of_edge, inverse_goes, inverse_undoes, join_goes, kemr_goes, kfmrh_goes, listed-from_in, listed_as, listed_front, listed_passes, loop_after, loop_row, loop_sound, mapped_some, mef_goes, mfkrh_goes, no_rings_means, none_refuses, one_solid_round, outer_or_ring, passes_listed, rest_listed, row_second, same_tail, solid_either, walks_same, ◌also◌}
+pub use Rattle.euler_laws.proofs.Common.{IsIn-from_listed, IsLoop, JoinGoes, KemrGoes, LoopMoves, MakeGoes, MefGoes, all_hold, all_where-rises, all_where_has, back_of, content-new, edge_there, effect_keeps_sound, face_kept, face_moved, face_same, face_there, first_listed, first_passes, half_after, half_face, halves_of_edge, inverse_goes, inverse_undoes, join_goes, kemr_goes, kfmrh_goes, listed-from_in, listed_as, listed_front, listed_passes, loop_after, loop_row, loop_sound, mapped_some, mef_goes, mfkrh_goes, no_rings_means, none_refuses, one_solid_round, outer_or_ring, passes_listed, rest_listed, row_second, same_tail, solid_either, walks_same, ◌also◌, none_in}
 pub use Rattle.euler_operators.proofs.Common.{IsIn-filter, IsIn-get_or, IsIn-map, IsIn_head, IsIn_or_not, IsIn_rest, Linked, canonical-rotates, code-half, content_row, count-append, count-canonical, count-filter, cycle_there, dif-parts, difs, dot_moved, dot_turned, edge_of-mate, face_row, filter_passes, first_fails, from_map, get-put_here, get-put_other, get-remove_here, get-remove_other, holds_in, in-holds, in_use_within, item_loop, item_there, less_still, lone_there, loop_number, loop_there, mate-mate, mate_minus, mate_plus, mate_there, minus_row, minus_tail_row, minus_there, moved_at, moved_twice, no_row, none_moved, number, number_real, or_true, outer_row, plus_row, plus_tail_row, plus_there, row_elsewhere, row_some, same_content, same_dif, same_edge, same_face, same_outer, same_solid, same_sum, same_vector, solid_row, split_at, sum_first, sum_to, tick_other, tick_same, zero_first_where}
 pub use Rattle.euler_operators.specs.Common.{Corner, FaceRow, HalfEdge, Has, HasHalf, IsCycle, IsIn, IsPath, IsRing, LoopContent, LoopRow, Model, Plane, Point, Sound, Table, after, are_opposite, canonical, code, corner_loop, count, cross, cycle, direction, dot, edge_of, edge_row, face_at, faces_of, faces_to_solid, first_false, get-map_rows, head_or, height, holds, is_above, is_below, is_empty, is_lone, is_on, items_of, lists, lone, loop_of, loop_to_face, mate, minus, moved, no_face, opposite, origin, outer, plus, rings_of, same_point, tables, tick}
 unfoldable pub use Rattle.euler_operators.specs.Common.{content, effect, face_of, has_rings, inverse, kemr, kfmrh, mef, mfkrh, part, point_of, ring_in, solid_of, tail}

@@ -1,5 +1,5 @@
 -- Edges cut and faces drawn within a solid: other solids stay as they were.
-use Rattle.command_laws.proofs.Prelude.{◌≡◌, ◌≢◌, ℕ, ◌+◌, false, List, [], ◌∷◌, Some, refl, sym, ap, subst, ◌∙◌, arith, inl, inr, flat_map, fold, option_map, eqb-true, eqb-false, false_from_ne_true, Plane, count, IsIn, canonical, edge_of, minus, plus, get-map_rows, Model, LoopContent, LoopRow, content, cycle, face_of, items_of, lone, solid_of, tail, Sound, Has, HasHalf, face_at, lists, edge_row, ring_in, mate_plus, plus_row, IsIn_or_not, IsIn_rest, count-filter, in-holds, plus_there, same_solid, IsIn_head, all_where_has, IsIn-from_listed, edge_there, loop_row, half_face, Growing, growing, rewritten, rewritten_row, crossing_edges, straddling_faces, all_cut, next_cut, with_crossings, Drawing, FacePairs, all_pairs, drawn_between, next_drawn, straddling_pairs, undrawn, with_drawings, Kept, CanBegin, Stays, DrawnIn, Fits, pairs_in, Drawable, Ready, doubled_none, doubled, cut_rows, Going, cut_at, goes_now, going_on, next_model, crossings_keep, crossings_sound, tails_stay, face_facts, CanJoin, CanDraw, face_drawn, loops_joined, face_goes, between_keeps, drawable, drawable_on, next_is, ready, RingOf, Newer, moved_drawn, can_be_drawn}
+use Rattle.command_laws.proofs.Prelude.{◌≡◌, ◌≢◌, ℕ, ◌+◌, false, List, [], ◌∷◌, Some, refl, sym, ap, subst, ◌∙◌, arith, flat_map, fold, option_map, eqb-true, eqb-false, false_from_ne_true, Plane, count, IsIn, canonical, edge_of, minus, plus, get-map_rows, Model, LoopContent, LoopRow, content, cycle, face_of, items_of, lone, solid_of, tail, Sound, Has, HasHalf, face_at, lists, edge_row, ring_in, mate_plus, plus_row, IsIn_rest, count-filter, in-holds, plus_there, same_solid, IsIn_head, all_where_has, IsIn-from_listed, edge_there, loop_row, half_face, Growing, growing, rewritten, rewritten_row, crossing_edges, straddling_faces, all_cut, next_cut, with_crossings, Drawing, FacePairs, all_pairs, drawn_between, next_drawn, straddling_pairs, undrawn, with_drawings, Kept, CanBegin, Stays, DrawnIn, Fits, pairs_in, Drawable, Ready, doubled_none, doubled, cut_rows, Going, cut_at, goes_now, going_on, next_model, crossings_keep, crossings_sound, tails_stay, face_facts, CanJoin, CanDraw, face_drawn, loops_joined, face_goes, between_keeps, drawable, drawable_on, next_is, ready, RingOf, Newer, moved_drawn, can_be_drawn, none_in}
 use Rattle.euler_operators.specs.Table as table
 use Rattle.split_drawing_laws.proofs.crossings.Whole as cuts
 use Rattle.command_laws.proofs.Owners.{agree_none, agree_on, is_of, solid_of_edge, solid_of_half, solid_of_loop}
@@ -71,10 +71,7 @@ module _ (M : Model) (s : ℕ) (p : Plane) (t : ℕ) (sound : Sound M) (begins :
 
   module _ (l : ℕ) (ne : solid_of_loop M l ≢ s) where
     no_item : (h : ℕ) → solid_of_half M h ≡ s → count h (items_of (content M l)) ≡ 0
-    no_item h of = elim (IsIn_or_not h (items_of (content M l))) [
-      | inl i ↦ absurd (ne (ap (solid_of_loop M) (sym (sound.one_loop h l (in-holds h (content M l) i))) ∙ of))
-      | inr z ↦ z
-    ]
+    no_item h of = none_in h (items_of (content M l)) (λ i. ne (ap (solid_of_loop M) (sym (sound.one_loop h l (in-holds h (content M l) i))) ∙ of))
 
     clear : (e : ℕ) → IsIn e (crossing_edges M p s) → IsClear e (content M l)
     clear e i = let w = cut_edge e i in (

@@ -1,13 +1,13 @@
 -- Opening a solid makes no lines: each half-edge starts and ends where one did before. So each half-edge of the parts of a split lies on its plane, or
 -- leads along one of the solid that was split.
-use Rattle.command_laws.proofs.Prelude.{◌≡◌, ◌⊎◌, ℕ, suc, ◌+◌, ◌<◌, pos, Bool, true, List, [], map, filter, get_or, length, refl, sym, ap, subst, ◌∙◌, arith, inl, inr, true≢false, eq-eqb, eqb-true, eqb_tells, nat_tests, Plane, edge_of, is_on, mate, plus, minus, Model, face_at, point_of, solid_of, tail, Sound, HasHalf, edge_of-mate, IsIn-get_or, mate-mate, mate_minus, mate_plus, mate_there, halves_of_edge, listed_front, Taken, below_halves, finish, opened_along, outer_caps, scaled, section_cycles, start, towards, CanBegin, crossings_measured, solid_stays, start_stays, upper_faces, CanBeOpened, IsBelowHalf, opened_sound, can_open, openings_carry, half_cases, begins, back_along, finish_old, start_old, Machine, held, IsSplit, EndsOn, LeadsAlong, LeadsAlongSolid, SplitsMakeNoLines, IsOfEither, stages}
+use Rattle.command_laws.proofs.Prelude.{◌≡◌, ◌⊎◌, ℕ, suc, ◌+◌, ◌<◌, pos, Bool, true, List, [], map, filter, get_or, length, refl, sym, ap, subst, ◌∙◌, arith, inl, inr, true≢false, eq-eqb, eqb-true, nat_tests, Plane, edge_of, is_on, mate, plus, minus, Model, face_at, point_of, solid_of, tail, Sound, HasHalf, edge_of-mate, IsIn-get_or, mate-mate, mate_minus, mate_plus, mate_there, halves_of_edge, listed_front, Taken, below_halves, finish, opened_along, outer_caps, scaled, section_cycles, start, towards, CanBegin, crossings_measured, solid_stays, start_stays, upper_faces, CanBeOpened, IsBelowHalf, opened_sound, can_open, openings_carry, half_cases, begins, back_along, finish_old, start_old, Machine, held, IsSplit, EndsOn, LeadsAlong, LeadsAlongSolid, SplitsMakeNoLines, IsOfEither, stages}
 use Rattle.euler_operators.specs.Table as table
 use Rattle.split_laws.proofs.volumes.Split as split
 use Rattle.split_laws.proofs.opened.Caps.{numbers_place}
 use Rattle.command_laws.proofs.splits_laws.Along.{half_comes}
 use Rattle.command_laws.proofs.splits_laws.NewEdges.{IsDrawnOn, drawings_on}
 use Rattle.command_laws.proofs.Inner.{AgreeBut}
-use Rattle.command_laws.proofs.Owners.{Agree, agree_on, half_kept, is_either, is_of, solid_of_half}
+use Rattle.command_laws.proofs.Owners.{Agree, agree_on, half_kept, is_either, is_of, solid_of_half, is_it}
 use Rattle.command_laws.proofs.splits_laws.DrawnWithin.{drawn_within}
 use Rattle.command_laws.proofs.splits_laws.PartedWithin.{holes_keep, holes_within, opened_within, part_keeps}
 use Rattle.command_laws.proofs.splits_laws.Steps.{part_agrees}
@@ -15,10 +15,7 @@ use Rattle.command_laws.proofs.splits_laws.Whole as whole
 
 -- a half-edge of one of the solids that come was of the solid
 was_of : (G H : Model) (s : ℕ) (b : ℕ → Bool) → Agree G H (is_of s) b → (h : ℕ) → HasHalf G h → b (solid_of_half H h) ≡ true → solid_of_half G h ≡ s
-was_of G H s b w h there in_b = elim (eqb_tells (solid_of_half G h) s) [
-  | inl e ↦ e.1
-  | inr e ↦ absurd (true≢false (sym in_b ∙ (half_kept G H (is_of s) b w h there e.0).1))
-]
+was_of G H s b w h there in_b = is_it s (solid_of_half G h) (λ out. true≢false (sym in_b ∙ (half_kept G H (is_of s) b w h there out).1))
 
 -- half-edge h of N starts and ends where one of D does, and that is of solid s if h is of one of these solids
 record Retraces (D N : Model) (s : ℕ) (b : ℕ → Bool) (h : ℕ) : Type 0 where

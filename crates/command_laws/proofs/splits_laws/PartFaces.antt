@@ -1,5 +1,5 @@
 -- The faces of a solid that was split: those that the plane doesn't straddle are of the part on their side.
-use Rattle.command_laws.proofs.Prelude.{list_any, ◌≡◌, ◌≢◌, ℕ, ◌+◌, ◌≤◌, Bool, true, false, cond, not, ◌&&◌, ◌||◌, List, [], ◌∷◌, ◌++◌, length, nat_eq, None, Some, is_some, pos, int_lt, refl, sym, ap, subst, ◌∙◌, arith, true≢false, inl, inr, filter, map, option_map, false_from_ne_true, flat_map-append, map-append, Plane, Point, direction, dot, is_above, is_below, count, IsIn, mate, plus, Model, FaceRow, LoopContent, content, cycle, face_of, faces_of, items_of, lone, outer, point_of, rings_of, solid_of, tail, Sound, Has, face_at, lists, kfmrh, part, IsIn_or_not, count-append, tick_other, tick_same, from_map, IsIn-filter, IsIn_rest, filter_passes, IsIn_head, item_loop, number_real, outer_row, solid_row, in_use_within, IsIn-from_listed, listed-from_in, face_there, solid_either, same_tail, corners, loops_of, start, vertices_in, vertices_on, Taken, numbers_after, is_flat, normal, face_is_above, faces_above, straddles, with_drawings, below_halves, section_cycles, Caps, Opening, holes_closed, opened_along, outer_caps, opened_at, split_refusal, IsReplaced, content_stays, face_of_loop, loops_agree, in_solid, all_flat, cap_faces, upper_faces, CanBeOpenedInTurn, CanBeOpened, renamed_not, can_open, new_caps, opened_next, openings_carry, CanBeSplit, holes_counted, begins, drawn_sound, can_be_split, is_rewritten, swap, closing, closing_leads, CanTake, held, StandsAsBefore, corner_points, loop_points, AreTurned, IsTakenOver, SplitKeepsBelow, SplitSharesFaces, stages}
+use Rattle.command_laws.proofs.Prelude.{list_any, ◌≡◌, ◌≢◌, ℕ, ◌+◌, ◌≤◌, Bool, true, false, cond, not, ◌&&◌, ◌||◌, List, [], ◌∷◌, ◌++◌, length, nat_eq, None, Some, is_some, pos, int_lt, refl, sym, ap, subst, ◌∙◌, arith, true≢false, filter, map, option_map, false_from_ne_true, flat_map-append, map-append, Plane, Point, direction, dot, is_above, is_below, count, IsIn, mate, plus, Model, FaceRow, LoopContent, content, cycle, face_of, faces_of, items_of, lone, outer, point_of, rings_of, solid_of, tail, Sound, Has, face_at, lists, kfmrh, part, count-append, tick_other, tick_same, from_map, IsIn-filter, IsIn_rest, filter_passes, IsIn_head, item_loop, number_real, outer_row, solid_row, in_use_within, IsIn-from_listed, listed-from_in, face_there, solid_either, same_tail, corners, loops_of, start, vertices_in, vertices_on, Taken, numbers_after, is_flat, normal, face_is_above, faces_above, straddles, with_drawings, below_halves, section_cycles, Caps, Opening, holes_closed, opened_along, outer_caps, opened_at, split_refusal, IsReplaced, content_stays, face_of_loop, loops_agree, in_solid, all_flat, cap_faces, upper_faces, CanBeOpenedInTurn, CanBeOpened, renamed_not, can_open, new_caps, opened_next, openings_carry, CanBeSplit, holes_counted, begins, drawn_sound, can_be_split, is_rewritten, swap, closing, closing_leads, CanTake, held, StandsAsBefore, corner_points, loop_points, AreTurned, IsTakenOver, SplitKeepsBelow, SplitSharesFaces, stages, none_in}
 use Rattle.euler_operators.specs.Table as table
 use Rattle.euler_laws.proofs.Common.{same_point}
 use Rattle.split_laws.proofs.opened.Kept as kept
@@ -58,13 +58,10 @@ module _ (M : Model) (above : List ℕ) (s : ℕ) (c : Taken) (bs : List ℕ) (w
   own = face_of_loop M w.sound k l there (listed-from_in l (loops_of M k) i)
 
   no_mate : (y : ℕ) → IsIn y (items_of (content M l)) → count y (map mate bs) ≡ 0
-  no_mate y j = elim (IsIn_or_not y (map mate bs)) [
-    | inl m ↦
-        let r = from_map mate y bs m in
-        let at : face_at M y ≡ k = ap (face_of M) (item_loop M w.sound l y j) ∙ own.1 in
-        absurd (true≢false (sym (w.cycle.halves r.0 r.1).mate_above ∙ ap (λ h. lists above (face_at M h)) (sym r.2) ∙ ap (lists above) at ∙ low))
-    | inr z ↦ z
-  ]
+  no_mate y j = none_in y (map mate bs) (λ m.
+      let r = from_map mate y bs m in
+      let at : face_at M y ≡ k = ap (face_of M) (item_loop M w.sound l y j) ∙ own.1 in
+      true≢false (sym (w.cycle.halves r.0 r.1).mate_above ∙ ap (λ h. lists above (face_at M h)) (sym r.2) ∙ ap (lists above) at ∙ low))
 
   opened_exact : loop_points (opened_along M above s c bs) l ≡ loop_points M l
   opened_exact = exact_points M (opened_along M above s c bs) (swap M above s c bs w) l (kept.replaced M (opened_along M above s c bs) (swap M above s c bs w) (is_rewritten M above s c bs w) l own.0)

@@ -1,11 +1,11 @@
 -- A solid opened along its section, its holes closed and its upper faces parted: other solids stay as they were.
-use Rattle.command_laws.proofs.Prelude.{◌≡◌, ◌≢◌, ℕ, ◌+◌, true, false, cond, not, ◌&&◌, List, [], ◌∷◌, length, map, Some, None, is_some, refl, sym, ap, subst, ◌∙◌, ◌⊎◌, inl, inr, filter, fold, option_map, arith, eqb-false, false_from_ne_true, eqb_tells, Plane, count, IsIn, edge_of, mate, minus, plus, get-map_rows, items_of, Model, content, face_of, solid_of, tail, Sound, Has, HasHalf, face_at, first_false, lists, effect, kfmrh, part, Kfmrh, mate_plus, IsIn_or_not, from_map, item_loop, face_row, number_real, plus_there, same_solid, solid_row, in_use_within, row_some, kfmrh_goes, listed_front, loop_row as row_of, get-put_cases, none_replaced, Taken, numbers_after, renamed, Caps, Opening, all_opened, both_lists, hole_closed, holes_closed, no_caps, opened_along, opened_row, opened_tail, outer_caps, ArePlain, CanBeOpenedInTurn, CanBeOpened, opened_sound, can_open, openings_carry, upper_row, edges_are, face_still, renamed_not, rim_below, closing_ops, vertex_still, loop_kinds, lower_row}
+use Rattle.command_laws.proofs.Prelude.{◌≡◌, ◌≢◌, ℕ, ◌+◌, true, false, cond, not, ◌&&◌, List, [], ◌∷◌, length, map, Some, None, is_some, refl, sym, ap, subst, ◌∙◌, ◌⊎◌, inl, inr, filter, fold, option_map, arith, eqb-false, false_from_ne_true, Plane, count, IsIn, edge_of, mate, minus, plus, get-map_rows, items_of, Model, content, face_of, solid_of, tail, Sound, Has, HasHalf, face_at, first_false, lists, effect, kfmrh, part, Kfmrh, mate_plus, IsIn_or_not, from_map, item_loop, face_row, number_real, plus_there, same_solid, solid_row, in_use_within, row_some, kfmrh_goes, listed_front, loop_row as row_of, get-put_cases, none_replaced, Taken, numbers_after, renamed, Caps, Opening, all_opened, both_lists, hole_closed, holes_closed, no_caps, opened_along, opened_row, opened_tail, outer_caps, ArePlain, CanBeOpenedInTurn, CanBeOpened, opened_sound, can_open, openings_carry, upper_row, edges_are, face_still, renamed_not, rim_below, closing_ops, vertex_still, loop_kinds, lower_row}
 use Rattle.euler_operators.specs.Table as table
 use Rattle.euler_laws.specs.Laws.{AreAccepted}
 use Rattle.split_opening_laws.proofs.sections.OpenedRows.{faces_are, loop_row}
 use Rattle.command_laws.proofs.Owners.{agree_none, is_of, solid_of_half, solid_of_loop}
 use Rattle.command_laws.proofs.Inner.{AgreeBut}
-use Rattle.command_laws.proofs.splits_laws.Steps.{kill_within, own_edge}
+use Rattle.command_laws.proofs.splits_laws.Steps.{kill_within, own_edge, face_in}
 use Rattle.command_laws.proofs.splits_laws.DrawnWithin.{within_on}
 
 -- ---- opened along one cycle
@@ -121,11 +121,7 @@ kfmrh_is M f g = refl
 one_closed : (s : ℕ) (M N : Model) (f g : ℕ) → AgreeBut s M N → solid_of M f ≡ s → first_false N (Kfmrh f g) ≡ None → AgreeBut s M (kfmrh N f g)
 one_closed s M N f g w of accepted =
     let goes = kfmrh_goes N f g accepted in
-    let now : solid_of N f ≡ s = elim (eqb_tells (solid_of N f) s) [
-      | inl e ↦ e.1
-      | inr e ↦ absurd (e.1 (same_solid M N f (w.faces_back f goes.f_there e.0).0 ∙ of))
-    ] in
-    within_on s M N (kfmrh N f g) w (kill_within N w.after f g s accepted now)
+    within_on s M N (kfmrh N f g) w (kill_within N w.after f g s accepted (face_in s M N w f goes.f_there of))
 
 closing_within : (s : ℕ) (M N : Model) (o : Caps) (hs : List Caps) → AgreeBut s M N → solid_of M o.lower ≡ s → solid_of M o.upper ≡ s → AreAccepted N (closing_ops o hs) → AgreeBut s M (fold (hole_closed o) N hs)
 closing_within s M N o [] w low up accepted = w

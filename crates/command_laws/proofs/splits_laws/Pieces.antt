@@ -1,15 +1,15 @@
 -- The faces of the two parts of a split: those of the solid, pieces of those that straddle the plane, and caps.
-use Rattle.command_laws.proofs.Prelude.{◌≡◌, ◌⊎◌, ℕ, ◌+◌, Bool, true, false, cond, not, pos, int_lt, ◌≢◌, ◌&&◌, ◌||◌, List, [], ◌∷◌, ◌++◌, length, None, is_some, refl, sym, ap, subst, ◌∙◌, arith, inl, inr, true≢false, and_parts, eqb_tells, flat_map-append, Plane, IsIn, count, direction, dot, face_at, origin, same_point, Model, solid_of, faces_of, Sound, Has, kfmrh, part, IsIn-filter, count-append, get-remove_here, get-remove_other, no_row, row_some, same_solid, tick_same, half_face, listed-from_in, mapped_some, corners, normal, is_plane_of, plane_of, reaches_above, reaches_below, straddles, straddling_faces, below_halves, section_cycles, Caps, Opening, opened_along, face_is_above, are_on, face_listed, get-put_cases, drawn_lies, cap_faces, new_caps, opened_next, openings_carry, CanBeSplit, crossings_keep, CanBegin, begins, drawn_sound, drawn_stays, never_stuck, none_straddles, in_solid, can_be_split, closing_carries, Machine, held, IsSplit, HasNewFace, IsCap, IsOfEither, IsPiece, LiesInPlaneOf, SplitKeepsPlanes, SplitPartsFaces, StraddlingGoAbove, StraddlingStayBelow, stages}
+use Rattle.command_laws.proofs.Prelude.{◌≡◌, ◌⊎◌, ℕ, ◌+◌, Bool, true, false, cond, not, pos, int_lt, ◌≢◌, ◌&&◌, ◌||◌, List, [], ◌∷◌, ◌++◌, length, None, is_some, refl, sym, ap, subst, ◌∙◌, arith, inl, inr, true≢false, and_parts, flat_map-append, Plane, IsIn, count, direction, dot, face_at, origin, same_point, Model, solid_of, faces_of, Sound, Has, kfmrh, part, IsIn-filter, count-append, get-remove_here, get-remove_other, no_row, row_some, same_solid, tick_same, half_face, listed-from_in, mapped_some, corners, normal, is_plane_of, plane_of, reaches_above, reaches_below, straddles, straddling_faces, below_halves, section_cycles, Caps, Opening, opened_along, face_is_above, are_on, face_listed, get-put_cases, drawn_lies, cap_faces, new_caps, opened_next, openings_carry, CanBeSplit, crossings_keep, CanBegin, begins, drawn_sound, drawn_stays, never_stuck, none_straddles, in_solid, can_be_split, closing_carries, Machine, held, IsSplit, HasNewFace, IsCap, IsOfEither, IsPiece, LiesInPlaneOf, SplitKeepsPlanes, SplitPartsFaces, StraddlingGoAbove, StraddlingStayBelow, stages}
 use Rattle.euler_operators.specs.Table as table
 use Rattle.split_opening_laws.proofs.sections.OpenedRows as rows
 use Rattle.split_laws.proofs.volumes.Split as split
-use Rattle.command_laws.proofs.Owners.{is_of, neither, turned}
+use Rattle.command_laws.proofs.Owners.{is_of, neither, turned, is_it}
 use Rattle.command_laws.proofs.Turned.{turned_lies}
 use Rattle.command_laws.proofs.splits_laws.DrawnFaces.{drawn_half, drawn_in}
 use Rattle.command_laws.proofs.splits_laws.DrawnWithin.{drawings_within}
 use Rattle.command_laws.proofs.splits_laws.Lower.{goes_high, stays_low}
 use Rattle.command_laws.proofs.splits_laws.PartFaces.{part_of, part_turned}
-use Rattle.command_laws.proofs.Inner.{AgreeBut}
+use Rattle.command_laws.proofs.Inner.{AgreeBut, new_face}
 use Rattle.command_laws.proofs.splits_laws.Steps.{face_in}
 use Rattle.command_laws.proofs.splits_laws.Whole.{after_is, drawn_agree}
 
@@ -80,13 +80,6 @@ module _ (before after : Machine) (s : ℕ) (p : Plane) (t : ℕ) (sound : Sound
       let a = and_parts (not (same_point (direction r) origin)) (are_on d.model r (corners d.model k)) on in
       λ i. a.0 i && turned_lies d.model N k r (part_turned M s p t sound made.0 k there of) a.1 i
 
-  -- a face that is new is of the solid
-  new_of : (k : ℕ) → Has d.model.faces k → table.get M.faces k ≡ None → solid_of d.model k ≡ s
-  new_of k has none = elim (eqb_tells (solid_of d.model k) s) [
-    | inl e ↦ e.1
-    | inr e ↦ absurd (true≢false (sym has ∙ ap is_some ((drawn.faces_back k has e.0).0 ∙ none)))
-  ]
-
   -- ---- each face of the solid
 
   module _ (k : ℕ) (there : Has M.faces k) (of : solid_of M k ≡ s) where
@@ -129,7 +122,7 @@ module _ (before after : Machine) (s : ℕ) (p : Plane) (t : ℕ) (sound : Sound
           | inl e ↦ absurd (apart e)
           | inr none ↦ none
         ] in
-        let g_of : solid_of d.model g ≡ s = new_of g g_there none in
+        let g_of : solid_of d.model g ≡ s = new_face M d.model s drawn g g_there none in
         record {
           face = g;
           new = ap is_some none;
@@ -147,17 +140,11 @@ module _ (before after : Machine) (s : ℕ) (p : Plane) (t : ℕ) (sound : Sound
         (closing_carries X.model s p X.caps (λ A. Has A.faces k → Has X.model.faces k) (λ A f g w h has. h (killed_had A f g k has)) (split.closes d above s p t can) (λ has. has) (parted_had _ s t _ k there))
 
     pub was_of : Has d.model.faces k → solid_of d.model k ≡ s
-    was_of has = elim (eqb_tells (solid_of d.model k) s) [
-      | inl e ↦ e.1
-      | inr e ↦
-          let row = (drawn_agree before after s p t sound made).faces k has e.0 in
-          let out = neither s t (solid_of d.model k) row.1 in
-          let same = same_solid d.model N k row.0 in
-          elim of [
-            | inl q ↦ absurd (out.0 (sym same ∙ q))
-            | inr q ↦ absurd (out.1 (sym same ∙ q))
-          ]
-    ]
+    was_of has = is_it s (solid_of d.model k) (λ e.
+        let row = (drawn_agree before after s p t sound made).faces k has e in
+        let out = neither s t (solid_of d.model k) row.1 in
+        let same = same_solid d.model N k row.0 in
+        elim of [ inl q ↦ out.0 (sym same ∙ q) | inr q ↦ out.1 (sym same ∙ q) ])
 
     old_or_piece : Has d.model.faces k → (b : Bool) → table.has M.faces k ≡ b → (Has M.faces k × (solid_of M k ≡ s)) ⊎ IsPiece M N s p k
     old_or_piece has true e = inl (e, face_in s d.model M (turned M d.model (is_of s) (is_of s) drawn) k e (was_of has))

@@ -1,8 +1,8 @@
 -- One step of a split within a solid: whatever isn't of the solid stays, and nothing else comes to be of another.
-use Rattle.command_laws.proofs.Prelude.{◌≡◌, ◌≢◌, ℕ, true, false, cond, List, Option, Some, None, is_some, refl, sym, ap, subst, ◌∙◌, true≢false, ne_eqb, inl, inr, Bool, nat_eq, eq-eqb, option_map, arith, eqb_tells, eqb-false, false_from_ne_true, edge_of, Model, LoopRow, face_of, outer, solid_of, content, Sound, Has, HasHalf, lists, effect, faces_to_solid, first_false, kfmrh, loop_to_face, part, ring_in, Table, Kfmrh, code-half, plus_row, same_edge, face_row, same_solid, solid_row, face_there, mapped_some, solid_either, loop_row, CanDraw, CanJoin, draw_accepted, face_drawn, join_accepted, loops_joined}
+use Rattle.command_laws.proofs.Prelude.{◌≡◌, ◌≢◌, ℕ, true, false, cond, List, Option, Some, None, is_some, refl, sym, ap, subst, ◌∙◌, true≢false, ne_eqb, Bool, nat_eq, eq-eqb, option_map, arith, eqb-false, false_from_ne_true, edge_of, Model, LoopRow, face_of, outer, solid_of, content, Sound, Has, HasHalf, lists, effect, faces_to_solid, first_false, kfmrh, loop_to_face, part, ring_in, Table, Kfmrh, code-half, plus_row, same_edge, face_row, same_solid, solid_row, face_there, mapped_some, solid_either, loop_row, CanDraw, CanJoin, draw_accepted, face_drawn, join_accepted, loops_joined}
 use Rattle.euler_operators.specs.Table as table
 use Rattle.command_laws.proofs.Inner.{AgreeBut, kfmrh_within, mef_within, mekr_within}
-use Rattle.command_laws.proofs.Owners.{Agree, half_kept, is_either, is_of, neither, not_either, solid_of_edge, solid_of_half, solid_of_loop, turned}
+use Rattle.command_laws.proofs.Owners.{Agree, half_kept, is_either, is_of, neither, not_either, solid_of_edge, solid_of_half, solid_of_loop, turned, is_it}
 
 -- an edge is of the solid of each of its halves
 pub own_edge : (M : Model) → Sound M → (h : ℕ) → HasHalf M h → solid_of_edge M (edge_of h) ≡ solid_of_half M h
@@ -11,16 +11,10 @@ own_edge M sound h there = grind (arith, same_edge, plus_row, solid_of_half)
 module _ (s : ℕ) (M N : Model) (w : AgreeBut s M N) where
   -- what was of the solid is
   pub half_in : (h : ℕ) → HasHalf M h → HasHalf N h → solid_of_half M h ≡ s → solid_of_half N h ≡ s
-  half_in h there now of = elim (eqb_tells (solid_of_half N h) s) [
-    | inl e ↦ e.1
-    | inr e ↦ absurd (eqb-false (solid_of_half M h) s (half_kept N M (is_of s) (is_of s) (turned M N (is_of s) (is_of s) w) h now e.0).1 of)
-  ]
+  half_in h there now of = is_it s (solid_of_half N h) (λ out. eqb-false (solid_of_half M h) s (half_kept N M (is_of s) (is_of s) (turned M N (is_of s) (is_of s) w) h now out).1 of)
 
   pub face_in : (k : ℕ) → Has N.faces k → solid_of M k ≡ s → solid_of N k ≡ s
-  face_in k now of = elim (eqb_tells (solid_of N k) s) [
-    | inl e ↦ e.1
-    | inr e ↦ absurd (e.1 (same_solid M N k (w.faces_back k now e.0).0 ∙ of))
-  ]
+  face_in k now of = is_it s (solid_of N k) (λ out. eqb-false (solid_of N k) s out (same_solid M N k (w.faces_back k now out).0 ∙ of))
 
 -- ---- operators within the solid: an edge drawn in a face, two loops of a face joined, a face that becomes a ring of another
 

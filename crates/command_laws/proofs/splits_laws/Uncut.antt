@@ -1,5 +1,5 @@
 -- A face that the plane doesn't straddle stands as it did once the edges are cut and the faces drawn that do.
-use Rattle.command_laws.proofs.Prelude.{◌≡◌, ◌≢◌, ℕ, ◌+◌, Bool, true, false, ◌&&◌, ◌||◌, List, [], ◌∷◌, None, Some, is_some, refl, sym, ap, subst, ◌∙◌, arith, true≢false, inl, inr, ◌⊎◌, fold, map, false_from_ne_true, Plane, are_opposite, count, IsIn, edge_of, mate, minus, plus, Model, content, face_of, items_of, loop_of, point_of, rings_of, tail, Sound, Has, HasHalf, face_at, lists, edge_row, ring_in, mate_minus, mate_plus, minus_row, plus_row, IsIn_or_not, tick_same, filter_passes, face_row, in-holds, mate_there, same_face, halves_of_edge, IsIn-from_listed, listed-from_in, edge_there, corners, vertices_on, crossing_edges, straddles, with_crossings, Drawing, FacePairs, drawn_between, next_drawn, straddling_pairs, undrawn, with_drawings, split_refusal, Kept, CanBegin, DrawnIn, Fits, pairs_in, Drawable, Ready, any_passes, edge_facts, crossings_keep, faces_are, CanDraw, CanJoin, face_drawn_else, loops_joined_faces, face_drawn, loops_joined, between_keeps, Newer, RingOf, row_else, row_gone, row_joined, row_other, drawable, drawable_on, next_is, ready, never_free, new_loop_face, old_loop_face, can_be_drawn, begins, drawn_stays, StandsAsBefore, stages}
+use Rattle.command_laws.proofs.Prelude.{◌≡◌, ◌≢◌, ℕ, ◌+◌, Bool, true, false, ◌&&◌, ◌||◌, List, [], ◌∷◌, None, Some, is_some, refl, sym, ap, subst, ◌∙◌, arith, true≢false, inl, inr, ◌⊎◌, fold, map, false_from_ne_true, Plane, are_opposite, count, IsIn, edge_of, mate, minus, plus, Model, content, face_of, items_of, loop_of, point_of, rings_of, tail, Sound, Has, HasHalf, face_at, lists, edge_row, ring_in, mate_minus, mate_plus, minus_row, plus_row, tick_same, filter_passes, face_row, in-holds, mate_there, same_face, halves_of_edge, IsIn-from_listed, listed-from_in, edge_there, corners, vertices_on, crossing_edges, straddles, with_crossings, Drawing, FacePairs, drawn_between, next_drawn, straddling_pairs, undrawn, with_drawings, split_refusal, Kept, CanBegin, DrawnIn, Fits, pairs_in, Drawable, Ready, any_passes, edge_facts, crossings_keep, faces_are, CanDraw, CanJoin, face_drawn_else, loops_joined_faces, face_drawn, loops_joined, between_keeps, Newer, RingOf, row_else, row_gone, row_joined, row_other, drawable, drawable_on, next_is, ready, never_free, new_loop_face, old_loop_face, can_be_drawn, begins, drawn_stays, StandsAsBefore, stages, none_in}
 use Rattle.euler_operators.specs.Table as table
 use Rattle.command_laws.proofs.OnFaces.{vertex_there, starts_in, ends_in}
 use Rattle.command_laws.proofs.Standing.{rings_same, stands, stands_turned}
@@ -126,13 +126,10 @@ module _ (M : Model) (s : ℕ) (p : Plane) (t : ℕ) (sound : Sound M) (accepted
   clear : (l : ℕ) → face_of M l ≡ k → (e : ℕ) → IsIn e (crossing_edges M p s) → IsClear e (content M l)
   clear l at e i = (none (plus e) (plus_row e).0, none (minus e) (minus_row e).0) where
     none : (h : ℕ) → edge_of h ≡ e → count h (items_of (content M l)) ≡ 0
-    none h is = elim (IsIn_or_not h (items_of (content M l))) [
-      | inl j ↦
-          let stands = in-holds h (content M l) j in
-          let off = uncut M s p sound k whole h (sound.only_edges h l stands) (ap (face_of M) (sound.one_loop h l stands) ∙ at) in
-          absurd (true≢false (sym (listed-from_in e (crossing_edges M p s) i) ∙ ap (lists (crossing_edges M p s)) (sym is) ∙ off))
-      | inr z ↦ z
-    ]
+    none h is = none_in h (items_of (content M l)) (λ j.
+        let stands = in-holds h (content M l) j in
+        let off = uncut M s p sound k whole h (sound.only_edges h l stands) (ap (face_of M) (sound.one_loop h l stands) ∙ at) in
+        true≢false (sym (listed-from_in e (crossing_edges M p s) i) ∙ ap (lists (crossing_edges M p s)) (sym is) ∙ off))
 
   undrawn_face : count k (map (λ q. q.face) (straddling_pairs M s p)) ≡ 0
   undrawn_face = grind (arith, true≢false, filter_passes, faces_are)
