@@ -2,7 +2,7 @@
 pub use Rattle.command_laws.proofs.BlockFaces.{block_has_four_sides, block_has_top_and_bottom, block_takes_six_faces}
 pub use Rattle.command_laws.proofs.BlockFlat.{IsOneOf, base_corners, blocks_lie_flat, no_older, of_block, one_of, sound_after}
 pub use Rattle.command_laws.proofs.OnFaces.{loop_in_face, vertex_there, starts_in, ends_in}
-pub use Rattle.command_laws.proofs.Owners.{Agree, OnSolid, agree_on, half_is_on, has_owner, is_either, is_of, not_either, owner_is, solid_of_vertex, vertex_kept}
+pub use Rattle.command_laws.proofs.Owners.{Agree, OnSolid, agree_on, half_is_on, has_owner, is_either, is_of, not_either, owner_is, solid_of_vertex, vertex_kept, is_it}
 pub use Rattle.command_laws.proofs.Turned.{IsTurned, turned_lies, turned_pass}
 pub use Rattle.command_laws.proofs.caps_laws.Whole.{caps_have_normals, caps_stand, holes_are_closed}
 pub use Rattle.command_laws.proofs.splits_laws.Along.{ComesOf, half_comes}
@@ -12,7 +12,7 @@ pub use Rattle.command_laws.specs.Commands.{IsBlock}
 pub use Rattle.command_laws.specs.NewFaces.{IsFaceOf, all_moved, area_to, last_face, nth, plane_round, side_over, turned_back, up_by}
 pub use Rattle.command_laws.specs.Splits.{IsOfEither}
 pub use Rattle.convex_laws.specs.Convex.{BendsAway, BlockKeepsConvex, BlockKeepsStrictlyConvex, BlocksAreConvex, BuiltAreConvex, BuiltHaveVolume, ConvexSolidsHaveVolume, ConvexSplitsAreRefusedFor, IsBuilt, IsConvex, IsStrictlyConvex, IsVertexOf, LiesAbove, LiesBelow, MayRefuseConvexSplit, PartsOfConvexSolidsHaveVolume, RoundLooksAlong, SplitLeavesConvex, SplitLeavesStrictlyConvex, SplitPartsLieApart, SplitsKeepStrictlyConvex, SplitsStayBelow, all_on_one_side, block_made, cut_off_the_lattice, lone_loop, no_such_solid, number_out_of_range, numbers_spent, places_crossed, plane_out_of_range, redone, solid_split, solid_there_already, started, swept_from, undone, vertex_branched}
-pub use Rattle.euler_laws.proofs.Common.{IsIn-from_listed, all_hold, back_of, first_listed, half_after, half_face, halves_of_edge, listed-from_in, listed_cases, listed_front, loop_after, no_rings_means, no_zero, not_lone_cycle, rest_listed, same_tail}
+pub use Rattle.euler_laws.proofs.Common.{IsIn-from_listed, all_hold, back_of, first_listed, half_after, half_face, halves_of_edge, listed-from_in, listed_cases, listed_front, loop_after, no_rings_means, no_zero, not_lone_cycle, rest_listed, same_tail, none_in}
 pub use Rattle.euler_operators.proofs.Common.{IsApart-map, IsIn-filter, IsIn-map, IsIn_head, IsIn_one, IsIn_or_not, IsIn_rest, add_none, content_row, count-append, count-canonical, count-filter, cycle_there, dif-parts, difs, dot_origin, dot_sum, dot_turned, face_row, filter_passes, first_fails, from_map, in-holds, item_loop, level_is, level_on, loop_there, mate-mate, mate_minus, mate_plus, mate_there, neg-dif, none_moved, number, plus_other, plus_there, point_row, row_of, row_some, same_content, same_dif, same_solid, same_vector, splice_at, splice_at_other, splice_elsewhere, tick_other, tick_same, zero_first_where, moved_twice}
 pub use Rattle.euler_operators.specs.Common.{Condition, Has, HasHalf, IsApart, IsIn, LoopContent, Model, Plane, Point, Sound, StandsIn, Table, after, after_mef, after_mev, are_opposite, before, canonical, content, count, cross, cut_between, cycle, cycle_of, direction, dot, edge_of, face_at, faces_of, first_refusal, height, holds, is_above, is_below, is_empty, is_lone, is_on, items_of, lists, lone, mate, minus, moved, no_point, opposite, origin, outer, plus, ring_in, rings_of, same_point, solid_of, tick}
 unfoldable pub use Rattle.euler_operators.specs.Common.{empty_model, face_of, has_rings, loop_of, part, point_of, tail}

@@ -1,5 +1,5 @@
 -- What becomes of the half-edges of a drawn solid as it is opened: each keeps its face, and that of its mate or a cap lies beyond.
-use Rattle.convex_laws.proofs.Prelude.{◌≡◌, ◌⊎◌, ℕ, ◌≤◌, List, [], ◌∷◌, ◌++◌, map, length, refl, sym, ap, subst, ◌∙◌, arith, true≢false, inl, inr, eqb_tells, length-map, map-append, Plane, IsApart, IsIn, canonical, count, tick, cycle_of, edge_of, items_of, mate, plus, Model, content, face_at, face_of, loop_of, tail, Sound, HasHalf, lists, IsApart-map, IsIn-map, IsIn_or_not, content_row, count-append, count-canonical, cycle_there, face_row, from_map, in-holds, mate-mate, mate_minus, mate_plus, mate_there, row_of, tick_other, tick_same, halves_of_edge, Caps, Opening, Taken, all_opened, finish, numbers_after, opened_along, start, AreSectionCycles, IsBelowHalf, CanBeOpenedInTurn, halves_in, opened_sound, can_open, new_caps, opened_next, openings_carry, face_kept, half_cases, loop_row, mate_face, minus_face}
+use Rattle.convex_laws.proofs.Prelude.{◌≡◌, ◌⊎◌, ℕ, ◌≤◌, List, [], ◌∷◌, ◌++◌, map, length, refl, sym, ap, subst, ◌∙◌, arith, true≢false, inl, inr, eqb_tells, length-map, map-append, Plane, IsApart, IsIn, canonical, count, tick, cycle_of, edge_of, items_of, mate, plus, Model, content, face_at, face_of, loop_of, tail, Sound, HasHalf, lists, IsApart-map, IsIn-map, IsIn_or_not, content_row, count-append, count-canonical, cycle_there, face_row, from_map, in-holds, mate-mate, mate_minus, mate_plus, mate_there, row_of, tick_other, tick_same, halves_of_edge, Caps, Opening, Taken, all_opened, finish, numbers_after, opened_along, start, AreSectionCycles, IsBelowHalf, CanBeOpenedInTurn, halves_in, opened_sound, can_open, new_caps, opened_next, openings_carry, face_kept, half_cases, loop_row, mate_face, minus_face, none_in}
 use Rattle.split_opening_laws.specs.strips.Opened.{CanBeOpened}
 use Rattle.split_opening_laws.proofs.sections.Numbered.{length-numbers_after, renamed_onto}
 use Rattle.split_opening_laws.proofs.sections.StillBetween.{no_mate, no_mates_mate, starts_elsewhere, there_in}
@@ -34,10 +34,7 @@ module _ (Y : Model) (above : List ℕ) (s : ℕ) (c : Taken) (bs : List ℕ) (w
       ∙ face_row O (loop_of Y y) _ row
 
   never_mate : (b : ℕ) → IsIn b bs → count b (map mate bs) ≡ 0
-  never_mate b i = elim (IsIn_or_not b (map mate bs)) [
-    | inl j ↦ let r = from_map mate b bs j in absurd (true≢false (sym (w.cycle.halves r.0 r.1).mate_above ∙ ap (λ x. lists above (face_at Y x)) (sym r.2) ∙ (w.cycle.halves b i).below))
-    | inr z ↦ z
-  ]
+  never_mate b i = none_in b (map mate bs) (λ j. let r = from_map mate b bs j in true≢false (sym (w.cycle.halves r.0 r.1).mate_above ∙ ap (λ x. lists above (face_at Y x)) (sym r.2) ∙ (w.cycle.halves b i).below))
 
   mates_apart : IsApart (map mate bs)
   mates_apart = IsApart-map mate bs (λ x i y j e. sym (mate-mate x) ∙ ap mate e ∙ mate-mate y) (λ x. omega (arith, count_through (tail Y) bs x, w.cycle.starts_apart (tail Y x)))

@@ -1,5 +1,5 @@
 -- A split makes no vertex outside: each half-space that holds the solid holds the cut points, and so both parts.
-use Rattle.convex_laws.proofs.Prelude.{◌≡◌, ◌≢◌, ◌⊎◌, ℕ, ◌+◌, ℤ, unsigned_abs, Bool, true, false, List, [], ◌∷◌, length, map, fold, Some, is_some, unwrap_or, refl, sym, ap, subst, ◌∙◌, arith, true≢false, inl, inr, filter, eq-eqb, eqb_tells, nat_tests, ints, Plane, Point, height, opposite, is_above, cut_between, IsIn, mate, plus, Table, Model, no_point, face_of, loop_of, solid_of, point_of, tail, Sound, Has, HasHalf, face_at, from_map, IsIn_head, IsIn_rest, loop_there, mate_there, plus_there, point_row, row_some, IsIn-from_listed, listed-from_in, start, finish, corners, loops_of, Growing, growing, crossing_edges, all_cut, next_cut, with_crossings, straddling_pairs, with_drawings, below_halves, section_cycles, Opening, both_lists, opened_along, numbers_after, outer_caps, face_of_loop, get-put_cases, on_one, on_some, CanBegin, edge_facts, Stays, drawing_stays, can_be_drawn, rewritings_sound, CanBeOpenedInTurn, opened_sound, can_open, openings_carry, vertices_are, listed_front, Machine, held, IsSplit, IsVertexOf, LiesBelow, SplitsStayBelow, loop_in_face, vertex_there, Agree, OnSolid, agree_on, half_is_on, has_owner, is_either, is_of, owner_is, solid_of_vertex, vertex_kept, stages}
+use Rattle.convex_laws.proofs.Prelude.{◌≡◌, ◌≢◌, ◌⊎◌, ℕ, ◌+◌, ℤ, unsigned_abs, Bool, true, false, List, [], ◌∷◌, length, map, fold, Some, is_some, unwrap_or, refl, sym, ap, subst, ◌∙◌, arith, true≢false, inl, inr, filter, eq-eqb, nat_tests, ints, Plane, Point, height, opposite, is_above, cut_between, IsIn, mate, plus, Table, Model, no_point, face_of, loop_of, solid_of, point_of, tail, Sound, Has, HasHalf, face_at, from_map, IsIn_head, IsIn_rest, loop_there, mate_there, plus_there, point_row, row_some, IsIn-from_listed, listed-from_in, start, finish, corners, loops_of, Growing, growing, crossing_edges, all_cut, next_cut, with_crossings, straddling_pairs, with_drawings, below_halves, section_cycles, Opening, both_lists, opened_along, numbers_after, outer_caps, face_of_loop, get-put_cases, on_one, on_some, CanBegin, edge_facts, Stays, drawing_stays, can_be_drawn, rewritings_sound, CanBeOpenedInTurn, opened_sound, can_open, openings_carry, vertices_are, listed_front, Machine, held, IsSplit, IsVertexOf, LiesBelow, SplitsStayBelow, loop_in_face, vertex_there, Agree, OnSolid, agree_on, half_is_on, has_owner, is_either, is_of, owner_is, solid_of_vertex, vertex_kept, stages, is_it}
 use Rattle.euler_operators.specs.Table as table
 use Rattle.solid_measure_laws.proofs.Cuts.{cut_divides}
 use Rattle.split_drawing_laws.proofs.crossings.OneCut.{cut_rows, edge_cut}
@@ -39,10 +39,9 @@ half_on M sound s h there of = record { loop = loop_of M h; there = loop_there M
 
 -- a vertex that is there before, and of one of the solids that come, was of the solid
 old_vertex : (G H : Model) (s : ℕ) (b : ℕ → Bool) → Agree G H (is_of s) b → (v u : ℕ) → Has G.vertices v → OnSolid H u v → b u ≡ true → OnSolid G s v
-old_vertex G H s b w v u there of in_b = elim (eqb_tells (solid_of_vertex G v) s) [
-  | inl e ↦ subst (λ x. OnSolid G x v) e.1 (has_owner G w.before v there)
-  | inr e ↦ absurd (true≢false (sym in_b ∙ ap b (sym (owner_is H w.after u v of)) ∙ (vertex_kept G H (is_of s) b w v there e.0).1))
-]
+old_vertex G H s b w v u there of in_b =
+    let same : solid_of_vertex G v ≡ s = is_it s (solid_of_vertex G v) (λ out. true≢false (sym in_b ∙ ap b (sym (owner_is H w.after u v of)) ∙ (vertex_kept G H (is_of s) b w v there out).1)) in
+    subst (λ x. OnSolid G x v) same (has_owner G w.before v there)
 
 -- ---- the vertices that cutting makes
 
