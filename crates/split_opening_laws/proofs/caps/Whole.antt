@@ -201,10 +201,7 @@ module _ (N : Model) (s : ℕ) (c : Taken) (hs : List ℕ) (sound : Sound N) (w 
   strip = (a ∷ plus riser ∷ minus (c.edge + 1) ∷ []) ++ minus riser ∷ []
 
   strip_around : Around N (c.loop + 1) (c.face + 1) strip
-  strip_around = record {
-    sound = sound;
-    at = w.loops 0 (omega (arith, w.some)) ∙ ap (λ i. Some (record { face = c.face + 1; content = cycle (canonical (a ∷ plus riser ∷ minus (c.edge + 1) ∷ minus (strip_riser c (length hs) i) ∷ [])) })) (next_last (length hs) 0 (sym single));
-  }
+  strip_around = grind (arith, w.loops, w.some, next_last)
 
   strip_apart : IsApart strip
   strip_apart = apart_xs N (c.loop + 1) (c.face + 1) strip strip_around

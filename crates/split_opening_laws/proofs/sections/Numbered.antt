@@ -131,10 +131,7 @@ renamed_onto (x ∷ xs) (z ∷ zs) d l y i = elim (eqb_tells y z) [
       (r.0, omega (arith, r.1), ap (λ b. cond b z (renamed (both_lists xs zs) r.0)) (other r.0 r.1) ∙ r.2)
 ] where
   other : (v : ℕ) → IsIn v xs → nat_eq x v ≡ false
-  other v j = elim (eqb_tells x v) [
-    | inl s ↦ absurd (omega (arith, d x, tick_same x, ap (λ w. count w xs) s.1, j))
-    | inr s ↦ s.0
-  ]
+  other v j = grind (arith, tick_same)
 
 -- ---- the edges round a cap, which get the numbers after those taken
 
