@@ -180,12 +180,14 @@ module _ (M : Model) (f g : ℕ) (sound : Sound M) (accepted : glue_refusal M f 
   pub flat : (k : ℕ) → Has M.faces k → (solid_of M k ≡ s) ⊎ (solid_of M k ≡ t) → is_flat M k ≡ true
   flat k there of = not-false (is_flat M k) (none_such (λ q. not (is_flat M q)) fs goes.none_bent k (IsIn-from_listed k fs (listed k there of)))
 
+  pub not_lone : (l : ℕ) → Has M.loops l → (solid_of M (face_of M l) ≡ s) ⊎ (solid_of M (face_of M l) ≡ t) → is_lone (content M l) ≡ false
+  not_lone l has of = first_fails (is_lone (content M l)) (lists fs (face_of M l))
+      (zero_first_where (λ _ row. is_lone row.content && lists fs row.face) M.loops (loop_number M sound) goes.none_lone l _ (loop_row M l has)) (listed (face_of M l) (sound.loops_of_faces l has) of)
+
   is_cycle : (k : ℕ) → Has M.faces k → (solid_of M k ≡ s) ⊎ (solid_of M k ≡ t) → content M (outer M k) ≡ cycle (rim M k)
   is_cycle k there of =
       let p = sound.outers_there k there in
-      not_lone_cycle (content M (outer M k)) (first_fails (is_lone (content M (outer M k))) (lists fs (face_of M (outer M k)))
-      (zero_first_where (λ _ row. is_lone row.content && lists fs row.face) M.loops (loop_number M sound) goes.none_lone (outer M k) _ (loop_row M (outer M k) p.0))
-      (ap (lists fs) p.1 ∙ listed k there of))
+      not_lone_cycle (content M (outer M k)) (not_lone (outer M k) p.0 (subst (λ q. (solid_of M q ≡ s) ⊎ (solid_of M q ≡ t)) (sym p.1) of))
 
   pub cycle_f : content M (outer M f) ≡ cycle (rim M f)
   cycle_f = is_cycle f goes.f_there (inl refl)
