@@ -1,11 +1,10 @@
 -- Each face of a block is a parallelogram.
-use Rattle.command_laws.proofs.Prelude.{◌≡◌, ◌≢◌, ℕ, zero, suc, ◌+◌, ◌-◌, ◌≤◌, ◌<◌, ◌⊎◌, inl, inr, ℤ, pos, ◌+ℤ◌, ◌-ℤ◌, ◌*ℤ◌, neg_ℤ, is_some, true, false, not, List, [], ◌∷◌, refl, sym, ap, subst, ◌∙◌, arith, true≢false, int_le, length, cases_eq, cases_lt, not-true, ints, Point, origin, moved, cross, content, face_of, solid_of, Sound, Has, IsIn, is_empty, is_lone, has_rings, same_vector, same_content, same_solid, all_hold, no_rings_means, listed-from_in, loops_of, towards, next_place, vector, base_of, block_conditions, is_flat, face_of_loop, at_most_greatest, no_product, Machine, held, IsBlock, IsFaceOf, all_moved, last_face, nth, side_over, turned_back, up_by, IsClosedFlat, lie_flat, BlocksLieFlat, BlockKeepsFlat, StandsAsBefore}
+use Rattle.command_laws.proofs.Prelude.{◌≡◌, ◌≢◌, ℕ, zero, suc, ◌+◌, ◌-◌, ◌≤◌, ◌<◌, ◌⊎◌, inl, inr, ℤ, pos, ◌+ℤ◌, ◌-ℤ◌, ◌*ℤ◌, neg_ℤ, is_some, true, false, not, List, [], ◌∷◌, refl, sym, ap, subst, ◌∙◌, arith, true≢false, int_le, length, cases_eq, cases_lt, not-true, ints, Point, origin, moved, cross, content, face_of, solid_of, Sound, Has, IsIn, is_empty, is_lone, has_rings, same_vector, same_content, same_solid, all_hold, no_rings_means, listed-from_in, loops_of, towards, next_place, vector, base_of, block_conditions, is_flat, face_of_loop, at_most_greatest, no_product, Machine, held, IsBlock, IsFaceOf, all_moved, last_face, nth, side_over, turned_back, up_by, IsClosedFlat, lie_flat, BlocksLieFlat, BlockKeepsFlat, StandsAsBefore, loop_in_face}
 use Rattle.euler_operators.specs.Table as table
 use Rattle.sweeps_laws.proofs.BlockOps.{blocks_are_sound}
 use Rattle.command_laws.proofs.BlockFaces.{block_has_top_and_bottom, block_has_four_sides, block_takes_six_faces}
 use Rattle.command_laws.proofs.Kept.{block_keeps_faces}
 use Rattle.command_laws.proofs.Outlines.{outer_cycles}
-use Rattle.command_laws.proofs.OnFaces.{loop_in_face}
 use Rattle.command_laws.proofs.LyingFlat.{faces_lie_flat, sides_lie_flat, parallelogram, stands_flat}
 use Rattle.command_laws.proofs.DrawnAlone.{block_keeps_loops, block_keeps_shapes}
 
@@ -253,7 +252,7 @@ module _ (before after : Machine) (s : ℕ) (p : Point) (dx dy dz : ℤ) (sound 
 
     still_closed : (l : ℕ) → Has (held after).loops l → face_of (held after) l ≡ k → is_lone (content (held after) l) ≡ false
     still_closed l has on =
-        let inside = subst (λ ls. IsIn l ls) (ap (loops_of (held after)) on ∙ same_loops) (loop_in_face (held after) sound_after l has) in
+        let inside = subst (λ ls. IsIn l ls) (ap (loops_of (held after)) on ∙ same_loops) (loop_in_face (held after) l has) in
         let old = face_of_loop (held before) sound k l had (listed-from_in l (loops_of (held before) k) inside) in
         ap is_lone (same_content (held before) (held after) l (block_keeps_loops before after s p dx dy dz sound made l old.0 tt)) ∙ was.closed l old.0 (ap (solid_of (held before)) old.1 ∙ of_before)
 

@@ -1,12 +1,11 @@
 -- The faces that a glue leaves keep their corners, and so they are as flat as they were.
-use Rattle.command_laws.proofs.Prelude.{◌≡◌, ◌≢◌, ℕ, true, false, cond, nat_eq, ◌||◌, ◌&&◌, List, ◌∷◌, None, unwrap_or, is_some, option_map, refl, sym, ap, subst, ◌∙◌, arith, true≢false, ◌⊎◌, inl, inr, map, eqb-true, eq-eqb, nat_tests, eqb_tells, Model, LoopContent, lone, cycle, FaceRow, no_face, content, face_of, outer, solid_of, point_of, IsIn, Sound, Has, is_lone, lists, tables, first_fails, zero_first_where, loop_number, or_true, face_there, listed_as, listed-from_in, loop_row, mapped_some, solid_either, loops_of, faces_of_both, vertices_on, rewritten, is_flat, glue_refusal, glue_model, face_of_loop, held, loop_points, AreTurned, IsClosedFlat, GluesLieFlat, GlueKeepsFlat}
+use Rattle.command_laws.proofs.Prelude.{◌≡◌, ◌≢◌, ℕ, true, false, cond, nat_eq, List, ◌∷◌, None, unwrap_or, is_some, option_map, refl, sym, ap, subst, ◌∙◌, arith, true≢false, ◌⊎◌, map, eqb-true, nat_tests, eqb_tells, Model, LoopContent, lone, cycle, FaceRow, no_face, content, face_of, outer, solid_of, point_of, IsIn, Sound, Has, is_lone, tables, face_there, listed-from_in, mapped_some, solid_either, loops_of, vertices_on, rewritten, is_flat, glue_refusal, glue_model, face_of_loop, held, loop_points, AreTurned, IsClosedFlat, GluesLieFlat, GlueKeepsFlat, loop_in_face}
 use Rattle.euler_operators.specs.Table as table
 use Rattle.shapes.proofs.glue.Facts as facts
 use Rattle.gluing_laws.proofs.Seams as seams
 use Rattle.gluing_laws.proofs.Measures as measures
 use Rattle.gluing_laws.proofs.FromConditions.{seamed, glued}
 use Rattle.gluing_laws.proofs.glue.Glued.{glued_sound}
-use Rattle.command_laws.proofs.OnFaces.{loop_in_face}
 use Rattle.command_laws.proofs.Turned.{IsTurned, rewritten_turned, turned_over}
 
 -- a loop whose half-edges are replaced is lone where it was
@@ -77,7 +76,7 @@ module _ {M N : Model} {f g : ℕ} {partner_of : ℕ → ℕ} {hs gs : List ℕ}
     closed = λ l has of.
         let k = face_of N l in
         let there = sound.loops_of_faces l has in
-        let inside : IsIn l (loops_of M k) = subst (λ ls. IsIn l ls) (loops_are k there) (loop_in_face N sound l has) in
+        let inside : IsIn l (loops_of M k) = subst (λ ls. IsIn l ls) (loops_are k there) (loop_in_face N l has) in
         let old = own k there l inside in
         ap is_lone (content_now k there l inside) ∙ lone_still (map (seams.swap w n)) (content M l)
         ∙ closed l old.0 (ap (λ q. now_of (solid_of M q)) old.1 ∙ sym (solid_now k there) ∙ of);
@@ -94,25 +93,10 @@ module _ (M : Model) (f g : ℕ) (sound : Sound M) (accepted : glue_refusal M f 
       ((l : ℕ) → Has M.loops l → cond (nat_eq (solid_of M (face_of M l)) t) s (solid_of M (face_of M l)) ≡ u → is_lone (content M l) ≡ false) → IsClosedFlat (glue_model M f g) u
   still = closed_still (seamed M f g sound accepted) (glued M f g) (glued_sound M f g sound accepted)
 
-  -- no loop of the two solids is lone
-  abbrev fs : List ℕ
-  fs = faces_of_both M s t
-
-  listed : (k : ℕ) → Has M.faces k → (solid_of M k ≡ s) ⊎ (solid_of M k ≡ t) → lists fs k ≡ true
-  listed k there of = listed_as (λ _ row. nat_eq row.solid s || nat_eq row.solid t) M.faces k _ (face_there M k there) ∙ either (solid_of M k) of where
-    either : (a : ℕ) → (a ≡ s) ⊎ (a ≡ t) → (nat_eq a s || nat_eq a t) ≡ true
-    either a (inl e) = ap (λ b. b || nat_eq a t) (eq-eqb a s e)
-    either a (inr e) = ap (λ b. nat_eq a s || b) (eq-eqb a t e) ∙ or_true (nat_eq a s)
-
-  held_loop : (l : ℕ) → Has M.loops l → (solid_of M (face_of M l) ≡ s) ⊎ (solid_of M (face_of M l) ≡ t) → is_lone (content M l) ≡ false
-  held_loop l has of = first_fails (is_lone (content M l)) (lists fs (face_of M l))
-      (zero_first_where (λ _ row. is_lone row.content && lists fs row.face) M.loops (loop_number M sound) (facts.glue_goes M f g accepted).none_lone l _ (loop_row M l has))
-      (listed (face_of M l) (sound.loops_of_faces l has) of)
-
   glued_flat : IsClosedFlat (glue_model M f g) s
   glued_flat = still s
       (λ k there of. facts.flat M f g sound accepted k there (was_either (solid_of M k) s t of))
-      (λ l has of. held_loop l has (was_either (solid_of M (face_of M l)) s t of))
+      (λ l has of. facts.not_lone M f g sound accepted l has (was_either (solid_of M (face_of M l)) s t of))
 
   other_flat : (u : ℕ) → u ≢ s → IsClosedFlat M u → IsClosedFlat (glue_model M f g) u
   other_flat u ne before = still u

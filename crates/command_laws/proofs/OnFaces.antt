@@ -1,5 +1,5 @@
 -- Half-edges and vertices on the loops of faces.
-use Rattle.command_laws.proofs.Prelude.{◌≡◌, ℕ, ◌∷◌, refl, ap, ◌∙◌, subst, ◌⊎◌, inl, inr, arith, IsIn, Model, lone, items_of, tail, content, face_of, outer, rings_of, Sound, Has, lists, from_map, item_there, IsIn-from_listed, first_listed, outer_or_ring, rest_listed, loops_of, vertices_on, ring_listed, HasHalf, mate, after, face_at, loop_of, corners, cycle_there, loop_there, loop_after, half_after, tail_in_face}
+use Rattle.command_laws.proofs.Prelude.{◌≡◌, ℕ, subst, ◌⊎◌, inl, inr, arith, IsIn, Model, lone, items_of, tail, content, Sound, Has, from_map, item_there, vertices_on, HasHalf, mate, after, face_at, loop_of, corners, cycle_there, loop_there, loop_after, half_after, tail_in_face}
 
 -- a vertex on a loop is that of the lone loop, or some item starts there
 pub vertex_cases : (M : Model) (l v : ℕ) → IsIn v (vertices_on M (content M l)) → (content M l ≡ lone v) ⊎ ((h : ℕ) × IsIn h (items_of (content M l)) × (tail M h ≡ v))
@@ -11,14 +11,6 @@ module _ (M : Model) (sound : Sound M) where
     | inl e ↦ sound.lone_at_vertex l v e
     | inr p ↦ subst (Has M.vertices) p.2 (sound.tails_there p.0 (item_there M sound l p.0 p.1))
   ]
-
-  -- a loop is one of the loops of its face
-  pub loop_in_face : (l : ℕ) → Has M.loops l → IsIn l (loops_of M (face_of M l))
-  unfolding loops_of
-  loop_in_face l has = let k = face_of M l in IsIn-from_listed l (outer M k ∷ rings_of M k) (elim (outer_or_ring M k l has refl) [
-    | inl o ↦ ap (λ q. lists (q ∷ rings_of M k) l) o ∙ first_listed l (rings_of M k)
-    | inr r ↦ rest_listed (outer M k) l (rings_of M k) (ring_listed M sound k l r)
-  ])
 
 -- the ends of a half-edge are corners of its face
 module _ (M : Model) (sound : Sound M) (h : ℕ) (half : HasHalf M h) where

@@ -9,18 +9,18 @@ pub use Rattle.command_laws.specs.RingedFaces.{IsFarFace, RingedFaceIsFar, loop_
 pub use Rattle.command_laws.specs.SplitEdges.{EndsOn, LeadsAlong, LeadsAlongSolid, SplitsMakeNoLines}
 pub use Rattle.command_laws.specs.Splits.{HasNewFace, IsCap, IsOfEither, IsPiece, LiesInPlaneOf, SplitKeepsBelow, SplitKeepsEdges, SplitKeepsLoops, SplitKeepsOwners, SplitKeepsPlanes, SplitKeepsPoints, SplitKeepsRows, SplitKeepsShapes, SplitPartsFaces, SplitSharesFaces, StraddlingGoAbove, StraddlingStayBelow}
 pub use Rattle.command_laws.specs.TakenOver.{AreTurned, IsTakenOver}
-pub use Rattle.euler_laws.proofs.Common.{IsIn-from_listed, IsLoop, JoinGoes, KemrGoes, LoopMoves, MakeGoes, MefGoes, all_hold, all_where-rises, all_where_has, back_of, content-new, edge_there, effect_keeps_sound, face_kept, face_moved, face_same, face_there, first_listed, first_passes, half_after, half_face, halves_of_edge, inverse_goes, inverse_undoes, join_goes, kemr_goes, kfmrh_goes, listed-from_in, listed_as, listed_front, listed_passes, loop_after, loop_row, loop_sound, mapped_some, mef_goes, mfkrh_goes, no_rings_means, none_refuses, one_solid_round, outer_or_ring, passes_listed, rest_listed, row_second, same_tail, solid_either, walks_same, ◌also◌, none_in}
-pub use Rattle.euler_operators.proofs.Common.{IsIn-filter, IsIn-get_or, IsIn-map, IsIn_head, IsIn_or_not, IsIn_rest, Linked, canonical-rotates, code-half, content_row, count-append, count-canonical, count-filter, cycle_there, dif-parts, difs, dot_moved, dot_turned, edge_of-mate, face_row, filter_passes, first_fails, from_map, get-put_here, get-put_other, get-remove_here, get-remove_other, holds_in, in-holds, in_use_within, item_loop, item_there, less_still, lone_there, loop_number, loop_there, mate-mate, mate_minus, mate_plus, mate_there, minus_row, minus_tail_row, minus_there, moved_at, moved_twice, no_row, none_moved, number, number_real, or_true, outer_row, plus_row, plus_tail_row, plus_there, row_elsewhere, row_some, same_content, same_dif, same_edge, same_face, same_outer, same_solid, same_sum, same_vector, solid_row, split_at, sum_first, sum_to, tick_other, tick_same, zero_first_where}
+pub use Rattle.euler_laws.proofs.Common.{IsIn-from_listed, IsLoop, JoinGoes, KemrGoes, LoopMoves, MakeGoes, MefGoes, all_hold, all_where-rises, all_where_has, back_of, content-new, edge_there, effect_keeps_sound, face_kept, face_moved, face_same, face_there, first_passes, half_after, half_face, halves_of_edge, inverse_goes, inverse_undoes, join_goes, kemr_goes, kfmrh_goes, listed-from_in, listed_front, listed_passes, loop_after, loop_row, loop_sound, mapped_some, mef_goes, mfkrh_goes, no_rings_means, none_refuses, one_solid_round, passes_listed, row_second, same_tail, solid_either, walks_same, ◌also◌, none_in}
+pub use Rattle.euler_operators.proofs.Common.{IsIn-filter, IsIn-get_or, IsIn-map, IsIn_head, IsIn_or_not, IsIn_rest, Linked, canonical-rotates, code-half, content_row, count-append, count-canonical, count-filter, cycle_there, dif-parts, difs, dot_moved, dot_turned, edge_of-mate, face_row, filter_passes, from_map, get-put_here, get-put_other, get-remove_here, get-remove_other, holds_in, in-holds, in_use_within, item_loop, item_there, less_still, lone_there, loop_there, mate-mate, mate_minus, mate_plus, mate_there, minus_row, minus_tail_row, minus_there, moved_at, moved_twice, no_row, none_moved, number, number_real, outer_row, plus_row, plus_tail_row, plus_there, row_elsewhere, row_some, same_content, same_dif, same_edge, same_face, same_outer, same_solid, same_sum, same_vector, solid_row, split_at, sum_first, sum_to, tick_other, tick_same}
 pub use Rattle.euler_operators.specs.Common.{Corner, FaceRow, HalfEdge, Has, HasHalf, IsCycle, IsIn, IsPath, IsRing, LoopContent, LoopRow, Model, Plane, Point, Sound, Table, after, are_opposite, canonical, code, corner_loop, count, cross, cycle, direction, dot, edge_of, edge_row, face_at, faces_of, faces_to_solid, first_false, get-map_rows, head_or, height, holds, is_above, is_below, is_empty, is_lone, is_on, items_of, lists, lone, loop_of, loop_to_face, mate, minus, moved, no_face, opposite, origin, outer, plus, rings_of, same_point, tables, tick}
 unfoldable pub use Rattle.euler_operators.specs.Common.{content, effect, face_of, has_rings, inverse, kemr, kfmrh, mef, mfkrh, part, point_of, ring_in, solid_of, tail}
 pub use Rattle.euler_operators.specs.declared.Op.TheVariants.{Kemr, Kfmrh, Mef, Mekr, Mfkrh}
 pub use Rattle.gluing.specs.Flat.{IsClosedFlat}
 pub use Rattle.plane_split.specs.SplitModels.{IsSplit}
-pub use Rattle.shapes.proofs.Common.{IsReplaced, anchor_on, are_on, area-append, area_mates, areas_kept, at_most_greatest, content_stays, cross_moved, face_listed, face_of_loop, get-put_cases, greatest-put_last, left_numbers_hold, list_parts, loops_agree, moved_back, no_product, none_replaced, on_one, plane_told, ring_listed, rising_one, same_is, told_anywhere}
+pub use Rattle.shapes.proofs.Common.{IsReplaced, anchor_on, are_on, area-append, area_mates, areas_kept, at_most_greatest, content_stays, cross_moved, face_listed, face_of_loop, get-put_cases, greatest-put_last, left_numbers_hold, list_parts, loops_agree, moved_back, no_product, none_replaced, on_one, plane_told, rising_one, same_is, told_anywhere}
 pub use Rattle.shapes.specs.Common.{Caps, Drawing, FacePairs, Growing, Opening, Taken, all_cut, all_drawn, all_joined, all_opened, all_pairs, anchor, area, base_of, below_halves, block_refusal, both_lists, crossing_edges, drawn_between, drawn_pairs, faces_above, faces_drawn, faces_of_both, finish, first_such, first_vertex, glue_refusal, growing, has_repeats, hole_closed, holes_closed, holes_in, is_plane_of, is_rotation, items_in, lamina_at, lamina_face, lamina_refusal, least_lone, negated, next_cut, next_drawn, next_place, no_caps, numbers_after, opened_along, opened_at, opened_row, opened_tail, outer_caps, outline, plane_through, prism_from, prism_refusal, reaches_above, reaches_below, renamed, rewritten, rewritten_row, ring_free, rings_above, scaled, section_cycles, some_above, split_refusal, start, straddling_faces, straddling_pairs, top_edge, top_items, towards, undrawn, vector, vertices_in, vertices_on, with_path, with_points, with_rings, with_sides}
 unfoldable pub use Rattle.shapes.specs.Common.{block_conditions, block_model, boundary, corners, early_glue_conditions, face_is_above, glue_conditions, glue_model, is_flat, is_hole, lamina_conditions, lamina_model, loops_of, normal, plane_of, prism_model, raised, split_model, straddles, taken_in, with_crossings, with_drawings, with_side}
 pub use Rattle.split_drawing_laws.proofs.crossings.OneCut.{cut_rows, doubled, doubled_none, edge_cut}
-pub use Rattle.split_drawing_laws.proofs.crossings.Premises.{any_passes, edge_facts, face_facts, faces_not_zero, in_solid, tail_in_face}
+pub use Rattle.split_drawing_laws.proofs.crossings.Premises.{any_passes, edge_facts, face_facts, faces_not_zero, in_solid, tail_in_face, loop_in_face}
 pub use Rattle.split_drawing_laws.proofs.crossings.Runs.{AreCut, Going, crossing_now, cut_at, goes_now, going_on, kept_point, kept_start, next_model, same_cut, same_start, uncut_now}
 pub use Rattle.split_drawing_laws.proofs.crossings.Whole.{crossings_keep, crossings_sound, tails_stay}
 pub use Rattle.split_drawing_laws.proofs.cut_volumes.CutWhole.{all_flat, crossings_measured}

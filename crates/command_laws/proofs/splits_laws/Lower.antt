@@ -1,12 +1,13 @@
 -- A face that straddles the plane keeps its number below it: of each pair of places between which it is drawn the second goes down, and the
 -- half-edge that starts there stays in the face.
-use Rattle.command_laws.proofs.Prelude.{◌≡◌, ◌≢◌, ℕ, ◌+◌, Bool, true, false, ◌&&◌, ◌||◌, nat_eq, nat_lt, None, List, [], ◌∷◌, ◌++◌, length, fold, map, refl, sym, ap, subst, ◌∙◌, true≢false, inl, inr, arith, eqb_tells, nat_tests, IsIn, Plane, count, are_opposite, is_above, is_below, is_on, mate, Model, after, content, face_of, has_rings, items_of, loop_of, outer, point_of, tail, Sound, Has, HasHalf, face_at, cycle_there, loop_there, mate_there, same_outer, tick_other, tick_same, back_of, half_after, loop_after, Drawing, FacePairs, all_drawn, all_joined, all_pairs, corners, drawn_between, drawn_pairs, finish, next_drawn, reaches_above, reaches_below, ring_free, rings_above, some_above, split_refusal, start, straddling_faces, straddling_pairs, undrawn, vertices_on, with_crossings, with_drawings, with_rings, CanBegin, AllFit, FacesFit, Fits, pairs_in, Drawable, Ready, side_of, ends, any_passes, face_facts, faces_not_zero, tail_in_face, crossings_keep, crossings_sound, faces_are, CanDraw, face_drawn, begun_joining, can_alone, drawn_is, fitting_on, going, joins, last, newer_face, can_now, draws_keep, joins_keep, face_else, place_is, ring_goes, ring_stays, rings_apart, rings_are, rings_keep, draw_beside, draw_stays, start_stays, drawable, drawable_on, next_is, ready, pairs_of, sided_first, k_stays, old_loop_face, outer_kept, AllUp, pairs_up, place_of_end, place_on, side_within, on_both, can_be_drawn, begins, drawn_sound, drawn_stays, never_stuck}
+use Rattle.command_laws.proofs.Prelude.{◌≡◌, ◌≢◌, ℕ, ◌+◌, Bool, true, false, ◌&&◌, ◌||◌, nat_eq, nat_lt, None, List, [], ◌∷◌, ◌++◌, length, fold, map, refl, sym, ap, subst, ◌∙◌, inl, inr, arith, eqb_tells, nat_tests, IsIn, Plane, count, are_opposite, is_above, is_below, is_on, mate, Model, after, content, face_of, has_rings, items_of, loop_of, outer, point_of, tail, Sound, Has, HasHalf, face_at, cycle_there, loop_there, mate_there, same_outer, tick_other, tick_same, back_of, half_after, loop_after, Drawing, FacePairs, all_drawn, all_joined, all_pairs, corners, drawn_between, drawn_pairs, finish, next_drawn, reaches_above, reaches_below, ring_free, rings_above, some_above, split_refusal, start, straddling_faces, straddling_pairs, undrawn, vertices_on, with_crossings, with_drawings, with_rings, CanBegin, AllFit, FacesFit, Fits, pairs_in, Drawable, Ready, side_of, ends, any_passes, face_facts, faces_not_zero, tail_in_face, crossings_keep, crossings_sound, faces_are, CanDraw, face_drawn, begun_joining, can_alone, drawn_is, fitting_on, going, joins, last, newer_face, can_now, draws_keep, joins_keep, face_else, place_is, ring_goes, ring_stays, rings_apart, rings_are, rings_keep, draw_beside, draw_stays, start_stays, drawable, drawable_on, next_is, ready, pairs_of, sided_first, k_stays, old_loop_face, outer_kept, AllUp, pairs_up, place_of_end, place_on, side_within, on_both, can_be_drawn, begins, drawn_sound, drawn_stays, never_stuck}
 use Rattle.euler_laws.proofs.faces.RingIn as moving
 use Rattle.split_drawing_laws.proofs.drawings.Faces.{going_on}
 use Rattle.split_drawing_laws.proofs.face_sides.OneFace.{AllPairsOf, Stage, Untouched, loop_back, stage_on}
 use Rattle.split_drawing_laws.proofs.half_sides.Starts.{turn_at}
 use Rattle.split_drawing_laws.proofs.loop_sides.SidesWhole.{not_stuck}
 use Rattle.command_laws.proofs.splits_laws.DrawnFaces.{drawn_one}
+use Rattle.std.proofs.lemmas.Bool.{or_parts}
 
 -- the second half-edge of each pair is low
 abbrev AllLow : (ℕ → Type 0) → List (ℕ × ℕ) → Type 0
@@ -168,10 +169,6 @@ module _ (Low : ℕ → Type 0) (B : Model) (side : ℕ → Bool) (s : ℕ) (all
 pub other_side : (a b c d : Bool) → ((a && b) || (c && d)) ≡ true → d ≡ false → b ≡ true
 other_side a b c d e f = grind arith
 
-second_false : (a b : Bool) → (a || b) ≡ false → b ≡ false
-second_false true b e = absurd (true≢false e)
-second_false false b e = e
-
 module _ (M : Model) (s : ℕ) (p : Plane) (t : ℕ) (sound : Sound M) (accepted : split_refusal M s p t ≡ None) where
   abbrev C : Model
   C = (with_crossings M s p).model
@@ -200,7 +197,7 @@ module _ (M : Model) (s : ℕ) (p : Plane) (t : ℕ) (sound : Sound M) (accepted
         let b = back_of C C_sound y there in
         let inside : IsIn (face_at C y) fs = subst (λ z. IsIn z fs) (sym at) i in
         let turn = turn_at M s p t sound begun b.0 b.1 (ap (λ z. is_on p (start C z)) b.2 ∙ on) (subst (λ z. IsIn (face_at C z) fs) (sym b.2) inside) in
-        let level : is_above p (finish C y) ≡ false = second_false (is_above p (start C y)) (is_above p (finish C y)) (sym (side_within M s p t sound begun y inside) ∙ down) in
+        let level : is_above p (finish C y) ≡ false = (or_parts (is_above p (start C y)) (is_above p (finish C y)) (sym (side_within M s p t sound begun y inside) ∙ down)).1 in
         other_side (is_above p (start C b.0)) (is_below p (finish C y)) (is_below p (start C b.0)) (is_above p (finish C y)) (ap (λ z. are_opposite p (start C b.0) (finish C z)) (sym b.2) ∙ turn.across) level
 
     pairs_low : (qs : List (ℕ × ℕ)) → AllUp side qs → AllFit C f qs → ((y : ℕ) → IsIn y (ends qs) → IsIn y (ends (drawn_pairs M C p f))) → AllLow Low qs
