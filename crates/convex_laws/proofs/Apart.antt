@@ -1,5 +1,5 @@
 -- The faces of the parts of a split: each part lies on its side of the plane.
-use Rattle.convex_laws.proofs.Prelude.{list_all, list_any, ◌≡◌, ◌⊎◌, ℕ, suc, ◌<◌, Bool, true, false, cond, not, ◌&&◌, ◌||◌, List, [], ◌∷◌, length, get_or, refl, sym, ap, subst, ◌∙◌, arith, true≢false, inl, inr, int_lt, pos, and_parts, Plane, Point, direction, dot, is_above, is_below, is_on, Model, point_of, solid_of, Sound, Has, IsIn, lists, listed-from_in, listed_cases, corners, straddles, face_is_above, normal, reaches_above, reaches_below, Caps, no_caps, face_listed, none_straddles, on_both, cap_faces, drawn_sound, never_stuck, Machine, held, IsSplit, IsCapOf, cap, caps_of, SplitPartsLieApart, IsOfEither, IsTurned, turned_pass, caps_stand, holes_are_closed, stages}
+use Rattle.convex_laws.proofs.Prelude.{list_all, list_any, ◌≡◌, ◌⊎◌, ℕ, suc, ◌<◌, Bool, true, false, cond, not, ◌&&◌, ◌||◌, List, [], ◌∷◌, length, get_or, refl, sym, ap, subst, ◌∙◌, arith, true≢false, inl, inr, int_lt, pos, and_parts, Plane, Point, direction, dot, is_above, is_below, is_on, Model, point_of, solid_of, Sound, Has, IsIn, lists, listed-from_in, listed_cases, corners, straddles, face_is_above, normal, reaches_above, reaches_below, Caps, no_caps, face_listed, none_straddles, on_both, cap_faces, drawn_sound, never_stuck, Machine, held, IsSplit, IsCapOf, cap, caps_of, SplitPartsLieApart, IsOfEither, IsTurned, turned_pass, caps_stand, holes_are_closed, stages, or_parts, not-true}
 use Rattle.euler_operators.specs.Table as table
 use Rattle.split_laws.proofs.drawn.Drawn.{begins}
 use Rattle.command_laws.proofs.splits_laws.PartFaces.{part_of, part_turned}
@@ -22,14 +22,6 @@ listed_passes f (w ∷ vs) v all i = let a = and_parts (f w) (list_all f vs) all
   | inr j ↦ listed_passes f vs v a.1 j
 ]
 
-pub not_back : (b : Bool) → not b ≡ true → b ≡ false
-not_back false e = refl
-not_back true e = absurd (true≢false (sym e))
-
-pub first_none : (a b : Bool) → (a || b) ≡ false → a ≡ false
-first_none true b e = absurd (true≢false e)
-first_none false b e = refl
-
 pub not_both : (a b c : Bool) → (a || (not b && c)) ≡ true → (a && b) ≡ false → b ≡ false
 not_both true b c e f = f
 not_both false false c e f = refl
@@ -37,7 +29,7 @@ not_both false true c e f = absurd (true≢false (sym e))
 
 -- what no corner of a face fulfils, none does where its loops are turned
 turned_none : (D N : Model) (k : ℕ) (test : Point → Bool) → IsTurned D N k → list_any (λ v. test (point_of D v)) (corners D k) ≡ false → (v : ℕ) → lists (corners N k) v ≡ true → test (point_of N v) ≡ false
-turned_none D N k test w none v i = not_back (test (point_of N v)) (listed_passes (λ x. not (test (point_of N x))) (corners N k) v (turned_pass D N k (λ x. not (test x)) w (all_fail (λ x. test (point_of D x)) (corners D k) none)) i)
+turned_none D N k test w none v i = not-true (test (point_of N v)) (listed_passes (λ x. not (test (point_of N x))) (corners N k) v (turned_pass D N k (λ x. not (test x)) w (all_fail (λ x. test (point_of D x)) (corners D k) none)) i)
 
 -- ---- which cap
 
@@ -99,7 +91,7 @@ module _ (before after : Machine) (s : ℕ) (p : Plane) (t : ℕ) (sound : Sound
     drawn_low low = turned_none d.model (held after) k (is_above p) turned (reaches (face_is_above d.model p k) refl) where
       reaches : (b : Bool) → face_is_above d.model p k ≡ b → reaches_above d.model p k ≡ false
       reaches true e = absurd (whole.apart before after s p t sound made (sym low ∙ side ∙ ap (λ b. cond b t s) e))
-      reaches false e = first_none (reaches_above d.model p k) (not (reaches_below d.model p k) && not (int_lt (pos 0) (dot (normal d.model k) (direction p)))) e
+      reaches false e = (or_parts (reaches_above d.model p k) (not (reaches_below d.model p k) && not (int_lt (pos 0) (dot (normal d.model k) (direction p)))) e).0
 
     drawn_high : solid_of (held after) k ≡ t → (v : ℕ) → lists (corners (held after) k) v ≡ true → is_below p (point_of (held after) v) ≡ false
     unfolding face_is_above straddles

@@ -1,6 +1,6 @@
 -- A strictly convex solid once it is drawn: each half-edge of a face lies on the plane of the face from which that comes, and of one beyond, from which
 -- it bends away. That is the plane of another face of the solid, or the one of the split.
-use Rattle.convex_laws.proofs.Prelude.{◌≡◌, ◌≢◌, ℕ, ◌+◌, pos, int_lt, Bool, true, false, not, ◌&&◌, [], neg_ℤ, ℤ, refl, sym, ap, subst, ◌∙◌, arith, and_parts, ints, Plane, Point, IsIn, cross, direction, dot, is_above, is_below, is_on, mate, Model, after, face_at, face_of, point_of, solid_of, tail, Sound, Has, HasHalf, lists, mate-mate, mate_there, IsIn-from_listed, half_face, listed-from_in, loop_after, corners, face_is_above, finish, is_flat, normal, plane_of, reaches_above, reaches_below, start, straddles, straddling_pairs, towards, with_crossings, with_drawings, face_listed, CanBegin, Stays, side_of, crossings_sound, start_stays, drawing_stays, none_straddles, none_passes, can_be_drawn, rewritings_sound, ComesOf, half_comes, spread, IsStrictlyConvex, IsVertexOf, None, never_stuck, starts_in, ends_in, stages, split_refusal}
+use Rattle.convex_laws.proofs.Prelude.{◌≡◌, ◌≢◌, ℕ, ◌+◌, pos, int_lt, Bool, true, false, not, ◌&&◌, [], neg_ℤ, ℤ, refl, sym, ap, subst, ◌∙◌, arith, and_parts, ints, Plane, Point, IsIn, cross, direction, dot, is_above, is_below, is_on, mate, Model, after, face_at, face_of, point_of, solid_of, tail, Sound, Has, HasHalf, lists, mate-mate, mate_there, IsIn-from_listed, half_face, listed-from_in, loop_after, corners, face_is_above, finish, is_flat, normal, plane_of, reaches_above, reaches_below, start, straddles, straddling_pairs, towards, with_crossings, with_drawings, face_listed, CanBegin, Stays, side_of, crossings_sound, start_stays, drawing_stays, none_straddles, none_passes, can_be_drawn, rewritings_sound, ComesOf, half_comes, spread, IsStrictlyConvex, IsVertexOf, None, never_stuck, starts_in, ends_in, stages, split_refusal, or_parts}
 use Rattle.split_drawing_laws.specs.drawings.Laws.{CanBeDrawn}
 use Rattle.split_drawing_laws.proofs.cut_volumes.CutWhole.{crossings_measured}
 use Rattle.split_drawing_laws.proofs.cut_volumes.Told.{solid_stays}
@@ -9,7 +9,7 @@ use Rattle.split_drawing_laws.proofs.drawn_volumes.DrawWhole.{lies_flat}
 use Rattle.split_laws.specs.drawn.Kept.{KeepsSolids}
 use Rattle.split_laws.proofs.drawn.Solids.{drawing_keeps}
 use Rattle.command_laws.specs.SplitEdges.{LeadsAlong}
-use Rattle.convex_laws.proofs.Apart.{first_none, listed_passes, not_both}
+use Rattle.convex_laws.proofs.Apart.{listed_passes, not_both}
 use Rattle.convex_laws.proofs.Links.{AreLinked, IsEnd, drawings_linked}
 use Rattle.convex_laws.proofs.Planes.{IsBent, above_facing, facing, on_line, turns_too}
 use Rattle.convex_laws.proofs.Volumes.{depth, height_is, under}
@@ -135,7 +135,7 @@ module _ (M : Model) (s : ℕ) (p : Plane) (t : ℕ) (sound : Sound M) (begun : 
   -- no corner of a face lies beyond the plane
   pub corner_low : (b : Bool) (k : ℕ) → Has D.faces k → solid_of D k ≡ s → face_is_above D p k ≡ b → (v : ℕ) → IsIn v (corners D k) → is_above (facing b p) (point_of D v) ≡ false
   unfolding face_is_above straddles
-  corner_low false k has of e v i = none_passes (λ x. is_above p (point_of D x)) v (corners D k) (first_none (reaches_above D p k) (not (reaches_below D p k) && not (int_lt (pos 0) (dot (normal D k) (direction p)))) e) i
+  corner_low false k has of e v i = none_passes (λ x. is_above p (point_of D x)) v (corners D k) ((or_parts (reaches_above D p k) (not (reaches_below D p k) && not (int_lt (pos 0) (dot (normal D k) (direction p)))) e).0) i
   corner_low true k has of e v i = above_facing true p (point_of D v) ∙ none_passes (λ x. is_below p (point_of D x)) v (corners D k) (not_both (reaches_above D p k) (reaches_below D p k) (not (int_lt (pos 0) (dot (normal D k) (direction p)))) e (one_side k has of)) i
 
   -- ---- a half-edge that was there

@@ -1,6 +1,5 @@
 -- The plane cuts each loop of a face of a strictly convex solid that straddles it.
-use Rattle.convex_laws.proofs.Prelude.{list_all, list_any, int_eq, ◌≡◌, ◌≢◌, ℕ, ℤ, pos, ◌+ℤ◌, ◌-ℤ◌, ◌*ℤ◌, neg_ℤ, int_lt, Bool, true, false, not, ◌&&◌, ◌||◌, List, [], ◌∷◌, None, refl, sym, ap, subst, ◌∙◌, arith, true≢false, inl, inr, false_from_ne_true, eqb_tells, ints, Plane, Point, IsIn, are_opposite, cross, direction, dot, height, is_above, is_below, is_on, opposite, Model, content, face_at, face_of, faces_of, items_of, outer, point_of, rings_of, solid_of, tail, Sound, Has, HasHalf, IsIn_head, IsIn_rest, dot_turned, in-holds, tick_other, listed-from_in, corners, crosses, finish, is_cut_often, is_place, least_lone, loop_is_cut, loops_of, plane_of, start, straddles, towards, IsClosed, IsPathTo, begins, face_of_loop, loop_closed, none_passes, IsStrictlyConvex}
-use Rattle.convex_laws.proofs.Apart.{first_none}
+use Rattle.convex_laws.proofs.Prelude.{list_all, list_any, int_eq, ◌≡◌, ◌≢◌, ℕ, ℤ, pos, ◌+ℤ◌, ◌-ℤ◌, ◌*ℤ◌, neg_ℤ, int_lt, Bool, true, false, not, ◌&&◌, ◌||◌, List, [], ◌∷◌, None, refl, sym, ap, subst, ◌∙◌, arith, true≢false, inl, inr, false_from_ne_true, eqb_tells, ints, Plane, Point, IsIn, are_opposite, cross, direction, dot, height, is_above, is_below, is_on, opposite, Model, content, face_at, face_of, faces_of, items_of, outer, point_of, rings_of, solid_of, tail, Sound, Has, IsIn_head, IsIn_rest, dot_turned, in-holds, tick_other, listed-from_in, corners, crosses, finish, is_cut_often, is_place, least_lone, loop_is_cut, loops_of, plane_of, start, straddles, towards, IsClosed, IsPathTo, begins, face_of_loop, loop_closed, none_passes, IsStrictlyConvex, or_parts}
 use Rattle.convex_laws.proofs.Filled.{has_items}
 use Rattle.convex_laws.proofs.Levels.{IsLow, low_sum, product_back, step_told}
 use Rattle.convex_laws.proofs.Planar.{down_and_low, first_strict, low_and_down, not_up, second_strict, seen_turn, stays_left, told_step}
@@ -8,6 +7,7 @@ use Rattle.convex_laws.proofs.Planes.{above_facing, facing, level_step}
 use Rattle.convex_laws.proofs.Rounded.{Order, closed_never_strict}
 use Rattle.convex_laws.proofs.Touched.{far_corner, is_cut_there, left, left_strictly, looks, on_plane, starts_here}
 use Rattle.convex_laws.proofs.Turns.{IsHigh, either_sign, exchanged_product, high_factor, low_factor, nothing, turn, turn_back, turn_second}
+use Rattle.euler_operators.proofs.Common.{item_there}
 
 -- ---- seen from a point below, the points above stand in an order: from the right to the left
 
@@ -139,9 +139,6 @@ module _ (M : Model) (s : ℕ) (sound : Sound M) (convex : IsStrictlyConvex M s)
   abbrev n : Plane
   n = plane_of M f
 
-  half : (h : ℕ) → IsIn h (items_of (content M l)) → HasHalf M h
-  half h i = sound.only_edges h l (in-holds h (content M l) i)
-
   at : (h : ℕ) → IsIn h (items_of (content M l)) → face_at M h ≡ f
   at h i = ap (face_of M) (sound.one_loop h l (in-holds h (content M l) i)) ∙ (face_of_loop M sound f l has (listed-from_in l (loops_of M f) listed)).1
 
@@ -160,7 +157,7 @@ module _ (M : Model) (s : ℕ) (sound : Sound M) (convex : IsStrictlyConvex M s)
     Seen x = turn (direction n) (towards (start M x) (finish M x)) (towards (start M x) q)
 
     seen_left : (x : ℕ) → IsIn x hs → IsLow (Seen x)
-    seen_left x j = left M s sound convex f has of x (half x j) (at x j) low.0 low.1
+    seen_left x j = left M s sound convex f has of x (item_there M sound l x j) (at x j) low.0 low.1
 
     seen : (x : ℕ) → Seen x ≡ turn (direction n) (towards q (start M x)) (towards q (finish M x))
     seen x = sym (seen_turn (direction n) q (start M x) (finish M x))
@@ -168,8 +165,8 @@ module _ (M : Model) (s : ℕ) (sound : Sound M) (convex : IsStrictlyConvex M s)
     never_strict : (x : ℕ) → IsIn x hs → IsHigh (neg_ℤ (Seen x)) → ⊥
     never_strict x j more = closed_never_strict M (λ a. (is_on n a ≡ true) × (is_above (facing b p) a ≡ true))
         (λ a c. IsLow (turn (direction n) (towards q a) (towards q c))) (λ a c. IsHigh (neg_ℤ (turn (direction n) (towards q a) (towards q c))))
-        (leftwards n (facing b p) q q_on low.2 (looks M s sound convex f has of h (half h i) (at h i))) hs (loop_closed M sound l)
-        (λ y k. ((on_plane M s sound convex f has of (tail M y) (starts_here M s sound convex f has of y (half y k) (at y k)), above y k), subst IsLow (seen y) (seen_left y k)))
+        (leftwards n (facing b p) q q_on low.2 (looks M s sound convex f has of h (item_there M sound l h i) (at h i))) hs (loop_closed M sound l)
+        (λ y k. ((on_plane M s sound convex f has of (tail M y) (starts_here M s sound convex f has of y (item_there M sound l y k) (at y k)), above y k), subst IsLow (seen y) (seen_left y k)))
         x j (subst (λ z. IsHigh (neg_ℤ z)) (seen x) more)
 
     -- so all its half-edges lie on lines through the corner on the other side
@@ -181,7 +178,7 @@ module _ (M : Model) (s : ℕ) (sound : Sound M) (convex : IsStrictlyConvex M s)
 
     -- and lead down along a vector, at one of them strictly
     y : (v : ℕ) × IsIn v (corners M f) × IsHigh (neg_ℤ (turn (direction (plane_of M f)) (towards (start M h) (finish M h)) (towards (start M h) (point_of M v))))
-    y = left_strictly M s sound convex f has of h (half h i) (at h i)
+    y = left_strictly M s sound convex f has of h (item_there M sound l h i) (at h i)
 
     abbrev k : Point
     k = cross (direction n) (towards q (point_of M y.0))
@@ -196,15 +193,15 @@ module _ (M : Model) (s : ℕ) (sound : Sound M) (convex : IsStrictlyConvex M s)
 
     never_one_side : ⊥
     never_one_side = closed_never_strict M (λ a. Unit {0}) (λ a c. IsLow (dot k c -ℤ dot k a)) (λ a c. IsHigh (neg_ℤ (dot k c -ℤ dot k a))) (downwards k) hs (loop_closed M sound l)
-        (λ x j. (tt, subst IsLow (sym (step x j)) (left M s sound convex f has of x (half x j) (at x j) y.0 y.1))) h i (subst (λ z. IsHigh (neg_ℤ z)) (sym (step h i)) y.2)
+        (λ x j. (tt, subst IsLow (sym (step x j)) (left M s sound convex f has of x (item_there M sound l x j) (at x j) y.0 y.1))) h i (subst (λ z. IsHigh (neg_ℤ z)) (sym (step h i)) y.2)
 
   -- so it has a cut place
   uncut : list_any (is_place M p) (items_of (content M l)) ≡ false → Uncut M p (items_of (content M l))
   unfolding is_place
   uncut none h i =
       let no : is_place M p h ≡ false = none_passes (is_place M p) h hs none i in (
-        false_from_ne_true (is_on p (start M h)) (λ e. true≢false (sym (is_cut_there M s sound convex f has of p straddling h (half h i) (at h i) e) ∙ no)),
-        first_none (crosses M p h) _ no,
+        false_from_ne_true (is_on p (start M h)) (λ e. true≢false (sym (is_cut_there M s sound convex f has of p straddling h (item_there M sound l h i) (at h i) e) ∙ no)),
+        (or_parts (crosses M p h) _ no).0,
       )
 
   pub loop_cut : items_of (content M l) ≢ [] → loop_is_cut M p l ≡ true

@@ -63,7 +63,7 @@ module _ (M N : Model) (u : ℕ) (w : IsLeft M N u) where
     same_loops = λ i. shape.2.outer i ∷ shape.2.rings i
 
     was_there : Has M.loops loop × (face_of M loop ≡ face_at N h)
-    was_there = face_of_loop M w.before (face_at N h) loop shape.0 (listed-from_in loop (loops_of M (face_at N h)) (subst (λ ls. IsIn loop ls) same_loops (loop_in_face N w.after loop there)))
+    was_there = face_of_loop M w.before (face_at N h) loop shape.0 (listed-from_in loop (loops_of M (face_at N h)) (subst (λ ls. IsIn loop ls) same_loops (loop_in_face N loop there)))
 
     row : table.get N.loops loop ≡ table.get M.loops loop
     row = w.loops loop was_there.0 (ap (solid_of M) was_there.1 ∙ shape.1)

@@ -1,7 +1,7 @@
 -- What the proofs here take from elsewhere, passed on from one place. Declares nothing.
 pub use Rattle.command_laws.proofs.BlockFaces.{block_has_four_sides, block_has_top_and_bottom, block_takes_six_faces}
 pub use Rattle.command_laws.proofs.BlockFlat.{IsOneOf, base_corners, blocks_lie_flat, no_older, of_block, one_of, sound_after}
-pub use Rattle.command_laws.proofs.OnFaces.{loop_in_face, vertex_there, starts_in, ends_in}
+pub use Rattle.command_laws.proofs.OnFaces.{vertex_there, starts_in, ends_in}
 pub use Rattle.command_laws.proofs.Owners.{Agree, OnSolid, agree_on, half_is_on, has_owner, is_either, is_of, not_either, owner_is, solid_of_vertex, vertex_kept, is_it}
 pub use Rattle.command_laws.proofs.Turned.{IsTurned, turned_lies, turned_pass}
 pub use Rattle.command_laws.proofs.caps_laws.Whole.{caps_have_normals, caps_stand, holes_are_closed}
@@ -22,8 +22,8 @@ pub use Rattle.shapes.proofs.measures.Products.{cross_across, dot_towards}
 pub use Rattle.shapes.proofs.split.Facts.{split_begins}
 pub use Rattle.shapes.specs.Common.{Caps, Drawing, FacePairs, Growing, Opening, Taken, all_cut, all_opened, all_pairs, anchor, area, base_of, below_halves, both_lists, crosses, crossing_edges, drawn_pairs, faces_above, finish, first_such, growing, has_stray_hole, hole_closed, holes_in, items_in, later_conditions, least_branched, least_lone, loop_is_cut, negated, next_cut, next_drawn, next_place, no_caps, numbers_after, opened_along, outer_caps, plane_through, reaches_above, reaches_below, scaled, section_cycles, section_ends, split_refusal, start, straddling_faces, straddling_pairs, towards, undrawn, vector, volume_in}
 unfoldable pub use Rattle.shapes.specs.Common.{block_conditions, boundary, corners, early_split_conditions, face_is_above, first_conditions, is_cut_often, is_flat, is_hole, is_place, is_touched, loops_of, normal, plane_of, section_conditions, six_volume, split_conditions, straddles, with_crossings, with_drawings}
-pub use Rattle.split_drawing_laws.proofs.crossings.Premises.{edge_facts, face_facts, in_solid, item_in_face, solid_facts}
-pub use Rattle.split_drawing_laws.proofs.crossings.Whole.{crossings_keep, crossings_sound, tails_stay}
+pub use Rattle.split_drawing_laws.proofs.crossings.Premises.{edge_facts, face_facts, in_solid, item_in_face, solid_facts, loop_in_face}
+pub use Rattle.split_drawing_laws.proofs.crossings.Whole.{crossings_keep, crossings_sound}
 pub use Rattle.split_drawing_laws.proofs.drawings.Stays.{draw_stays, draw_tails, join_stays, join_tails, start_stays, stays_on}
 pub use Rattle.split_drawing_laws.proofs.drawings.Whole.{drawable, drawable_on, drawing_stays}
 pub use Rattle.split_drawing_laws.proofs.face_sides.Begun.{TailIn, none_lone, none_straddles, tail_in}
@@ -46,7 +46,7 @@ pub use Rattle.split_opening_laws.specs.cycles.SectionCycles.{AreOf, AreSectionC
 pub use Rattle.split_opening_laws.specs.sections.Capped.{cap_faces}
 pub use Rattle.split_opening_laws.specs.sections.InTurn.{CanBeOpenedInTurn, halves_in, upper_faces}
 pub use Rattle.std.proofs.Common.{All, Bool, List, None, Option, Some, [], ap, arith, cond, drop, eq-eqb, false, filter, fold, get_or, inl, inr, int_le, int_lt, is_some, length, map, nat_eq, nat_lt, neg_ℤ, negsuc, not, pos, refl, subst, suc, sym, true, true≢false, unsigned_abs, unwrap_or, zero, ℕ, ℤ, ◌&&◌, ◌*ℤ◌, ◌*◌, ◌++◌, ◌+ℤ◌, ◌+◌, ◌-ℤ◌, ◌<◌, ◌||◌, ◌∙◌, ◌∷◌, ◌≡◌, ◌≢◌, ◌≤◌, ◌⊎◌}
-pub use Rattle.std.proofs.lemmas.Bool.{and_parts, cases_eq, cases_lt, false_from_ne_true, false≢true}
+pub use Rattle.std.proofs.lemmas.Bool.{and_parts, cases_eq, cases_lt, false_from_ne_true, false≢true, or_parts, not-true}
 pub use Rattle.std.proofs.lemmas.Bool.Decides.{eqb_tells, nat_tests}
 pub use Rattle.std.proofs.lemmas.Int.{ints}
 pub use Rattle.std.proofs.lemmas.List.{length-map, map-append}

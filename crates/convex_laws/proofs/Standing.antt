@@ -1,19 +1,16 @@
 -- A face that the plane doesn't straddle keeps its corners while the other faces are drawn.
-use Rattle.convex_laws.proofs.Prelude.{◌≡◌, ℕ, false, unwrap_or, sym, ap, subst, ◌∙◌, inl, inr, Plane, IsIn, edge_of, no_point, Model, face_at, point_of, solid_of, tail, Sound, Has, HasHalf, halves_of_edge, corners, straddles, straddling_pairs, with_crossings, with_drawings, split_begins, CanBegin, Stays, crossings_keep, tails_stay, drawing_stays, old_face, can_be_drawn, rewritings_sound, starts_in, stages}
+use Rattle.convex_laws.proofs.Prelude.{◌≡◌, ℕ, false, unwrap_or, ap, subst, ◌∙◌, Plane, IsIn, no_point, Model, face_at, point_of, solid_of, tail, Sound, Has, HasHalf, corners, straddles, straddling_pairs, with_crossings, with_drawings, split_begins, CanBegin, Stays, crossings_keep, drawing_stays, old_face, can_be_drawn, rewritings_sound, starts_in, stages, same_tail}
 use Rattle.euler_operators.specs.Table as table
 use Rattle.command_laws.proofs.splits_laws.Uncut.{uncut}
 use Rattle.convex_laws.proofs.Filled.{corner_half}
 use Rattle.convex_laws.proofs.Together.{whole_stays}
+use Rattle.command_laws.proofs.splits_laws.DrawnWithin.{uncut_edge}
 
 module _ (M : Model) (s : ℕ) (p : Plane) (t : ℕ) (sound : Sound M) (begun : CanBegin M s p t) (f : ℕ) (has : Has M.faces f) (of : solid_of M f ≡ s) (whole : straddles M p f ≡ false) where
   open stages M s p t use {cut as C, drawn as D}
 
-  module _ (h : ℕ) (half : HasHalf M h) (at : face_at M h ≡ f) where
-    still_starts : tail C h ≡ tail M h
-    still_starts = let w = tails_stay M s p t sound begun (edge_of h) half in elim (halves_of_edge h) [
-      | inl a ↦ subst (λ x. tail C x ≡ tail M x) (sym a.0) (w.1 (uncut M s p sound f whole h half at))
-      | inr a ↦ subst (λ x. tail C x ≡ tail M x) (sym a.0) w.0
-    ]
+  still_starts : (h : ℕ) → HasHalf M h → face_at M h ≡ f → tail C h ≡ tail M h
+  still_starts h half at = same_tail M C h (uncut_edge M s p t sound begun h half (uncut M s p sound f whole h half at))
 
   stays : Stays C D
   unfolding with_drawings

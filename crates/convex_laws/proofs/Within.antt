@@ -24,7 +24,7 @@ module _ (M : Model) (sound : Sound M) (s v : ℕ) where
     face = face_of M w.loop;
     there = sound.loops_of_faces w.loop w.there;
     solid = w.solid;
-    corner = listed-from_in v (corners M (face_of M w.loop)) (on_some M (loops_of M (face_of M w.loop)) w.loop v (loop_in_face M sound w.loop w.there) w.on);
+    corner = listed-from_in v (corners M (face_of M w.loop)) (on_some M (loops_of M (face_of M w.loop)) w.loop v (loop_in_face M w.loop w.there) w.on);
   }
 
   on_solid : IsVertexOf M s v → OnSolid M s v
