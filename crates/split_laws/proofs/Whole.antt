@@ -1,5 +1,5 @@
 -- The upper faces that are left parted from the solid: a split from its first operator to its two solids.
-use Rattle.split_laws.proofs.Prelude.{◌≡◌, ℕ, Bool, true, false, cond, List, [], ◌∷◌, None, is_some, IsTrue, refl, sym, ap, ◌∙◌, subst, ◌+◌, ◌≤◌, not, ◌++◌, arith, ◌<◌, length, unwrap_or, filter, map, fold, mate, Model, solid_of, is_number, no_face, Has, HasHalf, Sound, face_at, lists, strictly_rises, effect, part, faces_to_solid, count, IsIn, IsApart, Plane, Part, Op, mate_there, same_truth, map_alike, tick_same, count-append, IsIn-filter, count-filter, filter_passes, mate-mate, IsIn-from_listed, listed-from_in, PartGoes, part_accepted, counted_once, none_counted, effects_keep_sound, half_face, Leads, leads_one, leads_on, Caps, Opening, outer_caps, hole_closed, holes_closed, upper_left, opened_at, split_refusal, split_model, split_drawn, Drawing, with_drawings, below_halves, section_cycles, has_stray_hole, faces_above, ArePlain, cap_faces, HasCaps, upper_faces, CanBeOpenedInTurn, filter_rises, false_from_ne_true, above_there, all_on, caps_rise, rewritings_accepted, rewritings_made, closing_ops, hole_ops, openings_ops, upper_ops, ops_above, split_above, split_ops, later_ops, HasFace}
+use Rattle.split_laws.proofs.Prelude.{◌≡◌, ℕ, Bool, true, false, cond, List, [], ◌∷◌, None, is_some, IsTrue, refl, sym, ap, ◌∙◌, subst, ◌+◌, ◌≤◌, not, ◌++◌, arith, ◌<◌, length, unwrap_or, filter, map, fold, mate, Model, solid_of, is_number, no_face, Has, HasHalf, Sound, face_at, lists, strictly_rises, effect, part, faces_to_solid, count, IsIn, IsApart, Plane, Part, Op, mate_there, same_truth, map_alike, tick_same, count-append, IsIn-filter, count-filter, filter_passes, mate-mate, IsIn-from_listed, listed-from_in, PartGoes, part_accepted, counted_once, none_counted, effects_keep_sound, half_face, Leads, leads_one, leads_on, Caps, outer_caps, hole_closed, upper_left, opened_at, split_refusal, split_model, split_drawn, Drawing, with_drawings, below_halves, section_cycles, has_stray_hole, faces_above, ArePlain, cap_faces, HasCaps, upper_faces, CanBeOpenedInTurn, filter_rises, false_from_ne_true, above_there, all_on, caps_rise, rewritings_accepted, rewritings_made, closing_ops, hole_ops, openings_ops, upper_ops, ops_above, split_above, split_ops, later_ops, HasFace}
 use Rattle.euler_operators.specs.Table as table
 use Rattle.split_laws.proofs.Holes.{CanPart, AreClosed, AreLevel, CanClose, none_closed, all_close, can_close, holes_counted}
 use Rattle.euler_laws.specs.Laws.{AreAccepted, effects}
@@ -7,6 +7,7 @@ use Rattle.split_drawing_laws.specs.pairs.Laws.{rewriting_ops}
 use Rattle.split_laws.proofs.Flags.{flags_are, one_outer, IsOld, all_old, solids_still}
 use Rattle.split_laws.proofs.Openings.{openings_go}
 use Rattle.split_laws.proofs.drawn.Drawn.{begins, t_fits, no_stray, t_free, can_open_all, no_caps, some_above, some_below}
+use Rattle.split_laws.proofs.Stages.{openings}
 
 -- those of some faces that are there
 abbrev pub still_there : Model → List ℕ → List ℕ
@@ -152,23 +153,10 @@ module _ (d : Drawing) (above : List ℕ) (s : ℕ) (p : Plane)
   abbrev pub D : Model
   D = d.model
 
-  abbrev cycles : List (List ℕ)
-  cycles = section_cycles d.model (below_halves d.model above s)
-
-  abbrev begun : Opening
-  begun = record { model = d.model; taken = d.taken; caps = [] }
-
-  abbrev pub X : Opening
-  X = opened_at d above s p
+  open openings d above s p use {cycles, begun, opened as X, upper as us, closed as K}
 
   abbrev pub ks : List Caps
   ks = (opened_at d above s p).caps
-
-  abbrev pub us : List ℕ
-  us = upper_faces above (opened_at d above s p).caps
-
-  abbrev pub K : Model
-  K = holes_closed (opened_at d above s p).model (opened_at d above s p).caps
 
   pub opened : CanBeOpenedInTurn above s X []
   opened = all_on above s p begun cycles opens

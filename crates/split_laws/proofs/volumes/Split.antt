@@ -1,11 +1,12 @@
 -- The six volumes of a solid some of whose faces go to a new solid.
-use Rattle.split_laws.proofs.Prelude.{list_any, ◌≡◌, ◌≢◌, ℕ, ◌+◌, ◌+ℤ◌, Bool, true, false, cond, not, nat_eq, ◌&&◌, List, [], ◌∷◌, ◌++◌, Option, is_some, unwrap_or, refl, sym, ap, ◌∙◌, arith, ◌<◌, length, subst, true≢false, ◌⊎◌, inl, inr, ◌≤◌, option_map, map, filter, ne_eqb, eq-eqb, append-nil, dot, SameItems, count, get-map_rows, Model, FaceRow, no_face, items_of, mate, tail, content, outer, point_of, faces_of, solid_of, lists, strictly_rises, part, faces_to_solid, Plane, Has, count-append, IsIn_or_not, solid_row, get-put_here, get-put_other, solid_either, start, items_in, loops_of, boundary, area, first_vertex, normal, six_volume, Drawing, is_hole, below_halves, section_cycles, has_stray_hole, Caps, Opening, holes_closed, opened_at, split_drawn, area_kept, areas_kept, corner_kept, one_if, passed, count_where, same_search, volume_of, volume_append, volume_same, same_volumes, upper_faces, CanBeOpenedInTurn, cap_faces, HasCaps, CanBeParted, CanBeSplit, CanClose, hole_ops}
+use Rattle.split_laws.proofs.Prelude.{list_any, ◌≡◌, ◌≢◌, ℕ, ◌+◌, ◌+ℤ◌, Bool, true, false, cond, not, nat_eq, ◌&&◌, List, [], ◌∷◌, ◌++◌, Option, is_some, unwrap_or, refl, sym, ap, ◌∙◌, arith, ◌<◌, length, subst, true≢false, ◌⊎◌, inl, inr, ◌≤◌, option_map, map, filter, ne_eqb, eq-eqb, append-nil, dot, SameItems, count, get-map_rows, Model, FaceRow, no_face, items_of, mate, tail, content, outer, point_of, faces_of, solid_of, lists, strictly_rises, part, faces_to_solid, Plane, Has, count-append, IsIn_or_not, solid_row, get-put_here, get-put_other, solid_either, start, items_in, loops_of, boundary, area, first_vertex, normal, six_volume, Drawing, is_hole, has_stray_hole, Caps, Opening, holes_closed, opened_at, split_drawn, area_kept, areas_kept, corner_kept, one_if, passed, count_where, same_search, volume_of, volume_append, volume_same, same_volumes, upper_faces, CanBeOpenedInTurn, cap_faces, HasCaps, CanBeParted, CanBeSplit, CanClose, hole_ops}
 use Rattle.euler_operators.specs.Table as table
 use Rattle.split_laws.proofs.volumes.Closed.{closing_keeps}
 use Rattle.split_laws.proofs.opened.InTurn.{some_way, openings_keep, openings_lie}
 use Rattle.split_laws.proofs.Flags.{flags_are, one_outer, solids_still}
 use Rattle.split_laws.proofs.Holes.{AreClosed, some_other}
 use Rattle.split_laws.proofs.Whole as whole
+use Rattle.split_laws.proofs.Stages.{openings}
 
 -- what is of s or of t then was of s
 one_of_two : (b : Bool) (a s t : ℕ) → s ≢ t → (b ≡ true → a ≡ s) → a ≢ t → one_if (nat_eq (cond b t a) s) + one_if (nat_eq (cond b t a) t) ≡ one_if (nat_eq a s)
@@ -100,11 +101,7 @@ closable_of M p cs ks same e = any_closable (filter (λ k. k.hole) ks) refl wher
 -- ---- the parts
 
 module _ (d : Drawing) (above : List ℕ) (s : ℕ) (p : Plane) (t : ℕ) (w : CanBeSplit d above s p t) where
-  abbrev begun : Opening
-  begun = record { model = d.model; taken = d.taken; caps = [] }
-
-  abbrev cycles : List (List ℕ)
-  cycles = section_cycles d.model (below_halves d.model above s)
+  open openings d above s p use {begun, cycles}
 
   abbrev pub o : Opening
   o = opened_at d above s p
