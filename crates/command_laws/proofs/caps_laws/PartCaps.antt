@@ -1,10 +1,11 @@
 -- The caps once the holes are closed and the upper faces parted from the solid.
-use Rattle.command_laws.proofs.Prelude.{◌≡◌, ◌≢◌, ℕ, zero, suc, ◌+◌, ◌<◌, ◌≤◌, Bool, true, false, cond, List, [], ◌∷◌, length, map, get_or, Some, is_some, refl, sym, ap, subst, ◌∙◌, arith, true≢false, filter, pos, int_lt, option_map, eqb_tells, false_from_ne_true, Plane, Point, count, tick, cross, direction, dot, is_on, moved, origin, Model, FaceRow, LoopContent, content, cycle, face_of, lone, outer, point_of, solid_of, tail, Sound, Has, lists, kfmrh, part, tick_same, none_moved, same_solid, solid_row, IsIn-from_listed, listed-from_in, face_there, solid_either, corners, loops_of, vertices_in, vertices_on, normal, negated, Drawing, below_halves, holes_in, is_hole, section_cycles, Caps, Opening, holes_closed, no_caps, outer_caps, opened_at, cross_moved, face_of_loop, on_one, IsPlain, cap_faces, ArePlain, upper_faces, hole_ops, AllLieAlong, LiesAlong, CanBeSplit, one_outer, AreClosed, AreLevel, holes_counted, each_at, holes_each, level_each, plain_each, closing, closing_carries, CanTake, along_each, IsCapOf, area_below, sum_of}
+use Rattle.command_laws.proofs.Prelude.{◌≡◌, ◌≢◌, ℕ, zero, suc, ◌+◌, ◌<◌, ◌≤◌, Bool, true, false, cond, List, [], ◌∷◌, length, map, get_or, Some, is_some, refl, sym, ap, subst, ◌∙◌, arith, true≢false, filter, pos, int_lt, option_map, eqb_tells, false_from_ne_true, Plane, Point, count, tick, cross, direction, dot, is_on, moved, origin, Model, FaceRow, LoopContent, content, cycle, face_of, lone, outer, point_of, solid_of, tail, Sound, Has, lists, kfmrh, part, tick_same, none_moved, same_solid, solid_row, IsIn-from_listed, listed-from_in, face_there, solid_either, corners, loops_of, vertices_in, vertices_on, normal, negated, Drawing, holes_in, is_hole, Caps, no_caps, outer_caps, opened_at, cross_moved, face_of_loop, on_one, IsPlain, cap_faces, ArePlain, hole_ops, AllLieAlong, LiesAlong, CanBeSplit, one_outer, AreClosed, AreLevel, holes_counted, each_at, holes_each, level_each, plain_each, closing, closing_carries, CanTake, along_each, IsCapOf, area_below, sum_of}
 use Rattle.euler_operators.specs.Table as table
 use Rattle.split_laws.proofs.Whole as after_closing
 use Rattle.split_laws.proofs.volumes.Split as split
 use Rattle.split_laws.proofs.volumes.Taken as taken
 use Rattle.command_laws.proofs.caps_laws.OpenedCaps.{both_opposite, both_take, closed_normal, taken_by, lowers, normals_are, outer_is, told_at, told_filtered, uppers, AllFaceApart, LiesOn, caps_apart, outer_on, plain_lies, FacesApart, apart_each}
+use Rattle.split_laws.proofs.Stages.{openings}
 
 -- ---- a cap becomes a ring of another
 
@@ -73,23 +74,10 @@ opposite_sums M p (k ∷ ks) a = both_opposite (normal M k.lower) (sum_of (lower
 -- ---- a drawn model that is split
 
 module _ (d : Drawing) (above : List ℕ) (s : ℕ) (p : Plane) (t : ℕ) (w : CanBeSplit d above s p t) where
-  abbrev begun : Opening
-  begun = record { model = d.model; taken = d.taken; caps = [] }
-
-  abbrev cycles : List (List ℕ)
-  cycles = section_cycles d.model (below_halves d.model above s)
-
-  abbrev X : Opening
-  X = opened_at d above s p
+  open openings d above s p use {begun, cycles, opened as X, closed as K, upper as us}
 
   abbrev ks : List Caps
   ks = X.caps
-
-  abbrev K : Model
-  K = holes_closed X.model ks
-
-  abbrev us : List ℕ
-  us = upper_faces above ks
 
   abbrev holes : List Caps
   holes = filter (λ k. k.hole) ks
