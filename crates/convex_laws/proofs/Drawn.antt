@@ -1,6 +1,6 @@
 -- A strictly convex solid once it is drawn: each half-edge of a face lies on the plane of the face from which that comes, and of one beyond, from which
 -- it bends away. That is the plane of another face of the solid, or the one of the split.
-use Rattle.convex_laws.proofs.Prelude.{◌≡◌, ◌≢◌, ℕ, ◌+◌, pos, int_lt, Bool, true, false, not, ◌&&◌, [], neg_ℤ, ℤ, refl, sym, ap, subst, ◌∙◌, arith, and_parts, ints, Plane, Point, IsIn, cross, direction, dot, is_above, is_below, is_on, mate, Model, after, face_at, face_of, point_of, solid_of, tail, Sound, Has, HasHalf, lists, mate-mate, mate_there, IsIn-from_listed, half_face, listed-from_in, loop_after, corners, face_is_above, finish, is_flat, normal, plane_of, reaches_above, reaches_below, start, straddles, straddling_pairs, towards, with_crossings, with_drawings, face_listed, CanBegin, Stays, side_of, crossings_sound, start_stays, drawing_stays, none_straddles, none_passes, can_be_drawn, rewritings_sound, ComesOf, half_comes, spread, IsStrictlyConvex, IsVertexOf, None, never_stuck, starts_in, ends_in, stages, split_refusal, or_parts}
+use Rattle.convex_laws.proofs.Prelude.{◌≡◌, ◌≢◌, ℕ, ◌+◌, pos, int_lt, Bool, true, false, not, ◌&&◌, [], neg_ℤ, ℤ, refl, sym, ap, subst, ◌∙◌, arith, and_parts, ints, Plane, Point, IsIn, cross, direction, dot, is_above, is_below, is_on, mate, Model, after, face_at, face_of, point_of, solid_of, tail, Sound, Has, HasHalf, lists, mate-mate, mate_there, IsIn-from_listed, half_face, listed-from_in, loop_after, corners, face_is_above, finish, is_flat, normal, plane_of, reaches_above, reaches_below, start, straddles, straddling_pairs, towards, with_crossings, with_drawings, face_listed, CanBegin, Stays, side_of, crossings_sound, start_stays, drawing_stays, none_straddles, none_passes, can_be_drawn, rewritings_sound, ComesOf, half_comes, spread, IsStrictlyConvex, IsVertexOf, None, never_stuck, starts_in, ends_in, stages, split_refusal, or_parts, drawn_sound}
 use Rattle.split_drawing_laws.specs.drawings.Laws.{CanBeDrawn}
 use Rattle.split_drawing_laws.proofs.cut_volumes.CutWhole.{crossings_measured}
 use Rattle.split_drawing_laws.proofs.cut_volumes.Told.{solid_stays}
@@ -90,9 +90,10 @@ IsInside M s q = (j : ℕ) → Has M.faces j → solid_of M j ≡ s → is_above
 pub record IsDrawnThrough (M : Model) (s : ℕ) (p : Plane) (t : ℕ) : Type 0 where
   pub begun : CanBegin M s p t
   pub unstuck : (with_drawings M s p).stuck ≡ 0
+  pub D_sound : Sound (with_drawings M s p).model
 
 pub drawn_through : (M : Model) (s : ℕ) (p : Plane) (t : ℕ) → Sound M → split_refusal M s p t ≡ None → IsDrawnThrough M s p t
-drawn_through M s p t sound accepted = record { begun = begins M s p t sound accepted; unstuck = never_stuck M s p t sound accepted }
+drawn_through M s p t sound accepted = record { begun = begins M s p t sound accepted; unstuck = never_stuck M s p t sound accepted; D_sound = drawn_sound M s p t sound accepted }
 
 module _ (M : Model) (s : ℕ) (p : Plane) (t : ℕ) (sound : Sound M) (begun : CanBegin M s p t) (unstuck : (with_drawings M s p).stuck ≡ 0) (convex : IsStrictlyConvex M s) where
   open stages M s p t use {cut as C, drawn as D}

@@ -44,10 +44,7 @@ first_down a b x y some none high low = sum_back (a *ℤ x) (b *ℤ y) (subst Is
 
 module _ (M : Model) (s : ℕ) (p : Plane) (t : ℕ) (sound : Sound M) (accepted : split_refusal M s p t ≡ None) (convex : IsStrictlyConvex M s) where
   open stages M s p t use {cut as C, drawn as D}
-  open drawn_through M s p t sound accepted use {begun, unstuck}
-
-  D_sound : Sound D
-  D_sound = drawn.D_sound M s p t sound begun unstuck convex
+  open drawn_through M s p t sound accepted use {begun, unstuck, D_sound}
 
   module _ (b : Bool) (k : ℕ) (has : Has D.faces k) (of : solid_of D k ≡ s) (side : face_is_above D p k ≡ b) (y : ℕ) (y_was : HasHalf C y) (y_at : face_at D y ≡ k) where
     abbrev f : ℕ

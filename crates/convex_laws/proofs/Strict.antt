@@ -43,13 +43,10 @@ module _ (before after_it : Machine) (s : ℕ) (p : Plane) (t : ℕ) (sound : So
   M = held before
 
   open stages M s p t use {cut as C, drawing as d, drawn as D, above, opened as X}
-  open drawn.drawn_through M s p t sound made.0 use {begun, unstuck}
+  open drawn.drawn_through M s p t sound made.0 use {begun, unstuck, D_sound}
 
   abbrev N : Model
   N = held after_it
-
-  D_sound : Sound D
-  D_sound = drawn.D_sound M s p t sound begun unstuck convex
 
   N_sound : Sound N
   N_sound = parts.N_sound before after_it s p t sound made convex
