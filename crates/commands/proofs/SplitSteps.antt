@@ -1,7 +1,6 @@
 -- How many operators a split takes.
-use Rattle.commands.proofs.Prelude.{◌≡◌, ◌≢◌, ℕ, zero, suc, ◌+◌, ◌*◌, ◌-◌, ◌≤◌, Bool, true, false, cond, not, ◌&&◌, nat_eq, nat_lt, None, List, [], ◌∷◌, ◌++◌, length, length-append, map, filter, flat_map, fold, refl, sym, ap, ◌∙◌, arith, Plane, IsIn, half, minus, Model, faces_of, loop_of, is_ring_of, face_at, Sound, has_rings, count-filter, Op, Taken, Growing, growing, undrawn, crossing_edges, straddles, straddling_faces, pair_count, next_cut, with_crossings, Drawing, FacePairs, in_one_loop, join_edge, join_pair, join_next, all_joined, ring_free, stuck_at, draw_pair, draw_next, all_drawn, rings_above, with_rings, drawn_between, next_drawn, straddling_pairs, with_drawings, numbers_after, faces_above, below_halves, section_cycles, is_hole, holes_in, Caps, Opening, next_opened, opened_at, upper_left, outer_caps, split_refusal, gives_ring, SplitsTakeSteps}
+use Rattle.commands.proofs.Prelude.{◌≡◌, ◌≢◌, ℕ, zero, suc, ◌+◌, ◌*◌, ◌-◌, ◌≤◌, Bool, true, false, cond, not, ◌&&◌, nat_eq, nat_lt, None, List, [], ◌∷◌, ◌++◌, length, length-append, map, filter, flat_map, fold, refl, sym, ap, ◌∙◌, arith, Plane, half, minus, Model, loop_of, is_ring_of, face_at, Sound, has_rings, Op, Taken, Growing, growing, undrawn, crossing_edges, straddling_faces, pair_count, next_cut, with_crossings, Drawing, FacePairs, in_one_loop, join_edge, join_pair, join_next, all_joined, ring_free, stuck_at, draw_pair, draw_next, all_drawn, rings_above, with_rings, drawn_between, next_drawn, straddling_pairs, with_drawings, numbers_after, below_halves, is_hole, holes_in, Caps, Opening, next_opened, upper_left, outer_caps, split_refusal, gives_ring, SplitsTakeSteps}
 use Rattle.euler_operators.specs.declared.Op.TheVariants.{Kef, Part}
-use Rattle.euler_laws.proofs.Common.{no_zero}
 use Rattle.shapes.proofs.split.Facts.{split_opens}
 use Rattle.split_drawing_laws.specs.crossings.CrossingOps as crossings
 use Rattle.split_drawing_laws.specs.drawings.DrawingOps.{join_ops, draw_ops, ring_ops, share_ops, face_ops, ops_from, drawing_ops}
@@ -185,13 +184,10 @@ same_passes f g xs ys e = filter_trues f xs ∙ ap trues e ∙ sym (filter_trues
 -- ---- a split
 
 module _ (M : Model) (s : ℕ) (p : Plane) (t : ℕ) (sound : Sound M) (accepted : split_refusal M s p t ≡ None) where
-  open stages M s p t use {drawing as d, above, begun, opened}
+  open stages M s p t use {drawing as d, above, cycles, begun, opened}
 
   abbrev section : List ℕ
   section = below_halves d.model above s
-
-  abbrev cycles : List (List ℕ)
-  cycles = section_cycles d.model section
 
   drawings : others (drawing_ops p (with_crossings M s p) (straddling_pairs M s p)) ≡ pair_count M p (straddling_faces M p s)
   unfolding drawing_ops with_drawings
