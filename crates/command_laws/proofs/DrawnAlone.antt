@@ -1,11 +1,17 @@
 -- What a lamina and a block leave as they were.
-use Rattle.command_laws.proofs.Prelude.{◌≡◌, ◌≢◌, ℕ, ◌+◌, ◌-◌, ℤ, List, None, is_some, sym, ap, subst, ◌∙◌, refl, arith, inl, inr, length, Point, edge_of, Model, face_of, rings_of, Sound, Has, row_some, get-put_other, face_row, same_face, same_solid, taken_in, lamina_refusal, lamina_model, lamina_face, with_points, with_path, base_of, block_refusal, block_model, at_most_greatest, get-put_cases, lamina_goes, lamina_is_sound, blocks_have_bases, bases_rise, held, up_by, Each, LaminaKeepsOwners, LaminaKeepsLoops, LaminaKeepsEdges, LaminaKeepsPoints, LaminaKeepsShapes, BlockKeepsOwners, BlockKeepsLoops, BlockKeepsEdges, BlockKeepsPoints, BlockKeepsShapes}
+use Rattle.command_laws.proofs.Prelude.{◌≡◌, ◌≢◌, ℕ, ◌+◌, ◌-◌, ℤ, List, None, is_some, sym, ap, subst, ◌∙◌, refl, arith, inl, inr, length, Point, edge_of, Model, face_of, rings_of, Sound, Has, row_some, get-put_other, face_row, same_face, same_solid, taken_in, lamina_refusal, lamina_model, lamina_face, with_points, with_path, base_of, block_refusal, block_model, at_most_greatest, get-put_cases, lamina_goes, lamina_is_sound, blocks_have_bases, bases_rise, held, up_by, Each, LaminaKeepsOwners, LaminaKeepsLoops, LaminaKeepsEdges, LaminaKeepsPoints, LaminaKeepsShapes, BlockKeepsOwners, BlockKeepsLoops, BlockKeepsEdges, BlockKeepsPoints, BlockKeepsShapes, zero, suc, ◌≤◌, ◌<◌, ◌⊎◌, Table}
 use Rattle.euler_operators.specs.Table as table
 use Rattle.command_laws.proofs.Kept.{old_kept, lamina_kept, lamina_keeps_faces, block_keeps_faces}
 use Rattle.command_laws.proofs.OnFaces.{vertex_there}
 use Rattle.command_laws.proofs.SweptAlone.{prism_keeps_loops, prism_keeps_edges, prism_keeps_points, prism_keeps_rings}
 use Rattle.command_laws.proofs.Standing.{rings_same, stands}
-use Rattle.command_laws.proofs.Series.{others_stay}
+
+-- F n has rows put at a + 1, a + 2 and so on up to a + n
+module _ {X : Type 0} (F : ℕ → Table X) (a : ℕ) (x : ℕ → X) (step : (n : ℕ) → F (suc n) ≡ table.put (F n) (a + suc n) (x n)) where
+  -- all other rows are as they were
+  others_stay : (n q : ℕ) → (q ≤ a) ⊎ (a + n < q) → table.get (F n) q ≡ table.get (F 0) q
+  others_stay zero q o = refl
+  others_stay (suc n) q o = grind (arith, others_stay n q (elim o [ inl l ↦ inl l | inr l ↦ inr (omega (arith, l)) ]), get-put_other)
 
 -- ---- a lamina
 

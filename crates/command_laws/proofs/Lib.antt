@@ -4,7 +4,6 @@ pub mod Outlines
 mod SweptFaces
 mod LaminaFaces
 pub mod BlockFaces
-mod Series
 pub mod Kept
 mod Accepted
 pub mod OnFaces
