@@ -5,6 +5,7 @@ use Rattle.split_laws.proofs.drawn.Drawn.{begins}
 use Rattle.command_laws.proofs.splits_laws.PartFaces.{part_of, part_turned}
 use Rattle.command_laws.proofs.splits_laws.Pieces.{known, was_of}
 use Rattle.command_laws.proofs.splits_laws.Whole as whole
+use Rattle.split_drawing_laws.specs.loop_sides.Parted.{LiesOn}
 
 -- ---- tests of corners
 
@@ -86,16 +87,13 @@ module _ (before after : Machine) (s : ℕ) (p : Plane) (t : ℕ) (sound : Sound
     one_side : straddles d.model p k ≡ false
     one_side = none_straddles M d.model s p t sound (begins M s p t sound made.0) (never_stuck M s p t sound made.0, refl) k (face_listed d.model (drawn_sound M s p t sound made.0) s k has of)
 
-    drawn_low : solid_of (held after) k ≡ s → (v : ℕ) → lists (corners (held after) k) v ≡ true → is_above p (point_of (held after) v) ≡ false
-    unfolding face_is_above
-    drawn_low low = turned_none d.model (held after) k (is_above p) turned (reaches (face_is_above d.model p k) refl) where
+    drawn_lies : (b : Bool) → solid_of (held after) k ≡ cond b t s → (v : ℕ) → lists (corners (held after) k) v ≡ true → LiesOn p b (point_of (held after) v)
+    unfolding face_is_above straddles
+    drawn_lies false low = turned_none d.model (held after) k (is_above p) turned (reaches (face_is_above d.model p k) refl) where
       reaches : (b : Bool) → face_is_above d.model p k ≡ b → reaches_above d.model p k ≡ false
       reaches true e = absurd (whole.apart before after s p t sound made (sym low ∙ side ∙ ap (λ b. cond b t s) e))
       reaches false e = (or_parts (reaches_above d.model p k) (not (reaches_below d.model p k) && not (int_lt (pos 0) (dot (normal d.model k) (direction p)))) e).0
-
-    drawn_high : solid_of (held after) k ≡ t → (v : ℕ) → lists (corners (held after) k) v ≡ true → is_below p (point_of (held after) v) ≡ false
-    unfolding face_is_above straddles
-    drawn_high high = turned_none d.model (held after) k (is_below p) turned (reaches (face_is_above d.model p k) refl) where
+    drawn_lies true high = turned_none d.model (held after) k (is_below p) turned (reaches (face_is_above d.model p k) refl) where
       reaches : (b : Bool) → face_is_above d.model p k ≡ b → reaches_below d.model p k ≡ false
       reaches false e = absurd (whole.apart before after s p t sound made (sym (side ∙ ap (λ b. cond b t s) e) ∙ high))
       reaches true e = not_both (reaches_above d.model p k) (reaches_below d.model p k) (not (int_lt (pos 0) (dot (normal d.model k) (direction p)))) e one_side
@@ -120,20 +118,14 @@ module _ (before after : Machine) (s : ℕ) (p : Plane) (t : ℕ) (sound : Sound
       | inr w ↦ w.on_plane v l
     ]
 
-    face_low : solid_of (held after) k ≡ s → (v : ℕ) → lists (corners (held after) k) v ≡ true → is_above p (point_of (held after) v) ≡ false
-    face_low low v l = elim known_face [
-      | inl has ↦ drawn_low k has (drawn_of has) low v l
-      | inr i ↦ on_both p (point_of (held after) v) (on_plane i v l) false
-    ]
-
-    face_high : solid_of (held after) k ≡ t → (v : ℕ) → lists (corners (held after) k) v ≡ true → is_below p (point_of (held after) v) ≡ false
-    face_high high v l = elim known_face [
-      | inl has ↦ drawn_high k has (drawn_of has) high v l
-      | inr i ↦ on_both p (point_of (held after) v) (on_plane i v l) true
+    face_lies : (b : Bool) → solid_of (held after) k ≡ cond b t s → (v : ℕ) → lists (corners (held after) k) v ≡ true → LiesOn p b (point_of (held after) v)
+    face_lies b on v l = elim known_face [
+      | inl has ↦ drawn_lies k has (drawn_of has) b on v l
+      | inr i ↦ on_both p (point_of (held after) v) (on_plane i v l) b
     ]
 
 pub split_parts_lie_apart : SplitPartsLieApart
 split_parts_lie_apart before after s p t sound made = (
-  λ v w. face_low before after s p t sound made w.face w.there (inl w.solid) w.solid v w.corner,
-  λ v w. face_high before after s p t sound made w.face w.there (inr w.solid) w.solid v w.corner,
+  λ v w. face_lies before after s p t sound made w.face w.there (inl w.solid) false w.solid v w.corner,
+  λ v w. face_lies before after s p t sound made w.face w.there (inr w.solid) true w.solid v w.corner,
 )
