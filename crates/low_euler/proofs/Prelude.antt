@@ -1,8 +1,7 @@
 -- What the proofs here take from elsewhere, passed on from one place. Declares nothing.
 pub use Rattle.euler_conditions.proofs.Known.{mate_edge_there}
 pub use Rattle.euler_conditions.proofs.Solids.{one_face}
-pub use Rattle.euler_conditions.specs.Ready.{Accepts, AllRoom, HasRoomFor, IsReady, made}
-pub use Rattle.euler_conditions.specs.Ready.{after}
+pub use Rattle.euler_conditions.specs.Ready.{Accepts, AllRoom, HasRoomFor, IsReady, after, made}
 pub use Rattle.euler_conditions.specs.Store.{Extents, HasGrown, IsNextFace, Store, Tells, cut, has_room, is_face_of, join, loose_ring, loosened, only_item, put_face, put_solid, put_vertex, set_face, set_outer, set_solid, take_face, take_loop, take_solid, take_vertex, with_lone, with_loop, within}
 unfoldable pub use Rattle.euler_conditions.specs.Store.{clear, cut_loose, cut_to, fill, join_loops, join_loose, loose_key, put_loop, set_tail, take_edge}
 pub use Rattle.euler_laws.proofs.Common.{Fan, JoinGoes, KefGoes, KemrGoes, KevGoes, KvfsGoes, MefGoes, MekrHolds, MevGoes, Rewritten, after_first, apart_out, arc_is, content-new, count_gone, count_or_lone, count_out, count_spot, cycle_filled, edge_gone, edge_mapped, effect_keeps_sound, emptied, face-same, face_there, faces_one, fan_killed, fan_of, found_past, half_after, half_below, half_cases, half_of, halves_of_edge, inverse_goes, inverse_undoes, join_goes, kef_goes, kemr_goes, kev_goes, kfmrh_goes, kvfs_goes, light, listed_at, lone_goes, lone_is, loop_at, loop_row, loops-mef, m_in, mapped_some, mef_goes, mekr_holds, merge_goes, mev_goes, mev_holds, mfkrh_goes, mixed_first, mixed_second, mvfs_goes, no_zero, none_in_fan, not_m, of_half, outer_goes_so, part_goes, put_in, ring_in_goes, ring_out_goes, same_edges, same_loops, steps_are, tail_old, tails_of_row, taken_out, touched}
