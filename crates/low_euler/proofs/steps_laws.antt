@@ -1,3 +1,4 @@
+pub mod Spots
 pub mod RingSteps
 pub mod StoreSteps
 pub mod TwoLoops

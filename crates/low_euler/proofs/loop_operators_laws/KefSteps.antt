@@ -1,9 +1,10 @@
 -- What kef's writers make of a store, one after another.
-use Rattle.low_euler.proofs.Prelude.{◌≡◌, ◌≢◌, ℕ, ◌+◌, true, List, [], ◌∷◌, ◌++◌, Some, is_some, sym, ap, ◌∙◌, subst, arith, count, IsIn, IsApart, head_or, canonical, rest, joined, HalfEdge, code, mate, edge_of, Table, LoopContent, LoopRow, cycle, items_of, content, face_of, loop_of, cycle_of, tail, has_half, face_at, effect, kef, count-append, tick_same, count-canonical, count_at, count-joined, no_cons, both_empty, mate_other, row_of, Kef, Accepts, after, KefGoes, kef_goes, cycle_filled, Store, join, take_edge, take_loop, take_face, IsStanding, take_out, kill_edge}
+use Rattle.low_euler.proofs.Prelude.{◌≡◌, ◌≢◌, ℕ, ◌+◌, true, List, [], ◌∷◌, ◌++◌, Some, is_some, sym, ap, ◌∙◌, subst, arith, count, IsIn, IsApart, head_or, canonical, rest, joined, HalfEdge, code, mate, edge_of, Table, LoopContent, LoopRow, cycle, items_of, content, face_of, tail, has_half, face_at, effect, kef, count-append, tick_same, count-canonical, count_at, count-joined, no_cons, both_empty, mate_other, row_of, Kef, Accepts, after, KefGoes, kef_goes, cycle_filled, Store, join, take_edge, take_loop, take_face, IsStanding, take_out, kill_edge}
 use Rattle.euler_operators.specs.Common.{after as after_half}
 use Rattle.euler_operators.specs.Table as table
 use Rattle.euler_laws.proofs.mef.KefSound as laws
 use Rattle.low_euler.proofs.steps_laws.RingSteps.{rest_joined, rest_both}
+use Rattle.low_euler.proofs.steps_laws.Spots.{spots}
 use Rattle.low_euler.proofs.steps_laws.TwoLoops as two
 use Rattle.low_euler.proofs.steps_laws.TwoLoops.{TwoLoops, Fits, CanJoin}
 use Rattle.low_euler.proofs.steps_laws.LooseRings.{pair, edge_gone}
@@ -13,24 +14,7 @@ use Rattle.low_euler.proofs.steps_laws.LoopsApart.{placed_of}
 module _ (s : Store) (half : HalfEdge) (ok : Accepts s (Kef half)) where
   open s use {model as M}
   open ok.ready use {sound, bare}
-
-  abbrev h : ℕ
-  h = code half
-
-  abbrev m : ℕ
-  m = mate h
-
-  abbrev r : ℕ
-  r = loop_of M h
-
-  abbrev l : ℕ
-  l = loop_of M m
-
-  abbrev xs : List ℕ
-  xs = cycle_of M h
-
-  abbrev ys : List ℕ
-  ys = cycle_of M m
+  open spots s (code half) use {h, m, r, l, xs, ys}
 
   pub goes : KefGoes M h
   goes = kef_goes M half ok.holds

@@ -1,8 +1,9 @@
 -- What kemr's writers make of a store, one after another.
-use Rattle.low_euler.proofs.Prelude.{◌≡◌, ◌≢◌, ℕ, ◌+◌, true, cond, List, [], ◌∷◌, is_some, sym, ap, ◌∙◌, subst, arith, ne_eqb, count, tick, IsIn, IsApart, between, beyond, cut_left, cut_right, HalfEdge, code, mate, edge_of, Table, LoopContent, LoopRow, cycle, face_of, loop_of, cycle_of, tail, face_at, effect, kemr, cycle_or_lone, count-canonical, count-cut, IsIn-cut, mate_other, put_same, row_of, Kemr, Accepts, after, count_or_lone, KemrGoes, kemr_goes, Store, put_loop, cut, cut_loose, cut_to, take_edge, IsStanding, take_out, kill_edge}
+use Rattle.low_euler.proofs.Prelude.{◌≡◌, ◌≢◌, ℕ, ◌+◌, true, cond, List, [], ◌∷◌, is_some, sym, ap, ◌∙◌, subst, arith, ne_eqb, count, tick, IsIn, IsApart, between, beyond, cut_left, cut_right, HalfEdge, code, edge_of, Table, LoopContent, LoopRow, cycle, face_of, tail, face_at, effect, kemr, cycle_or_lone, count-canonical, count-cut, IsIn-cut, mate_other, put_same, row_of, Kemr, Accepts, after, count_or_lone, KemrGoes, kemr_goes, Store, put_loop, cut, cut_loose, cut_to, take_edge, IsStanding, take_out, kill_edge}
 use Rattle.euler_operators.specs.Table as table
 use Rattle.euler_laws.proofs.kemr.KemrSound as laws
 use Rattle.low_euler.proofs.steps_laws.RingSteps.{rest_left, rest_right}
+use Rattle.low_euler.proofs.steps_laws.Spots.{spots}
 use Rattle.low_euler.proofs.steps_laws.TwoLoops as two
 use Rattle.low_euler.proofs.steps_laws.TwoLoops.{TwoLoops, Fits, CanCut}
 use Rattle.low_euler.proofs.steps_laws.LooseRings.{pair, edge_gone}
@@ -12,18 +13,7 @@ use Rattle.low_euler.proofs.steps_laws.LoopsApart.{placed_of}
 module _ (s : Store) (half : HalfEdge) (l : ℕ) (ok : Accepts s (Kemr half l)) where
   open s use {model as M}
   open ok.ready use {sound, bare}
-
-  abbrev h : ℕ
-  h = code half
-
-  abbrev m : ℕ
-  m = mate h
-
-  abbrev r : ℕ
-  r = loop_of M h
-
-  abbrev xs : List ℕ
-  xs = cycle_of M h
+  open spots s (code half) use {h, m, r, xs}
 
   abbrev X : List ℕ
   X = between h m xs

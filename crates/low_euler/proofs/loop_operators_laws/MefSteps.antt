@@ -1,7 +1,8 @@
 -- What mef's writers make of a store, one after another.
-use Rattle.low_euler.proofs.Prelude.{◌≡◌, ◌≢◌, ℕ, true, false, cond, List, [], ◌∷◌, Some, is_some, sym, ap, ◌∙◌, subst, arith, ne_eqb, nat_tests, count, IsIn, IsApart, cut_right, put_ring, mef_old, mef_new, HalfEdge, At, code, mate, edge_of, Table, tables, Model, LoopRow, cycle, items_of, content, face_of, solid_of, loop_of, cycle_of, before, tail, face_at, effect, mef, edge_row, tick_same, mate_other, edge_of-code, put_same, row_elsewhere, row_of, cycle_there, cycle_sound, Mef, Accepts, after, MefGoes, mef_goes, loops-mef, Store, Extents, within, put_loop, cut, cut_loose, cut_to, put_face, IsStanding, IsUnused, with_edge, put_before, make_edge}
+use Rattle.low_euler.proofs.Prelude.{◌≡◌, ◌≢◌, ℕ, true, false, cond, List, [], ◌∷◌, Some, is_some, sym, ap, ◌∙◌, subst, arith, ne_eqb, nat_tests, count, IsIn, IsApart, cut_right, put_ring, mef_old, mef_new, HalfEdge, At, code, edge_of, Table, tables, Model, LoopRow, cycle, items_of, content, face_of, solid_of, before, tail, face_at, effect, mef, edge_row, tick_same, mate_other, edge_of-code, put_same, row_elsewhere, row_of, cycle_there, cycle_sound, Mef, Accepts, after, MefGoes, mef_goes, loops-mef, Store, Extents, within, put_loop, cut, cut_loose, cut_to, put_face, IsStanding, IsUnused, with_edge, put_before, make_edge}
 use Rattle.euler_operators.specs.Table as table
 use Rattle.low_euler.proofs.steps_laws.RingSteps.{cut_old, cut_new, count_put}
+use Rattle.low_euler.proofs.steps_laws.Spots.{spots}
 use Rattle.low_euler.proofs.steps_laws.TwoLoops as two
 use Rattle.low_euler.proofs.steps_laws.TwoLoops.{TwoLoops, Fits, CanCut}
 use Rattle.low_euler.proofs.steps_laws.LooseRings.{pair, pair_singles, get_first, left_second, pair_gone, singles_remove}
@@ -11,27 +12,12 @@ use Rattle.low_euler.proofs.steps_laws.LoopsApart.{placed_of, unused_of}
 module _ (s : Store) (first second half : HalfEdge) (f l : ℕ) (ok : Accepts s (Mef first second half f l)) where
   open s use {model as M}
   open ok.ready use {sound, bare}
-
-  abbrev g : ℕ
-  g = code first
-
-  abbrev k : ℕ
-  k = code second
-
-  abbrev h : ℕ
-  h = code half
+  open spots s (code first) use {h as g, r, xs}
+  open spots s (code second) use {h as k}
+  open spots s (code half) use {h, m}
 
   pub goes : MefGoes M g k h f l
   goes = mef_goes M first second half f l ok.holds
-
-  abbrev m : ℕ
-  m = mate h
-
-  abbrev r : ℕ
-  r = loop_of M g
-
-  abbrev xs : List ℕ
-  xs = cycle_of M g
 
   -- what the readers ask
   pub loop_there : table.has M.loops r ≡ true

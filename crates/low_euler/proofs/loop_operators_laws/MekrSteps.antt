@@ -1,6 +1,7 @@
 -- What mekr's writers make of a store, one after another.
-use Rattle.low_euler.proofs.Prelude.{◌≡◌, ◌≢◌, ℕ, ◌+◌, true, false, List, [], ◌∷◌, ◌++◌, Some, is_some, refl, sym, ap, ◌∙◌, subst, arith, true≢false, count, tick, IsIn, IsApart, canonical, rotate_to, joined, HalfEdge, Corner, At, Lone, code, mate, edge_of, Table, Model, LoopContent, lone, cycle, items_of, content, face_of, loop_of, cycle_of, has_half, corner_known, corner_lone, corner_loop, corner_tail, corner_list, is_lone, effect, mekr, edge_row, count-append, tick_same, count-canonical, canonical_one, apart_front, rest_canonical, mate_other, edge_of-code, cycle_there, Mekr, Accepts, after, half_of, loop_row, JoinGoes, MekrHolds, mekr_holds, count_spot, Store, with_loop, fill, join, take_loop, IsStanding, IsUnused, IsCorner, CanTake, with_edge, put_before, put_at, make_edge}
+use Rattle.low_euler.proofs.Prelude.{◌≡◌, ◌≢◌, ℕ, ◌+◌, true, false, List, [], ◌∷◌, ◌++◌, Some, is_some, refl, sym, ap, ◌∙◌, subst, arith, true≢false, count, tick, IsIn, IsApart, canonical, rotate_to, joined, HalfEdge, Corner, At, Lone, code, edge_of, Table, Model, LoopContent, lone, cycle, items_of, content, face_of, loop_of, cycle_of, has_half, corner_known, corner_lone, corner_loop, corner_tail, corner_list, is_lone, effect, mekr, edge_row, count-append, tick_same, count-canonical, canonical_one, apart_front, rest_canonical, mate_other, edge_of-code, cycle_there, Mekr, Accepts, after, half_of, loop_row, JoinGoes, MekrHolds, mekr_holds, count_spot, Store, with_loop, fill, join, take_loop, IsStanding, IsUnused, IsCorner, CanTake, with_edge, put_before, put_at, make_edge}
 use Rattle.euler_operators.specs.Table as table
+use Rattle.low_euler.proofs.steps_laws.Spots.{spots}
 use Rattle.low_euler.proofs.steps_laws.TwoLoops as two
 use Rattle.low_euler.proofs.steps_laws.TwoLoops.{TwoLoops, Fits, CanJoin}
 use Rattle.low_euler.proofs.steps_laws.LooseRings.{AreSingles, pair, pair_singles, get_first, left_second, pair_gone, singles_remove, key_is, ring_is}
@@ -19,12 +20,7 @@ none_in_lone (cycle hs) e = absurd (true≢false (sym e))
 module _ (s : Store) (first second : Corner) (half : HalfEdge) (ok : Accepts s (Mekr first second half)) where
   open s use {model as M}
   open ok.ready use {sound, bare}
-
-  abbrev h : ℕ
-  h = code half
-
-  abbrev m : ℕ
-  m = mate h
+  open spots s (code half) use {h, m}
 
   abbrev r : ℕ
   r = corner_loop M first

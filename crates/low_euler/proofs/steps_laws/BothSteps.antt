@@ -1,6 +1,7 @@
 -- Two loose half-edges put before one half-edge, in either order.
 use Rattle.low_euler.proofs.Prelude.{◌≡◌, ◌≢◌, ℕ, true, List, [], ◌∷◌, refl, sym, ap, ◌∙◌, subst, count, joined, put_ring, HalfEdge, At, code, mate, Table, Model, LoopContent, cycle, items_of, content, has_half, loop_of, cycle_of, before, StandsIn, mate_other, mate-mate, holds_in, Store, with_loop, loose_key, join, LoopsStandApart, IsStanding, IsLoose, IsUnused, with_edge, put_before}
 use Rattle.euler_operators.specs.Table as table
+use Rattle.low_euler.proofs.steps_laws.Spots.{spots}
 use Rattle.low_euler.proofs.steps_laws.RingSteps.{joined_twice}
 use Rattle.low_euler.proofs.steps_laws.StoreSteps.{JoinsAlone, join_is, joins_after, was_joined, edge_turned, content_written, written_again}
 use Rattle.low_euler.proofs.steps_laws.LoopsApart.{stays-put, before_stands}
@@ -12,14 +13,7 @@ both_put t g x y z = record t { model = with_loop t.model (loop_of t.model g) (c
 
 module _ (t : Store) (g x y : ℕ) (z : Table (List ℕ)) (placed : LoopsStandApart t.model) (stands : IsStanding t.model g) (alone : IsLoose t x) (other : IsLoose (put_before t g x) y)
     (gone : table.remove (put_before t g x).loose (loose_key (put_before t g x) y) ≡ z) where
-  abbrev p : ℕ
-  p = before t.model g
-
-  abbrev r : ℕ
-  r = loop_of t.model g
-
-  abbrev xs : List ℕ
-  xs = cycle_of t.model g
+  open spots t g use {r, xs, p}
 
   abbrev one_in : Store
   one_in = put_before t g x
@@ -63,14 +57,8 @@ module _ (t : Store) (g x y : ℕ) (z : Table (List ℕ)) (placed : LoopsStandAp
 
 -- the mate of a new edge's half-edge put before another one, and then half joined after what stood before that one at first
 module _ (s : Store) (half from : HalfEdge) (a b : ℕ) (unused : IsUnused s (code half)) (placed : LoopsStandApart (with_edge s (code half) a b).model) (first : IsStanding (with_edge s (code half) a b).model (code from)) where
-  abbrev h : ℕ
-  h = code half
-
-  abbrev m : ℕ
-  m = mate h
-
-  abbrev g : ℕ
-  g = code from
+  open spots s (code half) use {h, m}
+  open spots s (code from) use {h as g}
 
   abbrev edged : Store
   edged = with_edge s h a b

@@ -2,6 +2,7 @@
 use Rattle.low_euler.proofs.Prelude.{◌≡◌, ◌≢◌, ℕ, Bool, true, false, cond, not, List, [], ◌∷◌, is_some, refl, sym, ap, ◌∙◌, subst, eq-eqb, IsIn, rest, cut_left, cut_right, joined, take_ring, mate, edge_of, is_first, plus, minus, code, HalfEdge, Model, EdgeRow, LoopContent, LoopRow, lone, cycle, items_of, content, face_of, has_half, loop_of, cycle_of, before, tail, edge_row, cycle_or_lone, plus_row, mate_plus, mate_minus, mate-mate, mate_other, edge_of-mate, is_first-mate, get-put_here, put-put, put_turned, content_row, face_row, holds_in, held_row, in_no_loop, cycle_filled, Store, with_loop, with_lone, loosened, loose_key, loose_ring, join, join_loose, join_loops, cut, cut_loose, clear, IsStanding, IsLoose, with_edge, put_before, take_out}
 use Rattle.euler_operators.specs.Table as table
 use Rattle.euler_conditions.specs.Store as store
+use Rattle.low_euler.proofs.steps_laws.Spots.{spots}
 use Rattle.low_euler.proofs.steps_laws.RingSteps.{joined_before, cut_keeps, cut_takes, follows, nothing_follows, alone_list}
 
 -- ---- a new edge
@@ -102,15 +103,7 @@ module _ (s : Store) (p r h : ℕ) (there : has_half s.model p ≡ true) (near :
 
 module _ (s : Store) (g : ℕ) (stands : IsStanding s.model g) where
   open s use {model as M}
-
-  abbrev r : ℕ
-  r = loop_of M g
-
-  abbrev xs : List ℕ
-  xs = cycle_of M g
-
-  abbrev p : ℕ
-  p = before M g
+  open spots s g use {r, xs, p}
 
   g_in : IsIn g xs
   g_in = holds_in g (content M r) stands.stands

@@ -1,5 +1,5 @@
 -- A walk round a vertex from one half-edge up to before another, which lets each that it meets start elsewhere.
-use Rattle.low_euler.proofs.Prelude.{◌≡◌, ◌≢◌, ℕ, ◌+◌, ◌<◌, ◌≤◌, Bool, true, false, cond, nat_lt, List, [], ◌∷◌, ◌++◌, length, Option, Some, None, is_some, unwrap_or, refl, sym, ap, ◌∙◌, subst, arith, inl, inr, true≢false, ne_eqb, option_map, nat_tests, eqb_tells, count, tick, IsIn, IsApart, head_or, rest, successor, rotate_to, upto, IsRing, HalfEdge, code, mate, edge_of, is_first, plus, minus, Table, tables, same_table, Model, EdgeRow, no_edge, tail_in, tail, loop_of, round, arc, content, items_of, Sound, HasHalf, with_tails, tick_same, tick_other, next_is_successor, IsIn_successor, rotation_at, count_at, apart_at, rotate_to_is, rotate_to_same, rotate_at, upto_itself, plus_row, minus_row, edge_of-code, map_same, row_some, get-put_here, get-put_other, number_real, loop_there, mate_there as half_mate, steps_are, half_below, Fan, fan_of, mapped_some, tails_of_row, halves_of_edge, arc_is, Store, set_tail, with_tails_at}
+use Rattle.low_euler.proofs.Prelude.{◌≡◌, ◌≢◌, ℕ, ◌+◌, ◌<◌, Bool, true, false, cond, nat_lt, List, [], ◌∷◌, ◌++◌, length, Option, Some, None, is_some, unwrap_or, refl, sym, ap, ◌∙◌, subst, arith, inl, inr, true≢false, ne_eqb, option_map, nat_tests, eqb_tells, count, tick, IsIn, IsApart, head_or, rest, successor, rotate_to, upto, IsRing, mate, edge_of, is_first, plus, minus, Table, tables, same_table, Model, EdgeRow, no_edge, tail_in, tail, loop_of, round, arc, content, items_of, Sound, HasHalf, with_tails, tick_same, tick_other, next_is_successor, IsIn_successor, rotation_at, count_at, apart_at, rotate_to_is, rotate_to_same, rotate_at, upto_itself, plus_row, minus_row, map_same, row_some, get-put_here, get-put_other, number_real, loop_there, mate_there as half_mate, Fan, fan_of, mapped_some, tails_of_row, halves_of_edge, arc_is, Store, set_tail, with_tails_at}
 use Rattle.euler_operators.specs.Common.{after}
 use Rattle.euler_operators.specs.Items.{before as before_item}
 use Rattle.euler_operators.specs.Table as table
@@ -86,11 +86,6 @@ tails_step t x v xs there = same_table _ _ (λ q. table.get-map_rows (with_tails
   elsewhere : (q : ℕ) (o : Option EdgeRow) → q ≢ edge_of x → option_map (with_tails xs v q) o ≡ option_map (with_tails (x ∷ xs) v q) o
   elsewhere q None ne = refl
   elsewhere q (Some r) ne = ap Some (row_other x v q xs r ne)
-
--- an edge that is there has a number in range
-pub edge_fits : (M : Model) → Sound M → (h : HalfEdge) → HasHalf M (code h) → h.edge ≤ 1000000
-unfolding edge_of
-edge_fits M sound h there = omega (arith, steps_are, half_below M sound (code h) there, edge_of-code h)
 
 -- ---- the walk
 

@@ -1,7 +1,8 @@
 -- An edge made at two half-edges by the writers of an arena.
-use Rattle.low_euler.proofs.Prelude.{◌≡◌, ◌≢◌, ℕ, false, None, is_some, sym, ap, ◌∙◌, Point, HalfEdge, At, code, mate, edge_of, loop_of, before, tail, arc, effect, mev_at, with_before, with_tails, edge_row, edge_of-code, Mev, MevGoes, mev_goes, Store, put_vertex, Accepts, after, LoopsStandApart, IsStanding, IsUnused, with_edge, put_before, make_edge, with_tails_at}
+use Rattle.low_euler.proofs.Prelude.{◌≡◌, ◌≢◌, ℕ, false, None, is_some, sym, ap, ◌∙◌, Point, HalfEdge, At, code, edge_of, loop_of, before, arc, effect, mev_at, with_before, with_tails, edge_row, edge_of-code, Mev, MevGoes, mev_goes, Store, put_vertex, Accepts, after, LoopsStandApart, IsStanding, IsUnused, with_edge, put_before, make_edge, with_tails_at}
 use Rattle.euler_operators.specs.Table as table
 use Rattle.low_euler.proofs.steps_laws.LoopsApart.{HasLoop, placed_of, placed-same, loop-same, before-same, never_zero, standing_of, placed-edge, unused_of, loops_E, loops_put, placed-put, loop-put}
+use Rattle.low_euler.proofs.steps_laws.Spots.{spots}
 use Rattle.low_euler.proofs.steps_laws.EdgeSteps as edge
 use Rattle.low_euler.proofs.steps_laws.EdgeSteps.{first_loose, second_loose}
 use Rattle.low_euler.proofs.steps_laws.Tails.{loops-tails, loose-tails, half-tails, free-tails}
@@ -9,24 +10,12 @@ use Rattle.low_euler.proofs.steps_laws.Tails.{loops-tails, loose-tails, half-tai
 module _ (s : Store) (from to half : HalfEdge) (v : ℕ) (p : Point) (ok : Accepts s (Mev (At from) (At to) half v p)) where
   open s use {model as M}
   open ok.ready use {sound}
+  open spots s (code from) use {h as g, u}
+  open spots s (code to) use {h as k}
+  open spots s (code half) use {h, m}
 
   pub goes : MevGoes s.model (code from) (code to) (code half) v p
   goes = mev_goes s.model from to half v p ok.holds
-
-  abbrev g : ℕ
-  g = code from
-
-  abbrev k : ℕ
-  k = code to
-
-  abbrev h : ℕ
-  h = code half
-
-  abbrev m : ℕ
-  m = mate (code half)
-
-  abbrev u : ℕ
-  u = tail s.model (code from)
 
   -- the steps
   abbrev pub moved : Store

@@ -4,6 +4,7 @@ use Rattle.euler_operators.specs.Common.{after}
 use Rattle.euler_operators.specs.Items.{before as before_item, after as after_item}
 use Rattle.euler_operators.specs.Table as table
 use Rattle.euler_laws.proofs.kev.KevSound as kill
+use Rattle.low_euler.proofs.steps_laws.Spots.{spots}
 use Rattle.low_euler.proofs.steps_laws.RingSteps.{upto_before}
 use Rattle.low_euler.proofs.steps_laws.LooseRings.{edge_gone as both_gone}
 use Rattle.low_euler.proofs.steps_laws.LoopsApart.{HasLoop, placed_of, placed-same, loop-same, content-same, face_of-same, never_zero, standing_of, same_or_lone, placed-taken, loop-taken, content-O, face-O, has-O}
@@ -65,18 +66,7 @@ less_neither h m u w c a b = ap (less h u) (less_none m w c b) ∙ less_none h u
 module _ (s : Store) (half : HalfEdge) (ok : Accepts s (Kev half)) where
   open s use {model as M}
   open ok.ready use {sound, bare}
-
-  abbrev h : ℕ
-  h = code half
-
-  abbrev m : ℕ
-  m = mate (code half)
-
-  abbrev u : ℕ
-  u = tail s.model (code half)
-
-  abbrev w : ℕ
-  w = tail s.model (mate (code half))
+  open spots s (code half) use {h, m, u, w}
 
   abbrev arc' : List ℕ
   arc' = arc s.model (after s.model (code half)) (mate (code half))

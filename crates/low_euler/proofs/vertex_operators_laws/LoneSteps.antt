@@ -1,7 +1,8 @@
 -- An edge made at a lone loop by the writers of an arena.
-use Rattle.low_euler.proofs.Prelude.{◌≡◌, ◌≢◌, ℕ, ◌+◌, true, false, List, [], ◌∷◌, is_some, refl, sym, ap, subst, ◌∙◌, arith, true≢false, Point, count, tick, canonical, put_ring, HalfEdge, At, Lone, code, mate, cycle, items_of, loop_of, cycle_of, face_of, content, is_number, StandsIn, lone_vertex, is_lone, effect, mev_lone, tick_other, tick_le, apart_front, rotate_to_head, canonical_same, mate_other, edge_of-code, Mev, lone_goes, Store, put_vertex, fill, with_loop, Accepts, after, LoopsStandApart, IsStanding, IsLoose, IsUnused, CanTake, with_edge, put_before, make_edge}
+use Rattle.low_euler.proofs.Prelude.{◌≡◌, ◌≢◌, ℕ, ◌+◌, true, false, List, [], ◌∷◌, is_some, refl, sym, ap, subst, ◌∙◌, arith, true≢false, Point, count, tick, canonical, put_ring, HalfEdge, At, Lone, code, cycle, items_of, loop_of, cycle_of, face_of, content, is_number, StandsIn, lone_vertex, is_lone, effect, mev_lone, tick_other, tick_le, apart_front, rotate_to_head, canonical_same, mate_other, edge_of-code, Mev, lone_goes, Store, put_vertex, fill, with_loop, Accepts, after, LoopsStandApart, IsStanding, IsLoose, IsUnused, CanTake, with_edge, put_before, make_edge}
 use Rattle.euler_operators.specs.Table as table
 use Rattle.euler_laws.proofs.mev.MevLoneSound.{LoneGoes}
+use Rattle.low_euler.proofs.steps_laws.Spots.{spots}
 use Rattle.low_euler.proofs.steps_laws.StoreSteps.{content_written, written_again}
 use Rattle.low_euler.proofs.steps_laws.LoopsApart.{placed_of, placed-same, placed-edge, placed_with, stands_there, standing_of, unused_of}
 use Rattle.low_euler.proofs.steps_laws.EdgeSteps.{first_key, first_ring, first_loose, second_key, none_loose}
@@ -9,15 +10,10 @@ use Rattle.low_euler.proofs.steps_laws.EdgeSteps.{first_key, first_ring, first_l
 module _ (s : Store) (l : ℕ) (half : HalfEdge) (v : ℕ) (p : Point) (ok : Accepts s (Mev (Lone l) (Lone l) half v p)) where
   open s use {model as M}
   open ok.ready use {sound, bare}
+  open spots s (code half) use {h, m}
 
   pub goes : LoneGoes s.model l (code half) v (lone_vertex (content s.model l)) p
   goes = lone_goes s.model l l half v p ok.holds
-
-  abbrev h : ℕ
-  h = code half
-
-  abbrev m : ℕ
-  m = mate (code half)
 
   abbrev u : ℕ
   u = lone_vertex (content s.model l)

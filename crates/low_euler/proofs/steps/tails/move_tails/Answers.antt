@@ -1,5 +1,6 @@
 use Rattle.low_euler.proofs.Prelude.{◌<◌, length, ap, sym, subst, ◌∙◌, code, mate, has_half, arc, code-half, Store, set_tail}
-use Rattle.low_euler.proofs.steps_laws.Tails.{HasCome, edge_fits, come_first, half_now, mate_there, come_next, come_last}
+use Rattle.euler_conditions.proofs.Coded.{edge_fits}
+use Rattle.low_euler.proofs.steps_laws.Tails.{HasCome, come_first, half_now, mate_there, come_next, come_last}
 use Rattle.low_euler.proofs.steps.tails.move_tails.Goals as goal
 
 pub code-end-requires : goal.code-end-requires
