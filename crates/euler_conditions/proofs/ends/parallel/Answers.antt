@@ -25,23 +25,11 @@ round-init c =
       subst (λ f. HalfSeen M m f 0 m (steps - 0)) (sym near) (subst (HalfSeen M m (tail M (mate m)) 0 m) (omega arith) (walk_start M c.requires.ready.sound m opposite)),
     )
 
-pub seen-least-requires : goal.seen-least-requires
-seen-least-requires c = c.round.invariant.0.there
-
-pub round_code-g-requires-clause-there : goal.round_code-g-requires-clause-there
-round_code-g-requires-clause-there c = c.round.invariant.0.there
-
 pub returns-then-g-code : goal.returns-then-g-code
 returns-then-g-code c =
     let M = c.args.arena.now.model in let h : ℕ = c.code-code.result in
     step_closed M c.requires.ready.sound h (ap (has_half M) c.code-code.ensures ∙ half_of M c.args.h c.requires.there) _ (c.tail_of_code-far.ensures ∙ ap (tail M) c.mate_code-mate.ensures)
     _ _ _ _ _ (steps - (c.round.counter + 1)) c.round.invariant.0 (omega (arith, steps_are)) c.seen-least.ensures c.round_code-g.ensures.round c.if-g-code.true ∙ ap (parallel M) c.code-code.ensures
-
-pub seen-opposite_least-requires : goal.seen-opposite_least-requires
-seen-opposite_least-requires c = c.round.invariant.1.there
-
-pub round_code-opposite-requires-clause-there : goal.round_code-opposite-requires-clause-there
-round_code-opposite-requires-clause-there c = c.round.invariant.1.there
 
 pub returns-then-opposite-mate : goal.returns-then-opposite-mate
 returns-then-opposite-mate c =
