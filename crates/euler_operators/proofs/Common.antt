@@ -7,7 +7,7 @@ pub use Rattle.boundary_model.proofs.Halves.{code-half, code-mate, edge_of-code,
 pub use Rattle.boundary_model.proofs.Integers.{dif-parts, difs, neg-dif, number, same_dif}
 pub use Rattle.boundary_model.proofs.Leads.{IsRing-kef, IsRing-kemr, IsRing-led_over_other, IsRing-mef, IsRing-mekr, IsRing-redirect_other, IsRing-splice_other, apart_mev, kev_ring_is}
 pub use Rattle.boundary_model.proofs.Lists.{IsIn_or_not, after_at, after_of, before_at, before_of, count-append, count-before, from_is, least_in, least_le, least_same, least_with_in, least_with_le, split_at, tick_le, tick_other, tick_same}
-pub use Rattle.boundary_model.proofs.Magnitudes.{coordinate_held, coordinate_is, coordinate_within, coordinates, difference_within, fits, fits_as, held, held_as, held_is, held_short, minor_fits, minor_of, offset_within, product_within, short_product_fits, sum_told, sum_within, vector_within}
+pub use Rattle.boundary_model.proofs.Magnitudes.{coordinate_held, coordinate_is, coordinate_within, coordinates, difference_within, fits, fits_as, held, held_as, held_is, held_short, minor_fits, minor_of, minor_short, minor_within, offset_within, product_within, short_fits, short_is, sum_told, sum_within, vector_within}
 pub use Rattle.boundary_model.proofs.Maps.{IsApart-map, count-map, count-reverse, from_map, reverse-cons, reverse_at, successor-map, successor-reverse}
 pub use Rattle.boundary_model.proofs.Members.{IsApart-images, IsIn-filter, IsIn-map, IsIn_first, IsIn_one, IsIn_push, IsIn_rest, IsIn_some_head, all_mapped, apart_within, both_empty, count-filter, count_taken, each_mapped, filter_passes, length_below, no_cons, same_head, same_length}
 pub use Rattle.boundary_model.proofs.Models.{content_cycle, content_row, cycle_sound, cycle_there, face_row, half_number, held_row, holds-none, holds_in, in-holds, in_no_loop, item_loop, item_there, lone_there, loop_number, loop_there, mate_there, minus_tail_row, minus_there, never_lone, no_tail, none-holds, not_held, number_fits, number_real, one_or_more, other_loop, outer_row, plus_edge, plus_tail_row, plus_there, point_row, row_of, same_content, same_face, same_outer, same_solid, solid_row, tail_row}

@@ -1,16 +1,29 @@
 -- The point where a segment meets a plane, put together from its coordinates.
 use Rattle.lattice.proofs.Prelude.{◌≡◌, Bool, true, false, cond, ℤ, pos, Some, None, refl, sym, ◌∙◌, arith, ◌-ℤ◌, ◌*ℤ◌, ◌&&◌, Option, int_div, int_rem, int_eq, Point, Plane, is_coordinate, IsInRange, IsWithin, height, opposite, whole_quotient, cut_multiple, cut_point}
 use Rattle.std.specs.Cmp.Derive.{both_true}
-use Rattle.lattice.proofs.Magnitudes.{fits, held, held_short, held_is, coordinate_is, coordinate_held}
+use Rattle.lattice.proofs.Magnitudes.{fits, held, held_short, held_is, held_within, coordinate_is, coordinate_held}
 
--- a coordinate that the code asked for
-pub coordinate_told : (r : Option ℤ) (from to m n h k : ℤ) → is_coordinate from ≡ true → is_coordinate to ≡ true → m ≡ h → n ≡ k → IsWithin 6000000000000000000 m → IsWithin 6000000000000000000 n →
-    r ≡ whole_quotient (held_short to *ℤ held m -ℤ held_short from *ℤ held n) (held m -ℤ held n) → r ≡ whole_quotient (to *ℤ h -ℤ from *ℤ k) (h -ℤ k)
-coordinate_told r from to m n h k kf kt em en wm wn e =
-    grind (arith, held m, held_is m, fits, held n, held_is n, coordinate_is to kt, coordinate_is from kf)
+-- two heights that the code told, and a coordinate of each end
+module _ {m n h k : ℤ} (start : record { is : m ≡ h; within : IsWithin 6000000000000000000 m }) (end : record { is : n ≡ k; within : IsWithin 6000000000000000000 n })
+    (a b : ℤ) (ka : is_coordinate a ≡ true) (kb : is_coordinate b ≡ true) where
+  pub can_cut : opposite h k ≡ true → record {
+    from : is_coordinate (held_short a) ≡ true;
+    to : is_coordinate (held_short b) ≡ true;
+    start : IsWithin 6000000000000000000 (held m);
+    end : IsWithin 6000000000000000000 (held n);
+    opposite : opposite (held m) (held n) ≡ true;
+  }
+  can_cut o = record {
+    from = coordinate_held a ka;
+    to = coordinate_held b kb;
+    start = held_within _ m start.within (omega arith);
+    end = held_within _ n end.within (omega arith);
+    opposite = (λ i. opposite ((held_is m (fits _ _ start.within (omega arith)) ∙ start.is) i) ((held_is n (fits _ _ end.within (omega arith)) ∙ end.is) i)) ∙ o;
+  }
 
-pub opposite_told : (m n h k : ℤ) → m ≡ h → n ≡ k → IsWithin 6000000000000000000 m → IsWithin 6000000000000000000 n → opposite h k ≡ true → opposite (held m) (held n) ≡ true
-opposite_told m n h k em en wm wn o = (λ i. opposite ((held_is m (fits _ _ wm (omega arith)) ∙ em) i) ((held_is n (fits _ _ wn (omega arith)) ∙ en) i)) ∙ o
+  -- a coordinate that the code asked for
+  pub coordinate_told : (r : Option ℤ) → r ≡ whole_quotient (held_short b *ℤ held m -ℤ held_short a *ℤ held n) (held m -ℤ held n) → r ≡ whole_quotient (b *ℤ h -ℤ a *ℤ k) (h -ℤ k)
+  coordinate_told r e = let wm = start.within in let wn = end.within in let em = start.is in let en = end.is in grind (arith, held m, held_is m, fits, held n, held_is n, coordinate_is b kb, coordinate_is a ka)
 
 pub range_told : (x y z : ℤ) → is_coordinate x ≡ true → is_coordinate y ≡ true → is_coordinate z ≡ true → IsInRange (record { x = held_short x; y = held_short y; z = held_short z })
 range_told x y z kx ky kz = both_true (coordinate_held x kx) (both_true (coordinate_held y ky) (coordinate_held z kz))

@@ -48,6 +48,11 @@ coordinate_is x e = to_z-of_z w64 x (coordinate_fits x e)
 pub coordinate_held : (x : ℤ) → is_coordinate x ≡ true → is_coordinate (held_short x) ≡ true
 coordinate_held x e = ap is_coordinate (coordinate_is x e) ∙ e
 
+-- the four coordinates of which a number of a cross product is made
+pub are_held : (a b c d : ℤ) → is_coordinate a ≡ true → is_coordinate b ≡ true → is_coordinate c ≡ true → is_coordinate d ≡ true →
+    record { a : is_coordinate (held_short a) ≡ true; b : is_coordinate (held_short b) ≡ true; c : is_coordinate (held_short c) ≡ true; d : is_coordinate (held_short d) ≡ true }
+are_held a b c d ka kb kc kd = record { a = coordinate_held a ka; b = coordinate_held b kb; c = coordinate_held c kc; d = coordinate_held d kd }
+
 -- a coordinate fits 32 bits
 pub packed_fits : (x : ℤ) → is_coordinate x ≡ true → FitsSigned w32 (held_short x)
 packed_fits x e = subst (FitsSigned w32) (sym (coordinate_is x e)) (fits_signed_from_abs w32 x (omega (arith, coordinate_within x e)))
@@ -101,12 +106,12 @@ module _ (k l m : ℕ) (p q a b : ℤ) (is_a : p ≡ a) (is_b : q ≡ b) (wa : I
 
 -- ---- one number of a cross product
 
--- what is at most 2 * 10^18 in magnitude fits 64 bits
-short_fits : (z : ℤ) → IsWithin 2000000000000000000 z → FitsSigned w64 z
-short_fits z h = fits_signed_from_abs w64 z (omega (arith, h))
+-- what is at most 9 * 10^18 in magnitude fits 64 bits
+pub short_fits : (m : ℕ) (z : ℤ) → IsWithin m z → m ≤ 9000000000000000000 → FitsSigned w64 z
+short_fits m z h l = fits_signed_from_abs w64 z (omega (arith, h, l))
 
-short_is : (z : ℤ) → IsWithin 2000000000000000000 z → held_short z ≡ z
-short_is z h = to_z-of_z w64 z (short_fits z h)
+pub short_is : (m : ℕ) (z : ℤ) → IsWithin m z → m ≤ 9000000000000000000 → held_short z ≡ z
+short_is m z h l = to_z-of_z w64 z (short_fits m z h l)
 
 -- the product of two coordinates as the code makes it
 abbrev short_product : ℤ → ℤ → ℤ
@@ -116,25 +121,28 @@ short_product_within : (a b : ℤ) → is_coordinate a ≡ true → is_coordinat
 short_product_within a b ka kb = product_within a b _ _ _ (coordinate_within a ka) (coordinate_within b kb) refl
 
 short_product_is : (a b : ℤ) → is_coordinate a ≡ true → is_coordinate b ≡ true → short_product a b ≡ a *ℤ b
-short_product_is a b ka kb = ap held_short (λ i. coordinate_is a ka i *ℤ coordinate_is b kb i) ∙ short_is (a *ℤ b) (let w = short_product_within a b ka kb in omega (arith, w))
+short_product_is a b ka kb = ap held_short (λ i. coordinate_is a ka i *ℤ coordinate_is b kb i) ∙ short_is _ (a *ℤ b) (short_product_within a b ka kb) (omega arith)
 
 pub short_product_fits : (a b : ℤ) → is_coordinate a ≡ true → is_coordinate b ≡ true → FitsSigned w64 (held_short a *ℤ held_short b)
-short_product_fits a b ka kb = subst (FitsSigned w64) (λ i. sym (coordinate_is a ka) i *ℤ sym (coordinate_is b kb) i) (short_fits (a *ℤ b) (let w = short_product_within a b ka kb in omega (arith, w)))
+short_product_fits a b ka kb = subst (FitsSigned w64) (λ i. sym (coordinate_is a ka) i *ℤ sym (coordinate_is b kb) i) (short_fits _ (a *ℤ b) (short_product_within a b ka kb) (omega arith))
 
 module _ (a b c d : ℤ) (ka : is_coordinate a ≡ true) (kb : is_coordinate b ≡ true) (kc : is_coordinate c ≡ true) (kd : is_coordinate d ≡ true) where
   minor_made : short_product a d -ℤ short_product b c ≡ a *ℤ d -ℤ b *ℤ c
   minor_made = λ i. short_product_is a d ka kd i -ℤ short_product_is b c kb kc i
 
-  minor_within : IsWithin 2000000000000000000 (a *ℤ d -ℤ b *ℤ c)
+  pub minor_within : IsWithin 2000000000000000000 (a *ℤ d -ℤ b *ℤ c)
   minor_within = difference_within (a *ℤ d) (b *ℤ c) _ _ _ (short_product_within a d ka kd) (short_product_within b c kb kc) (omega arith)
 
   pub minor_fits : FitsSigned w64 (short_product a d -ℤ short_product b c)
-  minor_fits = subst (FitsSigned w64) (sym minor_made) (short_fits (a *ℤ d -ℤ b *ℤ c) minor_within)
+  minor_fits = subst (FitsSigned w64) (sym minor_made) (short_fits _ (a *ℤ d -ℤ b *ℤ c) minor_within (omega arith))
 
   -- as 64 bits hold it, and then 128
+  pub minor_short : held_short (short_product a d -ℤ short_product b c) ≡ a *ℤ d -ℤ b *ℤ c
+  minor_short = ap held_short minor_made ∙ short_is _ (a *ℤ d -ℤ b *ℤ c) minor_within (omega arith)
+
   module _ (r : ℤ) (is : r ≡ held_short (short_product a d -ℤ short_product b c)) where
     pub minor_is : held r ≡ a *ℤ d -ℤ b *ℤ c
-    minor_is = held_as r (a *ℤ d -ℤ b *ℤ c) (is ∙ ap held_short minor_made ∙ short_is (a *ℤ d -ℤ b *ℤ c) minor_within) (fits _ _ minor_within (omega arith))
+    minor_is = held_as r (a *ℤ d -ℤ b *ℤ c) (is ∙ minor_short) (fits _ _ minor_within (omega arith))
 
     pub minor_kept : IsWithin 2000000000000000000 (held r)
     minor_kept = subst (IsWithin 2000000000000000000) (sym minor_is) minor_within

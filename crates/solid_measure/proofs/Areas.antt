@@ -1,5 +1,5 @@
 -- How great sums of cross products over half-edges are.
-use Rattle.solid_measure.proofs.Prelude.{◌≡◌, ℕ, ◌+◌, ◌*◌, ◌≤◌, List, [], ◌∷◌, length, Some, None, Option, refl, arith, ◌*ℤ◌, unwrap_or, Point, IsInRange, IsVectorWithin, moved, cross, mate, Model, tail, point_of, no_point, Sound, coordinates, coordinate_within, product_within, sum_within, difference_within, vector_within, start, finish, area, area_limit, AreHalves, halves_short}
+use Rattle.solid_measure.proofs.Prelude.{◌≡◌, ℕ, ◌+◌, ◌*◌, ◌≤◌, List, [], ◌∷◌, length, Some, None, Option, refl, arith, unwrap_or, Point, IsInRange, IsVectorWithin, moved, cross, mate, Model, tail, point_of, no_point, Sound, coordinates, minor_within, sum_within, vector_within, start, finish, area, area_limit, AreHalves, halves_short}
 use Rattle.euler_operators.specs.Table as table
 pub use Rattle.shapes.proofs.Areas.{area-append, area_turned, area_push}
 
@@ -13,12 +13,7 @@ point_fits M sound v = row_in_range (table.get M.vertices v) refl where
 pub cross_within : (p q : Point) → IsInRange p → IsInRange q → IsVectorWithin 2000000000000000000 (cross p q)
 cross_within p q rp rq =
     let ps = coordinates p rp in let qs = coordinates q rq in
-    let px = coordinate_within p.x ps.0 in let py = coordinate_within p.y ps.1 in let pz = coordinate_within p.z ps.2 in
-    let qx = coordinate_within q.x qs.0 in let qy = coordinate_within q.y qs.1 in let qz = coordinate_within q.z qs.2 in (
-      difference_within (p.y *ℤ q.z) (p.z *ℤ q.y) _ _ _ (product_within p.y q.z _ _ 1000000000000000000 py qz refl) (product_within p.z q.y _ _ 1000000000000000000 pz qy refl) (omega arith),
-      difference_within (p.z *ℤ q.x) (p.x *ℤ q.z) _ _ _ (product_within p.z q.x _ _ 1000000000000000000 pz qx refl) (product_within p.x q.z _ _ 1000000000000000000 px qz refl) (omega arith),
-      difference_within (p.x *ℤ q.y) (p.y *ℤ q.x) _ _ _ (product_within p.x q.y _ _ 1000000000000000000 px qy refl) (product_within p.y q.x _ _ 1000000000000000000 py qx refl) (omega arith),
-    )
+    (minor_within p.y p.z q.y q.z ps.1 ps.2 qs.1 qs.2, minor_within p.z p.x q.z q.x ps.2 ps.0 qs.2 qs.0, minor_within p.x p.y q.x q.y ps.0 ps.1 qs.0 qs.1)
 
 pub moved_within : (p q : Point) (m n k : ℕ) → IsVectorWithin m p → IsVectorWithin n q → m + n ≤ k → IsVectorWithin k (moved p q)
 moved_within p q m n k a b l = (sum_within p.x q.x m n k a.0 b.0 l, sum_within p.y q.y m n k a.1 b.1 l, sum_within p.z q.z m n k a.2 b.2 l)

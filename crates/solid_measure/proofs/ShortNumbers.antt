@@ -1,24 +1,7 @@
 -- Sums and products in 64 bits are exact where they fit.
-use Rattle.solid_measure.proofs.Prelude.{◌≡◌, ℕ, ◌+◌, ◌≤◌, true, ℤ, refl, sym, ap, subst, ◌∙◌, arith, ◌+ℤ◌, ◌-ℤ◌, ◌*ℤ◌, FitsSigned, to_z-of_z, fits_signed_from_abs, is_coordinate, IsWithin, coordinate_is, coordinate_within, difference_within, held, held_short, minor_fits, minor_of, product_within, short_product_fits, sum_told, sum_within}
+use Rattle.solid_measure.proofs.Prelude.{◌≡◌, ℕ, ◌+◌, ◌≤◌, true, ℤ, refl, sym, ap, subst, ◌∙◌, arith, ◌+ℤ◌, ◌-ℤ◌, ◌*ℤ◌, FitsSigned, is_coordinate, IsWithin, coordinate_held, coordinate_is, coordinate_within, held, held_short, minor_of, minor_within, product_within, short_fits, short_is, sum_told, sum_within}
+use Rattle.euler_operators.proofs.Common.{minor_short as short_minor}
 use mir.Syntax.{w64}
-
--- what is at most 9 * 10^18 in magnitude fits
-pub short_fits : (m : ℕ) (z : ℤ) → IsWithin m z → m ≤ 9000000000000000000 → FitsSigned w64 z
-short_fits m z h l = fits_signed_from_abs w64 z (omega (arith, h, l))
-
-pub short_is : (m : ℕ) (z : ℤ) → IsWithin m z → m ≤ 9000000000000000000 → held_short z ≡ z
-short_is m z h l = to_z-of_z w64 z (short_fits m z h l)
-
--- one number of a cross product
-module _ (a b c d : ℤ) (ka : is_coordinate a ≡ true) (kb : is_coordinate b ≡ true) (kc : is_coordinate c ≡ true) (kd : is_coordinate d ≡ true) where
-  product_is : (x y : ℤ) → is_coordinate x ≡ true → is_coordinate y ≡ true → held_short (held_short x *ℤ held_short y) ≡ x *ℤ y
-  product_is x y kx ky = to_z-of_z w64 _ (short_product_fits x y kx ky) ∙ (λ i. coordinate_is x kx i *ℤ coordinate_is y ky i)
-
-  minor_is : held_short (held_short (held_short a *ℤ held_short d) -ℤ held_short (held_short b *ℤ held_short c)) ≡ a *ℤ d -ℤ b *ℤ c
-  minor_is = to_z-of_z w64 _ (minor_fits a b c d ka kb kc kd) ∙ (λ i. product_is a d ka kd i -ℤ product_is b c kb kc i)
-
-  minor_within : IsWithin 2000000000000000000 (a *ℤ d -ℤ b *ℤ c)
-  minor_within = difference_within (a *ℤ d) (b *ℤ c) _ _ _ (product_within a d _ _ 1000000000000000000 (coordinate_within a ka) (coordinate_within d kd) refl) (product_within b c _ _ 1000000000000000000 (coordinate_within b kb) (coordinate_within c kc) refl) (omega arith)
 
 -- the code's product of a coefficient and a coordinate
 module _ (a x : ℤ) (wa : IsWithin 2000000000 a) (kx : is_coordinate x ≡ true) where
@@ -44,7 +27,7 @@ held_as m p a e w l = record { is = ap held_short e ∙ short_is m a w l; within
 
 pub minor_short : (a b c d : ℤ) → is_coordinate a ≡ true → is_coordinate b ≡ true → is_coordinate c ≡ true → is_coordinate d ≡ true →
     Short 2000000000000000000 (held_short (held_short (held_short a *ℤ held_short d) -ℤ held_short (held_short b *ℤ held_short c))) (a *ℤ d -ℤ b *ℤ c)
-minor_short a b c d ka kb kc kd = record { is = minor_is a b c d ka kb kc kd; within = minor_within a b c d ka kb kc kd }
+minor_short a b c d ka kb kc kd = record { is = short_minor a b c d ka kb kc kd; within = minor_within a b c d ka kb kc kd }
 
 -- a sum of such numbers
 module _ (m n k : ℕ) (p q a b : ℤ) (x : Short m p a) (y : Short n q b) (room : m + n ≤ k) (least : k ≤ 9000000000000000000) where
@@ -57,7 +40,19 @@ module _ (m n k : ℕ) (p q a b : ℤ) (x : Short m p a) (y : Short n q b) (room
   pub sum_short : Short k (held_short (p +ℤ q)) (a +ℤ b)
   sum_short = held_as k (p +ℤ q) (a +ℤ b) (λ i. x.is i +ℤ y.is i) all_within least
 
--- a number of a cross product added to one of at most three
+-- a number of a cross product added to one of at most three: what that asks, and what it makes
+pub can_add : (n a b c d : ℤ) → IsWithin 6000000000000000000 n → is_coordinate a ≡ true → is_coordinate b ≡ true → is_coordinate c ≡ true → is_coordinate d ≡ true →
+    record {
+      number : IsWithin 6000000000000000000 (held_short n);
+      a : is_coordinate (held_short a) ≡ true;
+      b : is_coordinate (held_short b) ≡ true;
+      c : is_coordinate (held_short c) ≡ true;
+      d : is_coordinate (held_short d) ≡ true;
+    }
+can_add n a b c d w ka kb kc kd =
+    let s = subst (IsWithin 6000000000000000000) (sym (short_is _ n w (omega arith))) w in
+    record { number = s; a = coordinate_held a ka; b = coordinate_held b kb; c = coordinate_held c kc; d = coordinate_held d kd }
+
 pub crossed_short : (n a b c d r : ℤ) → IsWithin 6000000000000000000 n → is_coordinate a ≡ true → is_coordinate b ≡ true → is_coordinate c ≡ true → is_coordinate d ≡ true →
     r ≡ held_short n +ℤ (held_short a *ℤ held_short d -ℤ held_short b *ℤ held_short c) → held_short r ≡ n +ℤ (a *ℤ d -ℤ b *ℤ c)
 crossed_short n a b c d r w ka kb kc kd e =

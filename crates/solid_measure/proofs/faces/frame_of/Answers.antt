@@ -1,8 +1,5 @@
 use Rattle.solid_measure.proofs.faces.frame_of.Goals as goal
 
-pub rings_added-requires-clause-vector : goal.rings_added-requires-clause-vector
-rings_added-requires-clause-vector c = c.in-Some.ensures.frame.summed
-
 pub returns : goal.returns
 returns c = record {
   summed = c.rings_added.ensures.is;

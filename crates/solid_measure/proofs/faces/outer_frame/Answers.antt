@@ -6,9 +6,6 @@ pub content-requires-clause-filled : goal.content-requires-clause-filled
 content-requires-clause-filled c =
     let M = c.args.arena.now.model in filled M c.requires.ready.sound c.outer-outer.result (ap (table.has M.loops) c.outer-outer.ensures ∙ (c.requires.ready.sound.outers_there c.args.f c.requires.there).0)
 
-pub start_of_code-requires-clause-there : goal.start_of_code-requires-clause-there
-start_of_code-requires-clause-there c = c.in-Some.ensures.walked.there
-
 -- a ring's first vertex is that at which its least half-edge starts
 ring_first : (M : Model) (c : LoopContent) (first : HalfEdge) → Tells c (Content.Ring first) → start M (head_or 0 (items_of c)) ≡ point_of M (first_vertex M c)
 ring_first M (lone v) first t = absurd t

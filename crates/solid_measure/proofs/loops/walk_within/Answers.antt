@@ -25,9 +25,6 @@ start_of_code-from-requires-clause-there c =
     let M = c.args.arena.now.model in let first : ℕ = code c.args.first in
     ap (has_half M) c.code-begin.ensures ∙ half_in M c.requires.ready.sound c.args.l first c.requires.item first c.requires.item
 
-pub next_code-next-requires-clause-there : goal.next_code-next-requires-clause-there
-next_code-next-requires-clause-there c = c.round.invariant.swept.area.round.there
-
 pub short_crossed-last-requires-clause-last : goal.short_crossed-last-requires-clause-last
 short_crossed-last-requires-clause-last c =
     swept_fits c.args.arena.now.model c.requires.ready.sound c.args.l (code c.args.first) c.requires.item (read c.args.vector) c.requires.vector c.round.code (steps - c.round.count) c.round.count c.round.swept c.round.invariant.swept

@@ -11,15 +11,11 @@ pub loop_met-requires-in-loops-clause-there : goal.loop_met-requires-in-loops-cl
 loop_met-requires-in-loops-clause-there c =
     loop_in c.args.arena.now.model c.requires.ready.sound c.args.f c.in-Some.l c.requires.there (subst (IsIn c.in-Some.l) (c.into_iter-l-iterator.ensures.into_iter_gives ∙ c.loops_of-l-items.ensures) (yielded_in (λ l. l) c.loops.yielded _ _ _ c.in-Some.l c.loops.yielded_by c.in-Some.ensures.steps))
 
-pub together-sum-requires-clause-a : goal.together-sum-requires-clause-a
-together-sum-requires-clause-a c =
+pub together-sum-requires : goal.together-sum-requires
+together-sum-requires c =
     let M = c.args.arena.now.model in
-    (parts_few c.loops.sum (loop_met M (content M c.in-Some.l)) _ _ (ap (λ ls. together c.loops.sum (loops_met M ls)) (sym c.in-Some.ensures.steps) ∙ c.loops.invariant) (face_few M c.requires.ready.sound c.args.f c.requires.there)).0
-
-pub together-sum-requires-clause-b : goal.together-sum-requires-clause-b
-together-sum-requires-clause-b c =
-    let M = c.args.arena.now.model in
-    subst IsFew (sym c.loop_met-in-loops.ensures) (parts_few c.loops.sum (loop_met M (content M c.in-Some.l)) _ _ (ap (λ ls. together c.loops.sum (loops_met M ls)) (sym c.in-Some.ensures.steps) ∙ c.loops.invariant) (face_few M c.requires.ready.sound c.args.f c.requires.there)).1
+    let few = parts_few c.loops.sum (loop_met M (content M c.in-Some.l)) _ _ (ap (λ ls. together c.loops.sum (loops_met M ls)) (sym c.in-Some.ensures.steps) ∙ c.loops.invariant) (face_few M c.requires.ready.sound c.args.f c.requires.there) in
+    record { a = few.0; b = subst IsFew (sym c.loop_met-in-loops.ensures) few.1 }
 
 pub loops-preserved : goal.loops-preserved
 loops-preserved c =

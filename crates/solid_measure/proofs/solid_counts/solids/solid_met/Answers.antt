@@ -18,17 +18,13 @@ pub ring_count-more-requires : goal.ring_count-more-requires
 ring_count-more-requires c =
     face_in c.args.arena.now.model c.requires.sound c.args.s c.in-Some.f (subst (IsIn c.in-Some.f) (c.into_iter-f-iterator.ensures.into_iter_gives ∙ c.faces_of-f-items.ensures) (yielded_in (λ f. f) c.faces.yielded _ _ _ c.in-Some.f c.faces.yielded_by c.in-Some.ensures.steps))
 
-pub together-sum-requires-clause-a : goal.together-sum-requires-clause-a
-together-sum-requires-clause-a c =
+pub together-sum-requires : goal.together-sum-requires
+together-sum-requires c =
     let M = c.args.arena.now.model in
-    (parts_few c.faces.sum (loops_met M (loops_of M c.in-Some.f)) _ _
-    (ap (together c.faces.sum) (sym (loops-append M (loops_of M c.in-Some.f) (loops_in M c.next.new.self))) ∙ ap (λ fs. together c.faces.sum (loops_met M (loops_in M fs))) (sym c.in-Some.ensures.steps) ∙ c.faces.invariant.met) (solid_few M c.requires.sound c.args.s)).0
-
-pub together-sum-requires-clause-b : goal.together-sum-requires-clause-b
-together-sum-requires-clause-b c =
-    let M = c.args.arena.now.model in
-    subst IsFew (sym c.face_met.ensures) (parts_few c.faces.sum (loops_met M (loops_of M c.in-Some.f)) _ _
-    (ap (together c.faces.sum) (sym (loops-append M (loops_of M c.in-Some.f) (loops_in M c.next.new.self))) ∙ ap (λ fs. together c.faces.sum (loops_met M (loops_in M fs))) (sym c.in-Some.ensures.steps) ∙ c.faces.invariant.met) (solid_few M c.requires.sound c.args.s)).1
+    let few = parts_few c.faces.sum (loops_met M (loops_of M c.in-Some.f)) _ _
+    (ap (together c.faces.sum) (sym (loops-append M (loops_of M c.in-Some.f) (loops_in M c.next.new.self))) ∙ ap (λ fs. together c.faces.sum (loops_met M (loops_in M fs))) (sym c.in-Some.ensures.steps) ∙ c.faces.invariant.met)
+    (solid_few M c.requires.sound c.args.s) in
+    record { a = few.0; b = subst IsFew (sym c.face_met.ensures) few.1 }
 
 pub overflow_add-rings : goal.overflow_add-rings
 overflow_add-rings c =
