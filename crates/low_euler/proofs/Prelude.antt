@@ -16,6 +16,6 @@ pub use Rattle.low_euler.specs.face_operators.Moving.{moved}
 pub use Rattle.low_euler.specs.steps.Steps.{CanTake, IsCorner, IsLoose, IsStanding, IsUnused, LoopsStandApart, kill_edge, make_edge, put_at}
 unfoldable pub use Rattle.low_euler.specs.steps.Steps.{put_before, take_out, with_edge, with_tails_at}
 pub use Rattle.std.proofs.Common.{Bool, IfOk, IsOk, List, None, OnOk, Option, Result, Some, T, [], ap, append-nil, append_assoc, arith, cond, eq-eqb, eqb-true, false, get_or, inl, inr, is_some, length, nat_cmp, nat_eq, nat_lt, ne_eqb, not, option_map, refl, subst, sym, take, true, true≢false, unwrap_or, ℕ, ◌&&◌, ◌++◌, ◌+◌, ◌-◌, ◌<◌, ◌||◌, ◌∙◌, ◌∷◌, ◌≡◌, ◌≢◌, ◌≤◌, ◌⊎◌}
-pub use Rattle.std.proofs.lemmas.Bool.{and_parts, eqb-false, false_from_ne_true, false≢true}
+pub use Rattle.std.proofs.lemmas.Bool.{and_parts, eqb-false, false_from_ne_true}
 pub use Rattle.std.proofs.lemmas.Bool.Decides.{eqb_tells, nat_tests}
 pub use Rattle.std.proofs.lemmas.Result.{on_ok_weaker}

@@ -1,5 +1,6 @@
 -- An operator whose room was made is accepted then, and steps on.
 use Rattle.low_euler.proofs.Prelude.{◌≡◌, ℕ, None, refl, sym, subst, ap, ◌∙◌, Point, Corner, HalfEdge, Model, Sound, first_false, effect, inverse, Op, Mvfs, Kvfs, Mev, Kev, Mef, Kef, Store, has_room, HasGrown, IsReady, HasRoomFor, Accepts, after, made, IsStepped}
+use Rattle.low_euler.proofs.Made.{grown_same}
 use Rattle.low_euler.proofs.Undone.{ready_after, keeps_room, room_after}
 
 pub accepted_grown : (r s : Store) (o : Op) → IsReady r → first_false r.model o ≡ None → HasGrown r s → HasRoomFor s o → Accepts s o
@@ -17,6 +18,10 @@ stepped_grown r s t o i ready holds grown room is back inverse_room = record {
   room = subst (λ (x : Store). HasRoomFor x o) (sym is) (room_after s o (made o) room);
   inverse_room = subst (λ (x : Store). HasRoomFor x (inverse r.model o)) (sym is) (room_after s o (made (inverse r.model o)) (subst (HasRoomFor s) back inverse_room));
 }
+
+-- where no room has to be made
+pub stepped_so : (r t : Store) (o : Op) → IsReady r → first_false r.model o ≡ None → HasRoomFor r o → HasRoomFor r (inverse r.model o) → t ≡ after r o → IsStepped r o t
+stepped_so r t o ready holds room inverse_room is = stepped_grown r r t o (inverse r.model o) ready holds (grown_same r) room is refl inverse_room
 
 -- the inverses that name no more than the operator does
 module _ (M : Model) where

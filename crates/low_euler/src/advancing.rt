@@ -1,3 +1,4 @@
+#![tactic(auto, using(crate::proofs::Made::made_fit, crate::proofs::Stepped::accepted_grown, crate::proofs::Made::grown_same, crate::proofs::Stepped::stepped_so, crate::proofs::Stepped::mvfs_back, crate::proofs::Stepped::mev_back, crate::proofs::Stepped::mef_back))]
 //! An operator with all that it needs: its room, the change, and the operator that takes it back, which is written where the caller keeps
 //! it.
 ghost use Rattle.std.specs.Prelude.{◌≡◌, OnOk, OnErr, IfOk, None};

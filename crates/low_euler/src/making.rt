@@ -1,3 +1,4 @@
+#![tactic(auto, using(crate::proofs::Made::makes_more, crate::proofs::Made::grown_same))]
 //! What an operator needs to be applied: room for what it makes, and the faces that a merge moves.
 ghost use Rattle.std.specs.Prelude.{◌≡◌, [], ◌∷◌, OnOk, IfOk, IsOk, None};
 ghost use Rattle.euler_conditions.specs.Store.{HasGrown};

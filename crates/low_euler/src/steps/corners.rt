@@ -33,6 +33,7 @@ pub(crate) fn tail_at(arena: &Arena, corner: Corner) -> u32
 }
 
 /// Puts `half`, which is loose, before the half-edge of a corner, or into the corner's loop if it is lone.
+#[tactic(auto, using(euler_operators::proofs::Common::in_no_loop))]
 #[inline(always)]
 pub(crate) fn put_at(arena: &mut Arena, corner: Corner, half: HalfEdge)
     requires corner { CanTake arena.old.model corner }
