@@ -1,3 +1,4 @@
+#![tactic(auto, using(crate::proofs::Coded::coded, crate::proofs::Coded::flipped, crate::proofs::Known::in_a_loop, euler_operators::proofs::Common::mate_there))]
 //! Half-edges by their codes, for walks that look at many of them: a code is one number to carry and to compare.
 ghost use Rattle.std.specs.Prelude.{◌≡◌, true};
 ghost use Rattle.euler_operators.specs.Common.{mate, after, has_half, round, tail, Sound};

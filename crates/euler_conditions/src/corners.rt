@@ -1,3 +1,4 @@
+#![tactic(auto, using(crate::proofs::Known::filled))]
 //! A corner's number, loop and vertex, and whether what it names is there.
 ghost use Rattle.std.specs.Prelude.{◌≡◌, true, [], ◌∷◌};
 ghost use Rattle.euler_operators.specs.Common.{content, corner_number, corner_known, corner_lone, corner_tail, corner_loop, is_lone, first_refusal, verdict};

@@ -1,3 +1,4 @@
+#![tactic(auto, using(euler_laws::proofs::Common::half_of, euler_laws::proofs::Common::of_half, euler_laws::proofs::Common::half_after, euler_operators::proofs::Common::loop_there, crate::proofs::Known::in_a_loop, crate::proofs::Known::mate_edge, crate::proofs::Known::same_test))]
 //! A half-edge's mate, vertex, next item, loop and face, and whether two are the same.
 ghost use Rattle.std.specs.Prelude.{◌≡◌, true, nat_eq};
 ghost use Rattle.euler_operators.specs.Common.{code, mate, after, tail, loop_of, face_at};

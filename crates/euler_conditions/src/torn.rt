@@ -42,6 +42,7 @@ fn leads_out(arena: &Arena, listed_faces: &FaceList, h: HalfEdge) -> bool
 }
 
 /// Whether an edge of the loop leads to a face that isn't listed.
+#[tactic(auto, using(crate::proofs::Known::filled, euler_laws::proofs::Common::of_half))]
 fn loop_leads_out(arena: &Arena, listed_faces: &FaceList, l: u32) -> bool
     requires ready { IsReady arena.now }
     requires there { has_number arena.now Kind.Loop l ≡ true }

@@ -3,9 +3,6 @@ use Rattle.euler_conditions.proofs.Known.{in_a_loop}
 use Rattle.euler_conditions.proofs.Coded.{coded, edge_fits}
 use Rattle.euler_conditions.proofs.codes.next_code.Goals as goal
 
-pub next-requires : goal.next-requires
-next-requires c = ap (has_half c.args.arena.now.model) (coded c.of_code.result c.args.code c.of_code.ensures) ∙ c.requires.there
-
 -- what the arena tells is the next item, and it is there
 leads : (c : goal.After-next) → code c.next.result ≡ after c.args.arena.now.model c.args.code
 leads c =
@@ -17,9 +14,6 @@ goes c = let M = c.args.arena.now.model in subst (HasHalf M) (sym (leads c)) (ha
 
 pub code-requires : goal.code-requires
 code-requires c = edge_fits c.args.arena.now.model c.requires.sound c.next.result (goes c)
-
-pub returns-clause-next : goal.returns-clause-next
-returns-clause-next c = c.code.ensures ∙ leads c.before
 
 pub returns-clause-there : goal.returns-clause-there
 returns-clause-there c = ap (has_half c.args.arena.now.model) c.code.ensures ∙ goes c.before

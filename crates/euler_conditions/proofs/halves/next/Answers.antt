@@ -2,14 +2,6 @@ use Rattle.euler_conditions.proofs.Prelude.{◌≡◌, subst, sym, code, after, 
 use Rattle.euler_conditions.proofs.Known.{in_a_loop}
 use Rattle.euler_conditions.proofs.halves.next.Goals as goal
 
-pub next-requires : goal.next-requires
-next-requires c = half_of c.args.arena.now.model c.args.h c.requires.there
-
-pub returns-clause-next : goal.returns-clause-next
-returns-clause-next c =
-    let M = c.args.arena.now.model in
-    c.next.ensures.in_loop (in_a_loop M c.requires.ready.sound (code c.args.h) (half_of M c.args.h c.requires.there))
-
 pub returns-clause-there : goal.returns-clause-there
 returns-clause-there c =
     let M = c.args.arena.now.model in

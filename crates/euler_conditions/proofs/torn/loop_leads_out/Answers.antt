@@ -1,23 +1,13 @@
-use Rattle.euler_conditions.proofs.Prelude.{ℕ, ◌+◌, ◌-◌, sym, subst, ◌∙◌, arith, eqb-true, not-false, eqb-false, code, mate, content, lists, face_at, steps, steps_are, of_half}
-use Rattle.euler_conditions.proofs.Known.{filled}
+use Rattle.euler_conditions.proofs.Prelude.{ℕ, ◌+◌, ◌-◌, sym, subst, ◌∙◌, arith, eqb-true, not-false, eqb-false, code, mate, content, lists, face_at, steps, steps_are}
 use Rattle.euler_conditions.proofs.Around.{HalfRound, round_start, round_closed, round_more, round_ended}
 use Rattle.euler_conditions.proofs.Borders.{ring_has}
 use Rattle.euler_conditions.proofs.torn.loop_leads_out.Goals as goal
-
-pub content-requires-clause-filled : goal.content-requires-clause-filled
-content-requires-clause-filled c = filled c.args.arena.now.model c.requires.ready.sound c.args.l c.requires.there
 
 pub round-init : goal.round-init
 round-init c =
     let M = c.args.arena.now.model in let l = c.args.l in let first : ℕ = code c.in-Ring.first in
     let item = ring_has (content M l) c.in-Ring.first c.in-Ring.ensures in
     subst (HalfRound M c.args.listed_faces.now l first first) (omega arith) (round_start M c.requires.ready.sound c.args.listed_faces.now l first item)
-
-pub leads_out-requires-clause-there : goal.leads_out-requires-clause-there
-leads_out-requires-clause-there c = of_half c.args.arena.now.model c.round.h c.round.invariant.round.there
-
-pub next-h-requires-clause-there : goal.next-h-requires-clause-there
-next-h-requires-clause-there c = of_half c.args.arena.now.model c.round.h c.round.invariant.round.there
 
 pub returns-then-same-clause-within : goal.returns-then-same-clause-within
 returns-then-same-clause-within c =

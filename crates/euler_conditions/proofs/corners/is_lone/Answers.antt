@@ -1,5 +1,0 @@
-use Rattle.euler_conditions.proofs.Known.{filled}
-use Rattle.euler_conditions.proofs.corners.is_lone.Goals as goal
-
-pub content-requires-clause-filled : goal.content-requires-clause-filled
-content-requires-clause-filled c = filled c.args.arena.now.model c.requires.ready.sound c.args.l c.requires.there
