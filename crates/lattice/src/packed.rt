@@ -28,6 +28,7 @@ impl Model for PackedPoint {
 
 impl PackedPoint {
     /// The point, packed.
+    #[tactic(auto, using(crate::proofs::Magnitudes::packed_fits, crate::proofs::Magnitudes::coordinates))]
     pub fn new(p: Point) -> Self
         requires { IsInRange p }
         ensures { result ≡ p }

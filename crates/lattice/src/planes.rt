@@ -94,6 +94,7 @@ fn cut_coordinate(from: i64, to: i64, start: i128, end: i128) -> Option<i64>
 ///
 /// The points are in range and lie strictly on opposite sides; a, b and c are at most 10^9 in magnitude and d at most
 /// 3 * 10^18.
+#[tactic(auto, using(crate::proofs::Coordinates::range_told))]
 pub fn cut_point(plane: Plane, p: Point, q: Point) -> Option<Point>
     requires plane { IsCutPlane plane }
     requires p { IsInRange p }

@@ -75,6 +75,7 @@ fn scaled(a: i128, x: i64) -> i128
 }
 
 /// The sum of the products of the coordinates of p with the numbers of a vector, each at most 10^25 in magnitude.
+#[tactic(auto, using(crate::proofs::Magnitudes::coordinate_held, crate::proofs::Magnitudes::coordinates))]
 pub fn dot(vector: [i128; 3], p: Point) -> i128
     requires vector { IsVectorWithin normal_limit (vector_of vector) }
     requires p { IsInRange p }

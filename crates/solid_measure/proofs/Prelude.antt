@@ -1,6 +1,6 @@
 -- What the proofs here take from elsewhere, passed on from one place. Declares nothing.
 pub use Rattle.euler_laws.proofs.Common.{IsIn-from_listed, Round, all_where-rises, counted_once, half_in, items_apart, items_from_least, listed-from_in, listed_passes, lone_is, met_once, one_solid_round, passes_listed, ring_number, ring_there, round_closed, round_ended, round_more, round_start, steps, steps_are, up_to}
-pub use Rattle.euler_operators.proofs.Common.{IsApart-images, IsIn-map, IsIn_or_not, IsRotation-same, apart_within, coordinate_held, coordinate_is, coordinate_within, coordinates, count-append, count-rotate_to, cycle_there, difference_within, dot_turned, first_is_plus, fits, fits_as, head_canonical, held, held_as, held_is, held_short, least_in, least_le, loop_there, minor_fits, minor_of, minor_within, moved_none, moved_twice, none_moved, plus_row, product_within, rotate_to-rotates, row_some, short_fits, short_is, split_at, sum_told, sum_within, tick_other, tick_same, vector_within}
+pub use Rattle.euler_operators.proofs.Common.{IsApart-images, IsIn-map, IsIn_or_not, IsRotation-same, apart_within, coordinate_held, coordinate_is, coordinate_within, coordinates, count-append, count-rotate_to, cycle_there, difference_within, dot_turned, first_is_plus, fits, fits_as, head_canonical, held, held_as, held_is, held_short, least_in, least_le, loop_there, minor_of, minor_within, moved_none, moved_twice, none_moved, plus_row, product_within, rotate_to-rotates, row_some, short_fits, short_is, split_at, sum_told, sum_within, tick_other, tick_same, vector_within}
 pub use Rattle.euler_operators.specs.Common.{Content, HalfEdge, Has, HasHalf, IsApart, IsIn, IsInRange, IsLoneAt, IsPlane, IsRotation, IsVectorWithin, IsWithin, LoopContent, Model, Plane, Point, Sound, after, before, code, content, count, cross, cycle, cycle_of, direction, dot, edge_of, face_at, faces_of, has, has_half, head_or, is_coordinate, is_lone, is_on, items_of, least, lists, lone, lone_vertex, loop_of, mate, moved, no_point, normal_limit, offset_limit, origin, outer, plus, rings_of, rotate_to, same_point, solid_of, tail, tick}
 unfoldable pub use Rattle.euler_operators.specs.Common.{is_first, point_of}
 pub use Rattle.shapes.proofs.Common.{AreHalves, all_loops_apart, corners_are, different_items, face_of_loop, faces_none, faces_short, half_solid, halves_apart, halves_short, in_some, items_joined, loop_in_solid, loops_apart, loops_none, loops_of_apart, loops_short, loops_to, on_one, on_some, one_leads, only_leads, solid_half, solid_has_loop, solid_loops, solid_loops_apart}

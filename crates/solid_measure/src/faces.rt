@@ -126,6 +126,7 @@ fn frame_plane(frame: Frame) -> Plane
 
 /// The plane of a face with any number of rings and corners. It is a function of its own, so that the code for a short face stays in place.
 #[inline(never)]
+#[tactic(auto, using(crate::proofs::Planes::plane_told))]
 fn long_plane_of(arena: &Arena, f: u32) -> Plane
     requires ready { IsReady arena.now }
     requires there { has_number arena.now Kind.Face f ≡ true }
@@ -137,6 +138,7 @@ fn long_plane_of(arena: &Arena, f: u32) -> Plane
 
 /// The plane through the face's anchor, across its normal.
 #[inline(always)]
+#[tactic(auto, using(crate::proofs::Planes::plane_told))]
 pub(crate) fn plane_of(arena: &Arena, f: u32) -> Plane
     requires ready { IsReady arena.now }
     requires there { has_number arena.now Kind.Face f ≡ true }

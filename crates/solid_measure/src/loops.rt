@@ -95,6 +95,7 @@ pub(crate) fn walk_within(
 
 /// The vector plus the cross products over the half-edges of the loop.
 #[inline(never)]
+#[tactic(auto, using(crate::proofs::Prelude::filled, crate::proofs::Prelude::ring_has))]
 pub(crate) fn loop_added(arena: &Arena, vector: Vector, l: u32) -> Vector
     requires ready { IsReady arena.now }
     requires there { has_number arena.now Kind.Loop l ≡ true }
@@ -148,6 +149,7 @@ fn ring_lies_on(arena: &Arena, plane: Plane, short: Option<ShortPlane>, first: H
 }
 
 /// Whether each vertex on the loop lies on the plane.
+#[tactic(auto, using(crate::proofs::Prelude::filled))]
 pub(crate) fn loop_lies_on(arena: &Arena, plane: Plane, short: Option<ShortPlane>, l: u32) -> bool
     requires ready { IsReady arena.now }
     requires there { has_number arena.now Kind.Loop l ≡ true }
@@ -175,6 +177,7 @@ fn short_ring_lies_on(arena: &Arena, plane: Plane, short: ShortPlane, first: Hal
 
 /// Whether each vertex on the loop lies on the plane; `short` is this plane in 64 bits.
 #[inline(always)]
+#[tactic(auto, using(crate::proofs::Prelude::filled))]
 pub(crate) fn short_loop_lies_on(arena: &Arena, plane: Plane, short: ShortPlane, l: u32) -> bool
     requires ready { IsReady arena.now }
     requires there { has_number arena.now Kind.Loop l ≡ true }

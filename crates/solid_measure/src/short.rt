@@ -18,6 +18,7 @@ pub(crate) struct Swept {
 pub(crate) const NOTHING: Point = Point { x: 0, y: 0, z: 0 };
 
 /// A number of at most 6 * 10^18 in magnitude, plus one number of a cross product.
+#[tactic(auto, using(euler_operators::proofs::Common::minor_fits))]
 fn minor_added(number: i64, a: i64, b: i64, c: i64, d: i64) -> i64
     requires number { IsWithin 6000000000000000000 number }
     requires a { is_coordinate a ≡ true }
@@ -115,6 +116,7 @@ pub(crate) fn short_plane(plane: Plane) -> Option<ShortPlane>
 }
 
 /// A coefficient times a coordinate, at most 2 * 10^18 in magnitude.
+#[tactic(auto, using(crate::proofs::ShortNumbers::scaled_is, crate::proofs::ShortNumbers::scaled_within))]
 fn short_scaled(a: i64, x: i64) -> i64
     requires a { IsWithin 2000000000 a }
     requires x { is_coordinate x ≡ true }
@@ -125,6 +127,7 @@ fn short_scaled(a: i64, x: i64) -> i64
 }
 
 /// The number `a x + b y + c z + d`.
+#[tactic(auto, using(euler_operators::proofs::Common::coordinate_held, euler_operators::proofs::Common::coordinates))]
 pub(crate) fn short_height(short: ShortPlane, p: Point) -> i64
     requires short { IsShort short }
     requires p { IsInRange p }

@@ -37,6 +37,7 @@ fn half_met(arena: &Arena, last: u32, code: u32) -> Met
 }
 
 /// What the half-edges of loop l, in which `first` stands, count for.
+#[tactic(auto, using(crate::proofs::solid_counts_laws::Sums::half_few))]
 fn ring_met(arena: &Arena, l: u32, first: HalfEdge) -> Met
     requires ready { IsReady arena.now }
     requires item { IsIn (code first) (items_of (content arena.now.model l)) }
@@ -60,6 +61,7 @@ fn ring_met(arena: &Arena, l: u32, first: HalfEdge) -> Met
 }
 
 /// What the loop counts for: its vertex if it is lone, else what its half-edges count for.
+#[tactic(auto, using(crate::proofs::Prelude::filled, crate::proofs::Prelude::ring_has, crate::proofs::solid_counts_laws::LoopRounds::lone_counts, crate::proofs::solid_counts_laws::LoopRounds::ring_counts))]
 fn loop_met(arena: &Arena, l: u32) -> Met
     requires ready { IsReady arena.now }
     requires there { has_number arena.now Kind.Loop l ≡ true }
@@ -75,6 +77,7 @@ fn loop_met(arena: &Arena, l: u32) -> Met
 }
 
 /// What the loops of face f, which has so many rings, count for.
+#[tactic(auto, using(crate::proofs::solid_counts_laws::Sums::nothing_together, crate::proofs::solid_counts_laws::FaceSums::all_counted, crate::proofs::solid_counts_laws::FaceSums::bare_face))]
 pub(crate) fn face_met(arena: &Arena, f: u32, rings: u32) -> Met
     requires ready { IsReady arena.now }
     requires there { has_number arena.now Kind.Face f ≡ true }

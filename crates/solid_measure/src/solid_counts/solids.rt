@@ -31,6 +31,7 @@ pub(crate) fn refusal_of_solid(arena: &Arena, s: u32) -> Option<Refusal>
 }
 
 /// What the loops of the solid's faces count for, and how many of them are rings.
+#[tactic(auto, using(crate::proofs::solid_counts_laws::FaceSums::all_counted))]
 fn solid_met(arena: &Arena, s: u32) -> (Met, u32)
     requires { IsReady arena.now }
     ensures met { result.0 ≡ loops_met arena.now.model (loops_in arena.now.model (faces_of arena.now.model s)) }

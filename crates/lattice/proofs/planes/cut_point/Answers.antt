@@ -1,6 +1,6 @@
 use Rattle.std.proofs.Common.{◌∙◌}
 use Rattle.lattice.proofs.Magnitudes.{coordinates}
-use Rattle.lattice.proofs.Coordinates.{can_cut, coordinate_told, range_told, off_x, off_y, off_z, on_all}
+use Rattle.lattice.proofs.Coordinates.{can_cut, coordinate_told, off_x, off_y, off_z, on_all}
 use Rattle.lattice.proofs.planes.cut_point.Goals as goal
 
 pub cut_coordinate-requires : goal.cut_coordinate-requires
@@ -41,6 +41,3 @@ returns-clause-is c =
     let z = coordinate_told c.cut_height-start.ensures c.cut_height-end.ensures p.z q.z ps.2 qs.2 c.cut_coordinate-3.result c.cut_coordinate-3.ensures.is in
     on_all s p q c.cut_coordinate.result c.cut_coordinate-2.result c.cut_coordinate-3.result c.in_ok-cut_coordinate.field-0 c.in_ok-cut_coordinate-2.field-0 c.in_ok-cut_coordinate-3.field-0 x y z
     c.in_ok-cut_coordinate.was c.in_ok-cut_coordinate-2.was c.in_ok-cut_coordinate-3.was c.in_ok-cut_coordinate.ensures.range c.in_ok-cut_coordinate-2.ensures.range c.in_ok-cut_coordinate-3.ensures.range
-
-pub returns-clause-range : goal.returns-clause-range
-returns-clause-range c = range_told c.in_ok-cut_coordinate.field-0 c.in_ok-cut_coordinate-2.field-0 c.in_ok-cut_coordinate-3.field-0 c.in_ok-cut_coordinate.ensures.range c.in_ok-cut_coordinate-2.ensures.range c.in_ok-cut_coordinate-3.ensures.range

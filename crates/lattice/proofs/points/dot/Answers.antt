@@ -1,24 +1,15 @@
 use Rattle.std.proofs.Common.{pos, get_or, ◌∙◌, arith, ◌+ℤ◌}
-use Rattle.lattice.proofs.Magnitudes.{coordinates, coordinate_held, fits, held_within, times_of, made_of, sum_told}
+use Rattle.lattice.proofs.Magnitudes.{coordinates, fits, held_within, times_of, made_of, sum_told}
 use Rattle.lattice.proofs.points.dot.Goals as goal
 
 pub scaled-requires-clause-a : goal.scaled-requires-clause-a
 scaled-requires-clause-a c = held_within _ (get_or c.args.vector 0 (pos 0)) c.requires.vector.0 (omega arith)
 
-pub scaled-requires-clause-x : goal.scaled-requires-clause-x
-scaled-requires-clause-x c = coordinate_held c.args.p.x (coordinates c.args.p c.requires.p).0
-
 pub scaled-requires-2-clause-a : goal.scaled-requires-2-clause-a
 scaled-requires-2-clause-a c = held_within _ (get_or c.args.vector 1 (pos 0)) c.requires.vector.1 (omega arith)
 
-pub scaled-requires-2-clause-x : goal.scaled-requires-2-clause-x
-scaled-requires-2-clause-x c = coordinate_held c.args.p.y (coordinates c.args.p c.requires.p).1
-
 pub scaled-requires-3-clause-a : goal.scaled-requires-3-clause-a
 scaled-requires-3-clause-a c = held_within _ (get_or c.args.vector 2 (pos 0)) c.requires.vector.2 (omega arith)
-
-pub scaled-requires-3-clause-x : goal.scaled-requires-3-clause-x
-scaled-requires-3-clause-x c = coordinate_held c.args.p.z (coordinates c.args.p c.requires.p).2
 
 pub overflow_add-first : goal.overflow_add-first
 overflow_add-first c = (sum_told _ _ 20000000000000000000000000000000000 c.scaled.result c.scaled-2.result c.scaled.ensures.within c.scaled-2.ensures.within (omega arith) (omega arith)).fits

@@ -1,9 +1,6 @@
-use Rattle.solid_measure.proofs.Prelude.{◌∙◌, ap, map, list_all, is_on, code, content, point_of, tail, filled, ring_has, item_of}
+use Rattle.solid_measure.proofs.Prelude.{◌∙◌, ap, map, list_all, is_on, code, content, point_of, tail, ring_has, item_of}
 use Rattle.solid_measure.proofs.FlatFaces.{ring_vertices}
 use Rattle.solid_measure.proofs.loops.loop_lies_on.Goals as goal
-
-pub content-requires-clause-filled : goal.content-requires-clause-filled
-content-requires-clause-filled c = filled c.args.arena.now.model c.requires.ready.sound c.args.l c.requires.there
 
 pub ring_lies_on-requires-clause-there : goal.ring_lies_on-requires-clause-there
 ring_lies_on-requires-clause-there c = let M = c.args.arena.now.model in (item_of M c.requires.ready.sound c.args.l (code c.in-Ring.first) (ring_has (content M c.args.l) c.in-Ring.first c.in-Ring.ensures)).0

@@ -1,9 +1,6 @@
-use Rattle.solid_measure.proofs.Prelude.{refl, arith, minor_fits}
+use Rattle.solid_measure.proofs.Prelude.{refl, arith}
 use Rattle.solid_measure.proofs.ShortNumbers.{held_as, minor_short, sum_fits, sum_short}
 use Rattle.solid_measure.proofs.short.minor_added.Goals as goal
-
-pub overflow_sub-result : goal.overflow_sub-result
-overflow_sub-result c = minor_fits c.args.a c.args.b c.args.c c.args.d c.requires.a c.requires.b c.requires.c c.requires.d
 
 pub overflow_add-result : goal.overflow_add-result
 overflow_add-result c =

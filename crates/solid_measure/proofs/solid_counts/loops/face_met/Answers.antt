@@ -1,11 +1,7 @@
 use Rattle.solid_measure.proofs.Prelude.{sym, ap, subst, ◌∙◌, IsIn, content, loop_in, yielded_in, IsFew, together, loop_met, loops_met}
 use Rattle.euler_operators.specs.Table as table
-use Rattle.solid_measure.proofs.solid_counts_laws.Sums.{nothing_together}
-use Rattle.solid_measure.proofs.solid_counts_laws.FaceSums.{bare_face, parts_few, counted_more, all_counted, face_few}
+use Rattle.solid_measure.proofs.solid_counts_laws.FaceSums.{parts_few, counted_more, face_few}
 use Rattle.solid_measure.proofs.solid_counts.loops.face_met.Goals as goal
-
-pub loops-init : goal.loops-init
-loops-init c = let M = c.args.arena.now.model in nothing_together _ ∙ ap (loops_met M) (c.into_iter-l-iterator.ensures.into_iter_gives ∙ c.loops_of-l-items.ensures)
 
 pub loop_met-requires-in-loops-clause-there : goal.loop_met-requires-in-loops-clause-there
 loop_met-requires-in-loops-clause-there c =
@@ -21,14 +17,3 @@ pub loops-preserved : goal.loops-preserved
 loops-preserved c =
     let M = c.args.arena.now.model in
     counted_more c.loops.sum (loop_met M (content M c.in-Some.l)) _ _ (ap (λ ls. together c.loops.sum (loops_met M ls)) (sym c.in-Some.ensures.steps) ∙ c.loops.invariant) c.together-sum.result (c.together-sum.ensures ∙ ap (together c.loops.sum) c.loop_met-in-loops.ensures)
-
-pub returns : goal.returns
-returns c = all_counted c.loops.sum _ _ c.loops.invariant (ap (loops_met c.args.arena.now.model) c.in-None.ensures.steps.0)
-
-pub loop_met-requires-clause-there : goal.loop_met-requires-clause-there
-loop_met-requires-clause-there c = let M = c.args.arena.now.model in ap (table.has M.loops) c.outer.ensures ∙ (c.requires.ready.sound.outers_there c.args.f c.requires.there).0
-
-pub returns-then-rings-eq0 : goal.returns-then-rings-eq0
-returns-then-rings-eq0 c =
-    let M = c.args.arena.now.model in
-    c.loop_met.ensures ∙ ap (λ l. loop_met M (content M l)) c.outer.ensures ∙ bare_face M c.args.f c.args.rings c.requires.rings c.if-rings-eq0.true

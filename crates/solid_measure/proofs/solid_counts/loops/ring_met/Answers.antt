@@ -1,6 +1,5 @@
-use Rattle.solid_measure.proofs.Prelude.{◌≡◌, ℕ, ◌<◌, length, sym, ap, subst, ◌∙◌, IsIn, code, before, Model, items_of, content, cycle_of, Sound, HasHalf, edge_fits, to_come, item_of, item_there, together, IsFew, halves_met}
+use Rattle.solid_measure.proofs.Prelude.{◌≡◌, ℕ, ◌<◌, length, sym, ap, subst, ◌∙◌, IsIn, code, before, Model, items_of, content, cycle_of, Sound, HasHalf, edge_fits, to_come, item_of, item_there, together, halves_met}
 use Rattle.solid_walks.proofs.TwoWays.{before_after}
-use Rattle.solid_measure.proofs.solid_counts_laws.Sums.{half_few}
 use Rattle.solid_measure.proofs.solid_counts_laws.LoopRounds.{MetRound, met_start, met_few, met_closed, met_more, met_fewer}
 use Rattle.solid_measure.proofs.solid_counts.loops.ring_met.Goals as goal
 
@@ -37,9 +36,6 @@ pub together-sum-requires-clause-a : goal.together-sum-requires-clause-a
 together-sum-requires-clause-a c =
     let M = c.args.arena.now.model in let s = c.requires.ready.sound in let begin : ℕ = c.code-begin.result in
     met_few M s begin (begins M s c.args.l (code c.args.first) begin c.requires.item c.code-begin.ensures).0 c.round.code c.round.sum c.round.invariant.met
-
-pub together-sum-requires-clause-b : goal.together-sum-requires-clause-b
-together-sum-requires-clause-b c = subst IsFew (sym c.half_met.ensures) (half_few c.args.arena.now.model c.round.code)
 
 pub returns-then-code-begin : goal.returns-then-code-begin
 returns-then-code-begin c =

@@ -1,6 +1,6 @@
 use Rattle.solid_measure.proofs.Prelude.{length, sym, ap, subst, ◌∙◌, arith, length-append, IsIn, rings_of, loops_of, loops_in, face_in, yielded_in, rings_in, IsFew, together, loops_met}
 use Rattle.solid_measure.proofs.solid_counts_laws.Sums.{nothing_together, loops-append}
-use Rattle.solid_measure.proofs.solid_counts_laws.FaceSums.{parts_few, counted_more, all_counted, solid_few, rings_few}
+use Rattle.solid_measure.proofs.solid_counts_laws.FaceSums.{parts_few, counted_more, solid_few, rings_few}
 use Rattle.solid_measure.proofs.solid_counts.solids.solid_met.Goals as goal
 
 pub faces-init : goal.faces-init
@@ -39,9 +39,6 @@ faces-preserved c =
           c.together-sum.result (c.together-sum.ensures ∙ ap (together c.faces.sum) c.face_met.ensures);
       rings = omega (arith, c.faces.invariant.rings, ap (λ fs. length (rings_in M fs)) c.in-Some.ensures.steps, c.ring_count-more.ensures, length-append (rings_of M c.in-Some.f) (rings_in M c.next.new.self));
     }
-
-pub returns-clause-met : goal.returns-clause-met
-returns-clause-met c = all_counted c.faces.sum _ _ c.faces.invariant.met (ap (λ fs. loops_met c.args.arena.now.model (loops_in c.args.arena.now.model fs)) c.in-None.ensures.steps.0)
 
 pub returns-clause-rings : goal.returns-clause-rings
 returns-clause-rings c = let M = c.args.arena.now.model in omega (arith, c.faces.invariant.rings, ap (λ fs. length (rings_in M fs)) c.in-None.ensures.steps.0)
