@@ -87,6 +87,7 @@ impl Model for Session {
 
 impl Session {
     /// A session that holds the empty model. If memory is refused, the answer is `AllocError`.
+    #[tactic(auto, using(crate::proofs::Kept::kept_start, crate::proofs::Kept::journal_started))]
     pub fn new(alloc: Global) -> Result<Session, AllocError>
         ensures { IfOk result (λ session. session ≡ new_journal) }
     {
@@ -100,6 +101,7 @@ impl Session {
     }
 
     /// The arena of the model held. It has room for each number that a record names.
+    #[tactic(auto, using(crate::proofs::Seen::held_seen))]
     pub fn arena(&self) -> &Arena
         ensures model { result.now.model ≡ held self.now.machine }
         ensures ready { IsReady result.now }
@@ -117,6 +119,7 @@ impl Session {
     }
 
     /// How many commands can be undone.
+    #[tactic(auto, using(crate::proofs::Seen::depth_seen))]
     pub fn depth(&self) -> usize
         ensures { result ≡ depth self.now.machine }
     {
@@ -124,6 +127,7 @@ impl Session {
     }
 
     /// How many commands can be redone.
+    #[tactic(auto, using(crate::proofs::Seen::ahead_seen))]
     pub fn ahead(&self) -> usize
         ensures { result ≡ ahead self.now.machine }
     {

@@ -25,6 +25,7 @@ pub(crate) fn replay_all(arena: &mut Arena, ops: &[Op])
 }
 
 /// Applies operators from the last to the first. Each is accepted at its turn and has its room. It takes no memory.
+#[tactic(auto, using(crate::proofs::Turns::accepts_last))]
 pub(crate) fn replay_back(arena: &mut Arena, ops: &[Op])
     requires ready { IsReady arena.old }
     requires accepted { AreAccepted arena.old.model (reverse ops.now) }

@@ -1,11 +1,6 @@
 use Rattle.undo_journal.proofs.Prelude.{refl, sym, subst, ap, ◌∙◌, arith, ◌≡◌, ◌<◌, ◌-◌, List, [], ◌∷◌, length, reverse, take, length-take-le, Op, AreAccepted, Store, AllHaveRoom, all_after}
-use Rattle.undo_journal.proofs.Turns.{accepts_last, others_accepted, others_room, others_after}
+use Rattle.undo_journal.proofs.Turns.{others_accepted, others_room, others_after}
 use Rattle.undo_journal.proofs.steps.replay_back.Goals as goal
-
-pub replay-requires : goal.replay-requires
-replay-requires c =
-    let kept = c.ops.invariant in
-    accepts_last c.ops.arena c.ops.rest.now _ c.in-len1-up.len_at_least c.op-item.is kept.accepted kept.room kept.ready
 
 pub ops-preserved : goal.ops-preserved
 ops-preserved c =

@@ -10,17 +10,11 @@ index-requires c =
 leads : (c : goal.After-index) → LeadsBothWays (model_at c.args.self.now.machine c.args.index) c.index.result.now (model_at c.args.self.now.machine (c.args.index + 1))
 leads c = leads_seen _ _ _ _ c.self.invariant c.self.view_is c.args.index _ (within _ _ _ _ c.self.invariant c.self.view_is c.args.index c.requires) c.index.ensures
 
-pub returns-clause-forward_goes : goal.returns-clause-forward_goes
-returns-clause-forward_goes c = (leads c).forward_goes
-
-pub returns-clause-forward : goal.returns-clause-forward
-returns-clause-forward c = (leads c).forward
-
-pub returns-clause-back_goes : goal.returns-clause-back_goes
-returns-clause-back_goes c = (leads c).back_goes
-
-pub returns-clause-back : goal.returns-clause-back
-returns-clause-back c = (leads c).back
-
-pub returns-clause-exact : goal.returns-clause-exact
-returns-clause-exact c = c.index.ensures ∙ ap (λ (rs : List Record). slice_index_or rs c.args.index c.index.result.now) (records_seen _ _ _ _ c.self.invariant c.self.view_is)
+pub returns : goal.returns
+returns c = let lead = leads c in record {
+  exact = c.index.ensures ∙ ap (λ (rs : List Record). slice_index_or rs c.args.index c.index.result.now) (records_seen _ _ _ _ c.self.invariant c.self.view_is);
+  forward_goes = lead.forward_goes;
+  forward = lead.forward;
+  back_goes = lead.back_goes;
+  back = lead.back;
+}
