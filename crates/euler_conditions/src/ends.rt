@@ -42,6 +42,7 @@ fn met(code: u32, least: u32, other: u32) -> u32
 
 /// The lesser of `least` and the edge of half-edge `other`, if `other` leads to `far` by another edge than that of `code`; otherwise
 /// `least`.
+#[tactic(auto, using(crate::proofs::Prelude::mate_there, crate::proofs::Known::found_then))]
 fn seen(arena: &Arena, code: u32, far: u32, least: u32, other: u32) -> u32
     requires { has_half arena.now.model other ≡ true }
     ensures { result ≡ cond (leads_to arena.now.model code far other) (lesser least (edge_of other)) least }
@@ -55,6 +56,7 @@ fn seen(arena: &Arena, code: u32, far: u32, least: u32, other: u32) -> u32
 
 /// The least other edge with the same two ends, or 0. Such an edge leaves both ends, so a walk round either is enough: the two walks go in
 /// step, and the shorter one ends the search.
+#[tactic(auto, using(crate::proofs::Coded::edge_fits, crate::proofs::Prelude::half_of, crate::proofs::Parallel::mate_there))]
 pub(crate) fn parallel(arena: &Arena, h: HalfEdge) -> u32
     requires ready { IsReady arena.now }
     requires there { has_number arena.now Kind.Edge h.edge ≡ true }

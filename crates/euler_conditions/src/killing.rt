@@ -11,7 +11,7 @@ use euler_operators::{HalfEdge, Kind, Op, Refusal, Why, refused};
 use halfedge_arena::Arena;
 
 /// Whether the solid has one face, which has no ring and whose outer loop has no edge.
-#[tactic(auto, unfolding(euler_operators::specs::Conditions::has_rings))]
+#[tactic(auto, using(crate::proofs::Solids::only_face_there), unfolding(euler_operators::specs::Conditions::has_rings))]
 fn is_bare(arena: &Arena, solid: u32) -> bool
     requires ready { IsReady arena.now }
     requires there { has_number arena.now Kind.Solid solid ≡ true }

@@ -1,18 +1,6 @@
 use Rattle.euler_conditions.proofs.Prelude.{◌≡◌, ℕ, ◌+◌, ◌-◌, sym, ap, ◌∙◌, subst, arith, mate, has_half, tail, parallel, mate-mate, steps, steps_are, half_of}
-use Rattle.euler_conditions.proofs.Coded.{edge_fits}
 use Rattle.euler_conditions.proofs.Parallel.{HalfSeen, walk_start, walk_ended, step_closed, step_more, parallel_turned, mate_there}
 use Rattle.euler_conditions.proofs.ends.parallel.Goals as goal
-
-pub code-code-requires : goal.code-code-requires
-code-code-requires c = let M = c.args.arena.now.model in edge_fits M c.requires.ready.sound c.args.h (half_of M c.args.h c.requires.there)
-
-pub tail_of_code-near-requires : goal.tail_of_code-near-requires
-tail_of_code-near-requires c = let M = c.args.arena.now.model in ap (has_half M) c.code-code.ensures ∙ half_of M c.args.h c.requires.there
-
-pub tail_of_code-far-requires : goal.tail_of_code-far-requires
-tail_of_code-far-requires c =
-    let M = c.args.arena.now.model in
-    mate_there M c.code-code.result c.mate_code-mate.result (ap (has_half M) c.code-code.ensures ∙ half_of M c.args.h c.requires.there) c.mate_code-mate.ensures
 
 pub round-init : goal.round-init
 round-init c =

@@ -3,12 +3,6 @@ use Rattle.euler_operators.specs.Table as table
 use Rattle.euler_conditions.proofs.Solids.{only_face_there}
 use Rattle.euler_conditions.proofs.killing.is_bare.Goals as goal
 
-pub has_rings-requires : goal.has_rings-requires
-has_rings-requires c = only_face_there c.args.arena.now.model c.args.solid c.in-Some.face (sym c.in-Some.ensures)
-
-pub outer-requires : goal.outer-requires
-outer-requires c = only_face_there c.args.arena.now.model c.args.solid c.in-Some.face (sym c.in-Some.ensures)
-
 pub is_lone-requires-clause-there : goal.is_lone-requires-clause-there
 is_lone-requires-clause-there c =
     let M = c.args.arena.now.model in

@@ -1,5 +1,5 @@
-use Rattle.euler_conditions.proofs.Prelude.{Err, true, false, sym, ap, ◌∙◌, err_from_is_err_and}
-use Rattle.euler_conditions.proofs.Borders.{part_refused, part_left, are_faces}
+use Rattle.euler_conditions.proofs.Prelude.{Err, sym, ap, ◌∙◌, err_from_is_err_and}
+use Rattle.euler_conditions.proofs.Borders.{part_refused}
 use Rattle.euler_conditions.proofs.parts.check_part.Goals as goal
 
 pub returns-in_err-parts_known : goal.returns-in_err-parts_known
@@ -7,16 +7,3 @@ returns-in_err-parts_known c =
     let M = c.args.arena.now.model in let s = c.args.solid in let t = c.args.made in let fs = c.args.faces.now in
     let p = err_from_is_err_and c.from_residual.result c.from_residual.ensures.1 in
     p.1 ∙ ap Err p.2 ∙ sym (part_refused M s t fs _ (sym c.parts_known.ensures ∙ c.in_err-parts_known.was))
-
-pub is_bad_part-requires-clause-faces : goal.is_bad_part-requires-clause-faces
-is_bad_part-requires-clause-faces c = are_faces c.args.arena.now.model c.args.solid c.args.made c.args.faces.now (sym c.parts_known.ensures ∙ c.in_ok-parts_known.was)
-
-pub returns-then-is_bad_part : goal.returns-then-is_bad_part
-returns-then-is_bad_part c =
-    let M = c.args.arena.now.model in let s = c.args.solid in let t = c.args.made in let fs = c.args.faces.now in
-    c.refused.ensures ∙ sym (part_left M s t fs true (sym c.parts_known.ensures ∙ c.in_ok-parts_known.was) (sym c.is_bad_part.ensures ∙ c.if-is_bad_part.true))
-
-pub returns : goal.returns
-returns c =
-    let M = c.args.arena.now.model in let s = c.args.solid in let t = c.args.made in let fs = c.args.faces.now in
-    sym (part_left M s t fs false (sym c.parts_known.ensures ∙ c.in_ok-parts_known.was) (sym c.is_bad_part.ensures ∙ c.if-is_bad_part.false))
