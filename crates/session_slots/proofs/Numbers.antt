@@ -1,7 +1,8 @@
 -- What an arena tells of the model that it holds.
 use Rattle.session_slots.proofs.Prelude.{◌≡◌, ℕ, false, [], Option, Some, None, is_some, unwrap_or, true≢false, refl, ap, subst, code, has, Model, LoopContent, LoopRow, no_loop, lone, cycle, HalfEdge, Kind, Solid, Sound, Content, Store, IsNextNumber, store_of, IsItemOf, in-holds}
-use Rattle.session_slots.specs.Common.{IsIn, items_of, content, loop_of, cycle_of}
+use Rattle.session_slots.specs.Common.{items_of, content, loop_of, cycle_of}
 use Rattle.euler_conditions.specs.Store.{Tells}
+use Rattle.euler_conditions.proofs.Borders.{ring_has}
 
 here : (s : Store) (k : Kind) (n : ℕ) (o : Option ℕ) → IsNextNumber s k n o → IsNextNumber (store_of s.model) k n o
 here s Solid n None h = h
@@ -16,13 +17,9 @@ pub ring_item : (c : LoopContent) (h : HalfEdge) → Tells c (Content.Ring h) �
 ring_item (lone v) h e = absurd e
 ring_item (cycle hs) h e = e
 
-in_ring : (c : LoopContent) (h : HalfEdge) → Tells c (Content.Ring h) → IsIn (code h) (items_of c)
-in_ring (lone v) h e = absurd e
-in_ring (cycle hs) h e = e
-
 -- the half-edge that is told stands in the loop, and its cycle is the loop's
 pub told_loop : (M : Model) → Sound M → (l : ℕ) (h : HalfEdge) → Tells (content M l) (Content.Ring h) → loop_of M (code h) ≡ l
-told_loop M sound l h t = sound.one_loop (code h) l (in-holds (code h) (content M l) (in_ring (content M l) h t))
+told_loop M sound l h t = sound.one_loop (code h) l (in-holds (code h) (content M l) (ring_has (content M l) h t))
 
 pub told_cycle : (M : Model) → Sound M → (l : ℕ) (h : HalfEdge) → Tells (content M l) (Content.Ring h) → cycle_of M (code h) ≡ items_of (content M l)
 told_cycle M sound l h t = ap (λ k. items_of (content M k)) (told_loop M sound l h t)

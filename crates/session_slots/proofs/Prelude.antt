@@ -8,7 +8,7 @@ unfoldable pub use Rattle.session_slots.specs.Common.{edge_of}
 pub use Rattle.session_slots.specs.Reading.{AreHalfEdges, AreRound, AreRows, AreTold, row_of}
 pub use Rattle.session_slots.specs.Written.{WritesFrom, WritesOne, laid_at, laid_over}
 pub use Rattle.shapes.proofs.Common.{different_items, halves_short, loops_of_apart}
-pub use Rattle.solid_listing.proofs.Contents.{not_empty, told_there}
+pub use Rattle.solid_listing.proofs.Contents.{told_there}
 pub use Rattle.solid_walks.proofs.face_walks_laws.CycleWalks.{comes_back, cycle_apart, goes_on, item_in, item_there, same_loop, start_is, to_come}
 pub use Rattle.solid_walks.proofs.face_walks_laws.HalfCodes.{code_plus, coded, edge_fits, mate_plus, plus_there}
 pub use Rattle.std.proofs.Common.{Bool, Err, IsSome, List, None, Ok, Option, Some, [], ap, append-nil, append_assoc, arith, cond, false, get_or, inl, inr, is_some, length, length-append, map, map-id, refl, slice_set, subst, suc, sym, true, true≢false, unwrap_or, zero, ℕ, ◌*◌, ◌++◌, ◌+◌, ◌-◌, ◌<◌, ◌∙◌, ◌∷◌, ◌≡◌, ◌≢◌, ◌≤◌, ◌⊎◌}

@@ -1,6 +1,6 @@
 -- The definitions that proofs, contracts and the crates above cite, passed on from one place. Declares nothing.
 pub mod Below
-pub use Rattle.session_slots.specs.Common.Below.{Answer, Call, Change, Command, Content, Console, Counters, EdgeRow, HalfEdge, Hears, IsIn, IsNextNumber, IsNew, Kind, LoopContent, LoopRow, Makes, Model, Op, Question, Refusal, Slot, Solid, Sound, Spoken, Stage, Store, Taken, Tells, Told, UnlessLacking, act_of, answer, answer_after, asked, cycle, cycle_of, face_refusal, gives, has, has_half, is_draft, items_of, lacks, lacks_said, lone, minus, no_loop, plus, redos, shown, spoken, steps_in, taken_of, tells, told_of, undos}
+pub use Rattle.session_slots.specs.Common.Below.{Answer, Call, Change, Command, Content, Console, Counters, EdgeRow, HalfEdge, Hears, IsNextNumber, IsNew, Kind, LoopContent, LoopRow, Makes, Model, Op, Question, Refusal, Slot, Solid, Sound, Spoken, Stage, Store, Taken, Tells, Told, UnlessLacking, act_of, answer, answer_after, asked, cycle, cycle_of, face_refusal, gives, has, has_half, is_draft, items_of, lacks, lacks_said, lone, minus, no_loop, plus, redos, shown, spoken, steps_in, taken_of, tells, told_of, undos}
 unfoldable pub use Rattle.session_slots.specs.Common.Below.{code, content, edge_of, loop_of, solid_of, tail, taken_in}
 pub use Rattle.session_slots.specs.Answered.{counts_in, fault_in, joined, joined_plane, plane_in, refusal_in, status_of, volume_in}
 pub use Rattle.session_slots.specs.Arguments.{polygon_of}

@@ -1,10 +1,10 @@
-use Rattle.session_slots.proofs.Prelude.{◌∙◌, sym, ap, subst, content, loop_of, cycle_of, HasHalf, not_empty, told_there, edge_fits}
+use Rattle.session_slots.proofs.Prelude.{◌∙◌, sym, ap, subst, content, loop_of, cycle_of, HasHalf, filled, told_there, edge_fits}
 use Rattle.session_slots.proofs.Numbers.{told_cycle, told_loop, lone_items}
 use Rattle.session_slots.proofs.Overlaid.{writes_none, writes_from}
 use Rattle.session_slots.proofs.cycles.write_loop.Goals as goal
 
 pub content-requires-clause-filled : goal.content-requires-clause-filled
-content-requires-clause-filled g c = not_empty c.args.arena.now.model c.requires.sound c.args.l c.requires.there
+content-requires-clause-filled g c = filled c.args.arena.now.model c.requires.sound c.args.l c.requires.there
 
 pub code-requires : goal.code-requires
 code-requires g c =
