@@ -1,5 +1,5 @@
 -- What an arena tells of a loop.
-use Rattle.solid_listing.proofs.Prelude.{◌≡◌, ◌≢◌, ℕ, [], map, refl, sym, ap, ◌∙◌, IsIn, HalfEdge, code, Model, LoopContent, lone, cycle, items_of, content, cycle_of, Sound, Has, HasHalf, in-holds}
+use Rattle.solid_listing.proofs.Prelude.{◌≡◌, ℕ, map, refl, sym, ap, ◌∙◌, IsIn, HalfEdge, code, Model, LoopContent, lone, cycle, items_of, content, cycle_of, Sound, HasHalf, in-holds}
 use Rattle.euler_operators.specs.declared.Content.TheVariants as Content
 use Rattle.euler_conditions.specs.Store.{Tells}
 use Rattle.solid_listing.specs.Listing.{content_words, half_word}
@@ -13,10 +13,6 @@ ring_told (lone v) h e = absurd e
 ring_told (cycle hs) h e = (e, refl)
 
 module _ (M : Model) (sound : Sound M) (l : ℕ) where
-  -- no loop is empty
-  pub not_empty : Has M.loops l → content M l ≢ cycle []
-  not_empty there e = (sound.cycles l [] there e).some_item refl
-
   -- the half-edge that is told stands in the loop
   pub told_there : (h : HalfEdge) → Tells (content M l) (Content.Ring h) → HasHalf M (code h)
   told_there h t = sound.only_edges (code h) l (in-holds (code h) (content M l) (ring_told (content M l) h t).0)

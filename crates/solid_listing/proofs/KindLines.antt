@@ -1,8 +1,8 @@
 -- The lines of a model tell the numbers of each kind and the line of each number.
-use Rattle.solid_listing.proofs.Prelude.{◌≡◌, ℕ, Bool, true, false, cond, ◌||◌, nat_eq, List, [], ◌∷◌, ◌++◌, map, refl, sym, ap, ◌∙◌, true≢false, inl, inr, append-nil, decimal, eqb_tells, decimal_injective, Kind, Solid, Face, Loop, Edge, Vertex, Model, Sound, numbers_of, member}
+use Rattle.solid_listing.proofs.Prelude.{◌≡◌, ℕ, Bool, true, false, cond, ◌||◌, nat_eq, List, [], ◌∷◌, ◌++◌, map, refl, sym, ap, ◌∙◌, true≢false, inl, inr, append-nil, decimal, eqb_tells, Kind, Solid, Face, Loop, Edge, Vertex, Model, numbers_of, member}
 use Rattle.solid_listing.specs.Listing.{line, kind_lines, lines}
 use Rattle.solid_listing.proofs.Parsing.{Line}
-use Rattle.solid_listing.proofs.Lines.{here, is_used, later, member_used, small}
+use Rattle.solid_listing.proofs.Lines.{here, later}
 
 -- the letter with which the lines of a kind begin
 abbrev letter : Kind → ℕ
@@ -63,8 +63,11 @@ unfolding part
 kind_told M Solid = select_lines M (letter Solid) ∙ append-nil (kind_lines M Solid)
 kind_told M k = select_lines M (letter k) ∙ append-nil (kind_lines M k)
 
+pub maps_same : (M N : Model) → lines M ≡ lines N → (k : Kind) → map (line M k) (numbers_of M k) ≡ map (line N k) (numbers_of N k)
+maps_same M N same k = sym (kind_told M k) ∙ ap (select (letter k)) same ∙ kind_told N k
+
 -- a line tells its number
-number_told : (M N : Model) (k : Kind) (n m : ℕ) → line M k n ≡ line N k m → decimal n ≡ decimal m
+pub number_told : (M N : Model) (k : Kind) (n m : ℕ) → line M k n ≡ line N k m → decimal n ≡ decimal m
 number_told M N Solid n m e = cc e
 number_told M N k n m e = cc e
 
@@ -79,7 +82,7 @@ same_numbers f g (n ∷ ns) (m ∷ ms) key e =
     λ i. first i ∷ rest i
 same_numbers f g ns ms key e = cc
 
-agree : {A : Type 0} (f g : ℕ → A) (ns : List ℕ) → map f ns ≡ map g ns → (n : ℕ) → member n ns ≡ true → f n ≡ g n
+pub agree : {A : Type 0} (f g : ℕ → A) (ns : List ℕ) → map f ns ≡ map g ns → (n : ℕ) → member n ns ≡ true → f n ≡ g n
 agree f g [] e n m = absurd (true≢false (sym m))
 agree f g (k ∷ ks) e n m =
     let p : f k ≡ g k = cc in
@@ -88,20 +91,3 @@ agree f g (k ∷ ks) e n m =
       | inl same ↦ ap f same.1 ∙ p ∙ ap g (sym same.1)
       | inr other ↦ agree f g ks q n (sym (ap (λ b. b || member n ks) other.0) ∙ m)
     ]
-
-module _ (M N : Model) (one : Sound M) (two : Sound N) (same : lines M ≡ lines N) where
-  maps_same : (k : Kind) → map (line M k) (numbers_of M k) ≡ map (line N k) (numbers_of N k)
-  maps_same k = sym (kind_told M k) ∙ ap (select (letter k)) same ∙ kind_told N k
-
-  numbers_told : (k : Kind) → numbers_of M k ≡ numbers_of N k
-  numbers_told k = same_numbers (line M k) (line N k) (numbers_of M k) (numbers_of N k)
-      (λ n m a b e. decimal_injective n m (small M one k n (sym (member_used M k n) ∙ a)) (small N two k m (sym (member_used N k m) ∙ b)) (number_told M N k n m e))
-      (maps_same k)
-
-  -- the numbers in use are the same
-  pub used_told : (k : Kind) (n : ℕ) → is_used M k n ≡ is_used N k n
-  used_told k n = sym (member_used M k n) ∙ ap (member n) (numbers_told k) ∙ member_used N k n
-
-  -- and the line of each
-  pub line_told : (k : Kind) (n : ℕ) → is_used M k n ≡ true → line M k n ≡ line N k n
-  line_told k n there = agree (line M k) (line N k) (numbers_of M k) (maps_same k ∙ ap (map (line N k)) (sym (numbers_told k))) n (member_used M k n ∙ there)

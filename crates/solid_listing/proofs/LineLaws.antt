@@ -25,7 +25,3 @@ pub line_parts : (w : List ℕ) (vs ws : List (List ℕ)) → line_text (w ∷ (
 line_parts w vs ws =
     ap (λ (t : List ℕ). w ++ t) (ap (λ (t : List ℕ). t ++ 10 ∷ []) (spaced-append vs ws) ∙ append_assoc (spaced vs) (spaced ws) (10 ∷ []))
     ∙ sym (append_assoc w (spaced vs) (spaced ws ++ 10 ∷ []))
-
--- a word with the space behind it in one piece, and the last word with the newline in another
-pub last_pieces : (v w : List ℕ) → (v ++ 32 ∷ []) ++ (w ++ 10 ∷ []) ≡ (v ++ (32 ∷ (w ++ []))) ++ 10 ∷ []
-last_pieces v w = append_assoc v (32 ∷ []) (w ++ 10 ∷ []) ∙ ap (λ (t : List ℕ). v ++ (32 ∷ (t ++ 10 ∷ []))) (sym (append-nil w)) ∙ sym (append_assoc v (32 ∷ (w ++ [])) (10 ∷ []))

@@ -1,9 +1,9 @@
 -- A listing tells all of a sound model.
-use Rattle.solid_listing.proofs.Prelude.{◌≡◌, ℕ, Bool, true, false, cond, ◌&&◌, not, nat_eq, List, [], ◌∷◌, map, codes, Option, Some, None, is_some, refl, sym, ap, ◌∙◌, arith, true≢false, inl, inr, decimal, nat_tests, eqb_tells, decimal_injective, signed_decimal_injective, signed_decimal, Point, is_coordinate, is_in_range, Kind, Solid, Face, Loop, Edge, Vertex, plus, minus, edge_of, is_first, Table, get, has, numbers, same_table, Model, LoopContent, lone, cycle, solid_of, outer, face_of, content, tail, point_of, rings_of, Sound, Has, content_row, face_row, solid_row, outer_row, point_row, plus_tail_row, minus_tail_row, and_first, and_second, text_of, line, content_words, half_word, lines, or_empty, listing, member, member_rings}
+use Rattle.solid_listing.proofs.Prelude.{◌≡◌, ℕ, Bool, true, false, cond, ◌&&◌, not, nat_eq, List, [], ◌∷◌, map, codes, Option, Some, None, is_some, refl, sym, ap, ◌∙◌, arith, true≢false, inl, inr, decimal, nat_tests, eqb_tells, decimal_injective, signed_decimal_injective, signed_decimal, Point, is_coordinate, is_in_range, Kind, Solid, Face, Loop, Edge, Vertex, plus, minus, edge_of, is_first, Table, get, has, numbers, same_table, Model, LoopContent, lone, cycle, solid_of, outer, face_of, content, tail, point_of, rings_of, Sound, Has, content_row, face_row, solid_row, outer_row, point_row, plus_tail_row, minus_tail_row, and_first, and_second, text_of, line, content_words, half_word, lines, numbers_of, or_empty, listing, member, member_rings}
 use Rattle.solid_listing.proofs.Parsing.{Word, Line, is_good, are_good, parsed, parsed_text, parsed_one}
 use Rattle.solid_listing.proofs.Words.{coordinate_small, half_told}
-use Rattle.solid_listing.proofs.Lines.{is_used, lines_good, small, ring_there, item_there, plus_tail_small, minus_tail_small, point_in_range}
-use Rattle.solid_listing.proofs.KindLines.{line_told, same_numbers, used_told}
+use Rattle.solid_listing.proofs.Lines.{is_used, lines_good, member_used, small, ring_there, item_there, plus_tail_small, minus_tail_small, point_in_range}
+use Rattle.solid_listing.proofs.KindLines.{agree, maps_same, number_told, same_numbers}
 
 -- from texts to lines
 read : (ls : List Line) → are_good ls ≡ true → parsed (text_of (or_empty ls)) ≡ or_empty ls
@@ -55,11 +55,18 @@ three true false c e = e
 three false b c e = absurd (true≢false (sym e))
 
 module _ (M N : Model) (one : Sound M) (two : Sound N) (same : lines M ≡ lines N) where
-  used : (kind : Kind) (q : ℕ) → is_used M kind q ≡ is_used N kind q
-  used = used_told M N one two same
+  numbers_told : (k : Kind) → numbers_of M k ≡ numbers_of N k
+  numbers_told k = same_numbers (line M k) (line N k) (numbers_of M k) (numbers_of N k)
+      (λ n m a b e. decimal_injective n m (small M one k n (sym (member_used M k n) ∙ a)) (small N two k m (sym (member_used N k m) ∙ b)) (number_told M N k n m e))
+      (maps_same M N same k)
 
-  told : (kind : Kind) (q : ℕ) → is_used M kind q ≡ true → line M kind q ≡ line N kind q
-  told = line_told M N one two same
+  -- the numbers in use are the same
+  used : (k : Kind) (n : ℕ) → is_used M k n ≡ is_used N k n
+  used k n = sym (member_used M k n) ∙ ap (member n) (numbers_told k) ∙ member_used N k n
+
+  -- and the line of each
+  told : (k : Kind) (n : ℕ) → is_used M k n ≡ true → line M k n ≡ line N k n
+  told k n there = agree (line M k) (line N k) (numbers_of M k) (maps_same M N same k ∙ ap (map (line N k)) (sym (numbers_told k))) n (member_used M k n ∙ there)
 
   solid_told : (f : ℕ) → Has M.faces f → solid_of M f ≡ solid_of N f
   solid_told f there = decimal_injective (solid_of M f) (solid_of N f)

@@ -20,6 +20,7 @@ fn put_half<W: Write>(text: &mut Text, writer: &mut W, h: HalfEdge) -> Result<()
 }
 
 /// Writes the half-edges of a loop, each after a space, beginning at the least one, which is given.
+#[tactic(auto, using(crate::proofs::Prelude::item_there))]
 fn write_from<W: Write>(
     arena: &Arena,
     first: HalfEdge,

@@ -92,6 +92,7 @@ fn write_face<W: Write>(
 }
 
 /// Writes what a loop holds, each word after a space.
+#[tactic(auto, using(euler_conditions::proofs::Known::filled, crate::proofs::Contents::told_there, crate::proofs::Contents::lone_told, crate::proofs::Contents::told_words))]
 fn write_content<W: Write>(
     arena: &Arena,
     l: u32,

@@ -10,6 +10,7 @@ use euler_operators::Kind;
 use std::io::Write;
 
 /// Writes a line for each thing of a kind, by rising number.
+#[tactic(auto, using(crate::proofs::TellingLaws::none_yet, crate::proofs::Walks::from_zero, crate::proofs::TellingLaws::all_told, crate::proofs::Walks::no_number))]
 fn write_kind<W: Write>(
     arena: &Arena,
     kind: Kind,

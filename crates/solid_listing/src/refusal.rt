@@ -90,7 +90,7 @@ fn put_value<W: Write>(
 
 /// Writes the line of a refusal: the number of the condition that is false, and its value.
 #[inline(never)]
-#[tactic(auto, unfolding(crate::specs::Replies::reply_text))]
+#[tactic(auto, using(crate::proofs::TellingLaws::tells_as), unfolding(crate::specs::Replies::reply_text))]
 pub fn put_refused<W: Write>(
     text: &mut Text,
     writer: &mut W,

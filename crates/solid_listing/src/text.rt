@@ -32,7 +32,7 @@ pub fn put_spaced<W: Write, I: Integer>(
 }
 
 /// Writes a word and the numbers that follow it.
-#[tactic(auto, using(crate::proofs::TellingLaws::telling))]
+#[tactic(auto, using(crate::proofs::TellingLaws::telling, crate::proofs::LineLaws::spaced_next, crate::proofs::TellingLaws::told_more))]
 pub fn put_words<W: Write, I: Integer>(
     text: &mut Text,
     writer: &mut W,

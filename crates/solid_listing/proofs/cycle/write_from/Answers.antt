@@ -1,4 +1,4 @@
-use Rattle.solid_listing.proofs.Prelude.{◌∙◌, ap, sym, ◌∷◌, map, length, arith, refl, err_from_is_err_and, code, spaced, half_word, outgoing, codes_same, codes_differ, item_there, item_in, from_least, goes_on, comes_back}
+use Rattle.solid_listing.proofs.Prelude.{◌∙◌, ap, sym, ◌∷◌, map, length, arith, refl, err_from_is_err_and, code, spaced, half_word, outgoing, codes_same, codes_differ, item_in, from_least, goes_on, comes_back}
 use Rattle.solid_listing.proofs.TellingLaws.{none_yet, told_more, breaks_inside, all_told}
 use Rattle.solid_listing.proofs.cycle.write_from.Goals as goal
 
@@ -16,9 +16,6 @@ returns-in_err-put_half g c =
     let d = outgoing (g.W.Write.contents c.put_half.new.writer) c.put_half.new.text in
     let p = err_from_is_err_and c.from_residual.result c.from_residual.ensures.1 in
     rw p.1 (breaks_inside _ _ d _ _ _ (32 ∷ half_word (code c.round.at)) c.round.invariant.written c.in_err-put_half.ensures refl)
-
-pub next-at-requires : goal.next-at-requires
-next-at-requires g c = item_there c.args.arena.now.model c.requires.sound (code c.args.first) c.requires.there (code c.round.at) c.round.invariant.at_in
 
 pub returns-then-eq : goal.returns-then-eq
 returns-then-eq g c =

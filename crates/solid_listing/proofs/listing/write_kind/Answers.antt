@@ -1,10 +1,7 @@
-use Rattle.solid_listing.proofs.Prelude.{ap, sym, map, length, arith, err_from_is_err_and, line_text, text_of, line, outgoing}
-use Rattle.solid_listing.proofs.Walks.{next_number, no_number, from_zero}
-use Rattle.solid_listing.proofs.TellingLaws.{none_yet, told_more, breaks_inside, all_told}
+use Rattle.solid_listing.proofs.Prelude.{ap, map, length, arith, err_from_is_err_and, line_text, text_of, line, outgoing}
+use Rattle.solid_listing.proofs.Walks.{next_number}
+use Rattle.solid_listing.proofs.TellingLaws.{told_more, breaks_inside}
 use Rattle.solid_listing.proofs.listing.write_kind.Goals as goal
-
-pub loop-n-init : goal.loop-n-init
-loop-n-init g c = none_yet _ _ _ (ap (λ ns. text_of (map (line c.args.arena.now.model c.args.kind) ns)) (sym (from_zero c.args.arena.now.model c.requires c.args.kind)))
 
 pub returns-in_err-write_entry : goal.returns-in_err-write_entry
 returns-in_err-write_entry g c =
@@ -21,6 +18,3 @@ pub loop-n-preserved : goal.loop-n-preserved
 loop-n-preserved g c =
     told_more _ _ _ _ _ _ _ c.loop-n.invariant c.in_ok-write_entry.ensures
     (ap (λ ns. text_of (map (line c.args.arena.now.model c.args.kind) ns)) (next_number c.args.arena.now c.args.kind c.loop-n.above c.in-Some.n c.in-Some.ensures))
-
-pub returns : goal.returns
-returns g c = all_told _ _ _ _ c.loop-n.invariant (ap (λ ns. text_of (map (line c.args.arena.now.model c.args.kind) ns)) (no_number c.args.arena.now c.args.kind c.loop-n.above c.in_default.ensures))
