@@ -52,6 +52,7 @@ pub fn replay(arena: &mut Arena, op: &Op)
 /// numbers have their room, and its effect is the model before. `room` is what `room_op` gave for `op` in this model.
 ///
 /// It takes no memory and always succeeds. Its cost is that of the change.
+#[tactic(auto, using(crate::proofs::Undone::inverse_accepted, crate::proofs::Undone::inverse_back))]
 pub fn apply(arena: &mut Arena, op: &Op, room: MovedFaces) -> Op
     requires accepted { Accepts arena.old op.now }
     requires listed { room.faces ≡ faces_for arena.old.model op.now }

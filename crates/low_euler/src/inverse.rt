@@ -1,3 +1,4 @@
+#![tactic(auto, using(crate::proofs::Prelude::mekr_holds, crate::proofs::Prelude::kfmrh_goes, crate::proofs::Prelude::mfkrh_goes, crate::proofs::Prelude::ring_in_goes, crate::proofs::Prelude::ring_out_goes, crate::proofs::Prelude::outer_goes_so, crate::proofs::Prelude::merge_goes))]
 //! The operator that takes another one back. It is read from the arena before the other one is applied.
 ghost use Rattle.std.specs.Prelude.{◌≡◌, None};
 ghost use Rattle.euler_operators.specs.Common.{code, first_false, inverse, kev_corner, kev_corner_mate};
@@ -9,6 +10,7 @@ use crate::reading;
 use euler_conditions::{Arena, corner_loop, loop_of, next, same};
 use euler_operators::{Corner, HalfEdge, Kind, Op};
 
+#[tactic(auto, using(crate::proofs::vertex_operators_laws::SolidRows::goes, crate::proofs::vertex_operators_laws::SolidRows::outer_there, crate::proofs::vertex_operators_laws::SolidRows::vertex_there))]
 pub(crate) fn kvfs(arena: &Arena, solid: u32) -> Op
     requires ready { IsReady arena.now }
     requires accepted { first_false arena.now.model (Op.Kvfs solid) ≡ None }
@@ -30,6 +32,7 @@ pub(crate) fn kvfs(arena: &Arena, solid: u32) -> Op
 
 /// The corners at which mev makes the edge again: those of the items after h and after its mate. If only one of these items belongs to
 /// another edge, both corners are that item's. If neither does, both are the corner of the loop, which is lone then.
+#[tactic(auto, using(crate::proofs::Prelude::kev_goes, crate::proofs::Prelude::of_half, crate::proofs::Prelude::mate_edge_there))]
 fn kev_corners(arena: &Arena, h: HalfEdge) -> (Corner, Corner)
     requires ready { IsReady arena.now }
     requires accepted { first_false arena.now.model (Op.Kev h) ≡ None }
@@ -63,6 +66,7 @@ pub(crate) fn kev(arena: &Arena, h: HalfEdge) -> Op
     Op::Mev(first, second, h, killed, point)
 }
 
+#[tactic(auto, using(crate::proofs::Prelude::kef_goes, crate::proofs::Prelude::of_half, crate::proofs::Prelude::mate_edge_there))]
 pub(crate) fn kef(arena: &Arena, h: HalfEdge) -> Op
     requires ready { IsReady arena.now }
     requires accepted { first_false arena.now.model (Op.Kef h) ≡ None }

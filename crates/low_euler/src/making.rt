@@ -20,6 +20,7 @@ pub struct MovedFaces {
 /// Makes the room of one number that has none. On `AllocError` the model is as it was, and no room is lost. It is a function of its own so
 /// that the test for room is compiled into the caller.
 #[inline(never)]
+#[tactic(auto, using(crate::proofs::Made::least, crate::proofs::Prelude::number_fits, crate::proofs::Prelude::on_ok_weaker))]
 fn grow(arena: &mut Arena, number: (Kind, u32)) -> Result<(), AllocError>
     requires { AllFit (number ∷ []) }
     ensures grown { HasGrown arena.old arena.new }

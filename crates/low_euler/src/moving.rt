@@ -8,6 +8,7 @@ use euler_operators::FaceList;
 use std::alloc::{AllocError, Global};
 
 /// The faces of a solid, in rising order. It looks at no other faces.
+#[tactic(auto, using(crate::proofs::Faces::faces_above, crate::proofs::Faces::all_faces))]
 pub(crate) fn faces_of(alloc: Global, arena: &Arena, solid: u32) -> Result<FaceList, AllocError>
     requires { IsReady arena.now }
     ensures listed { IfOk result (λ faces. faces ≡ faces_of arena.now.model solid) }

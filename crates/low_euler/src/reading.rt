@@ -8,6 +8,7 @@ use euler_conditions::{Arena, next, same};
 use euler_operators::{Content, Corner, HalfEdge, Kind};
 
 /// The corner at the item after a half-edge. If that item is `end`, it is the corner of the lone loop l.
+#[tactic(auto, using(crate::proofs::Inverses::half_then))]
 pub(crate) fn corner_after(arena: &Arena, h: HalfEdge, end: HalfEdge, l: u32) -> Corner
     requires ready { IsReady arena.now }
     requires there { has_number arena.now Kind.Edge h.edge ≡ true }

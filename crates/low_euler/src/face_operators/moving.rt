@@ -9,6 +9,7 @@ use euler_conditions::Arena;
 use euler_operators::{FaceList, Kind, Op};
 
 /// Gives each listed face to solid s.
+#[tactic(auto, using(crate::proofs::face_operators_laws::Handing::start))]
 fn give_faces(arena: &mut Arena, faces: &FaceList, s: u32)
     requires there { (f : ℕ) → lists faces.now f ≡ true → has_number arena.old Kind.Face f ≡ true }
     requires room { has_room arena.old Kind.Solid s ≡ true }
@@ -21,6 +22,7 @@ fn give_faces(arena: &mut Arena, faces: &FaceList, s: u32)
 
 /// Moves all faces of solid `gone` to solid `kept`, the least first; then `gone` goes. It looks at these faces, and at the faces of `kept`
 /// whose numbers lie between theirs.
+#[tactic(auto, using(crate::proofs::Merging::merge_ends, crate::proofs::Merging::no_face_left))]
 pub(crate) fn merge(arena: &mut Arena, kept: u32, gone: u32)
     requires { Accepts arena.old (Op.Merge kept gone) }
     ensures { arena.new ≡ after arena.old (Op.Merge kept gone) }

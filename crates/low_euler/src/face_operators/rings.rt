@@ -1,3 +1,4 @@
+#![tactic(auto, using(crate::proofs::Prelude::kfmrh_goes, crate::proofs::Prelude::mfkrh_goes, crate::proofs::Prelude::ring_in_goes, crate::proofs::Prelude::outer_goes_so, crate::proofs::face_operators_laws::Swaps::face_stays))]
 //! Operators on rings and outer loops.
 ghost use Rattle.std.specs.Prelude.{◌≡◌, true};
 ghost use Rattle.euler_conditions.specs.Store.{has_number, set_face};

@@ -11,6 +11,7 @@ use euler_operators::{Corner, HalfEdge, Kind};
 
 /// Makes the edge of `half`, which starts at one vertex and ends at another. Both its half-edges are loose.
 #[inline(always)]
+#[tactic(auto, using(crate::proofs::steps_laws::StoreSteps::put_edge_first, crate::proofs::steps_laws::StoreSteps::put_edge_second))]
 fn put_edge(arena: &mut Arena, half: HalfEdge, start: u32, end: u32)
     requires room { has_room arena.old Kind.Edge half.edge ≡ true }
     requires free { has_number arena.old Kind.Edge half.edge ≡ false }

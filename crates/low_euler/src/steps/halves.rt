@@ -8,6 +8,7 @@ use euler_operators::HalfEdge;
 
 /// Puts `half`, which is loose, before `corner` in its loop.
 #[inline(always)]
+#[tactic(auto, using(crate::proofs::Prelude::in_no_loop))]
 pub(crate) fn put_before(arena: &mut Arena, corner: HalfEdge, half: HalfEdge)
     requires corner { IsStanding arena.old.model (code corner) }
     requires half { IsLoose arena.old (code half) }

@@ -15,6 +15,7 @@ use euler_operators::{Corner, HalfEdge, Op, Point};
 /// The edge's and the vertex's numbers are free and have their room, and the point is in range. It costs as many steps
 /// as half-edges move to the new vertex, takes no memory and never fails.
 #[inline(always)]
+#[tactic(auto, using(crate::proofs::vertex_operators_laws::Corners::lone_accepts, crate::proofs::vertex_operators_laws::Corners::never_mixed, crate::proofs::vertex_operators_laws::Corners::lone_after))]
 pub(crate) fn mev(
     arena: &mut Arena,
     first: Corner,
@@ -37,6 +38,7 @@ pub(crate) fn mev(
 
 /// At a lone loop.
 #[inline(always)]
+#[tactic(auto, using(crate::proofs::vertex_operators_laws::LoneSteps::goes))]
 fn mev_lone(arena: &mut Arena, l: u32, half: HalfEdge, vertex: u32, point: Point)
     requires { Accepts arena.old (Op.Mev (Corner.Lone l) (Corner.Lone l) half vertex point) }
     ensures { arena.new ≡ after arena.old (Op.Mev (Corner.Lone l) (Corner.Lone l) half vertex point) }
@@ -48,6 +50,7 @@ fn mev_lone(arena: &mut Arena, l: u32, half: HalfEdge, vertex: u32, point: Point
 
 /// At two half-edges of one vertex.
 #[inline(always)]
+#[tactic(auto, using(crate::proofs::vertex_operators_laws::CornerSteps::goes))]
 fn mev_at(
     arena: &mut Arena,
     from: HalfEdge,

@@ -9,6 +9,7 @@ use euler_operators::{Op, Point};
 /// Makes a solid with one face, whose outer loop is lone at a new vertex. The four numbers are free and have their
 /// room, and the point is in range. It costs the same in every model, takes no memory and never fails.
 #[inline(always)]
+#[tactic(auto, using(crate::proofs::Prelude::mvfs_goes, crate::proofs::vertex_operators_laws::SolidRows::was_begun))]
 pub(crate) fn mvfs(arena: &mut Arena, solid: u32, face: u32, outer: u32, vertex: u32, point: Point)
     requires { Accepts arena.old (Op.Mvfs solid face outer vertex point) }
     ensures { arena.new ≡ after arena.old (Op.Mvfs solid face outer vertex point) }
@@ -23,6 +24,7 @@ pub(crate) fn mvfs(arena: &mut Arena, solid: u32, face: u32, outer: u32, vertex:
 /// Kills a solid that has one face, no ring and a lone outer loop, and with it the face, the loop and its vertex.
 /// It costs the same in every model, takes no memory and never fails.
 #[inline(always)]
+#[tactic(auto, using(crate::proofs::vertex_operators_laws::SolidRows::outer_there, crate::proofs::vertex_operators_laws::SolidRows::vertex_there))]
 pub(crate) fn kvfs(arena: &mut Arena, solid: u32)
     requires { Accepts arena.old (Op.Kvfs solid) }
     ensures { arena.new ≡ after arena.old (Op.Kvfs solid) }

@@ -1,21 +1,7 @@
-use Rattle.low_euler.proofs.Prelude.{ap, ◌∙◌, kef_goes, of_half, mate_edge_there}
+use Rattle.low_euler.proofs.Prelude.{ap, ◌∙◌}
 use Rattle.euler_operators.specs.Table as table
 use Rattle.low_euler.proofs.Inverses.{half_then, kef_inverse}
 use Rattle.low_euler.proofs.inverse.kef.Goals as goal
-
-pub loop_of-killed-requires-clause-there : goal.loop_of-killed-requires-clause-there
-loop_of-killed-requires-clause-there c =
-    let M = c.args.arena.now.model in mate_edge_there M c.args.h c.mate-mate.result c.mate-mate.ensures (of_half M c.args.h (kef_goes M c.args.h c.requires.accepted).h_there)
-
-pub next-first-requires-clause-there : goal.next-first-requires-clause-there
-next-first-requires-clause-there c =
-    let M = c.args.arena.now.model in mate_edge_there M c.args.h c.mate-mate.result c.mate-mate.ensures (of_half M c.args.h (kef_goes M c.args.h c.requires.accepted).h_there)
-
-pub next-second-requires-clause-there : goal.next-second-requires-clause-there
-next-second-requires-clause-there c = of_half c.args.arena.now.model c.args.h (kef_goes c.args.arena.now.model c.args.h c.requires.accepted).h_there
-
-pub in_use-requires : goal.in_use-requires
-in_use-requires c = of_half c.args.arena.now.model c.args.h (kef_goes c.args.arena.now.model c.args.h c.requires.accepted).h_there
 
 pub in_use-requires-2 : goal.in_use-requires-2
 in_use-requires-2 c = ap (table.has _) c.face_of-face.ensures ∙ c.requires.ready.sound.loops_of_faces _ c.loop_of-killed.ensures.there

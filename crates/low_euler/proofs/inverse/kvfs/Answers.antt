@@ -1,4 +1,4 @@
-use Rattle.low_euler.proofs.Prelude.{is_some, true≢false, sym, ap, ◌∙◌, content, is_lone, lone_vertex}
+use Rattle.low_euler.proofs.Prelude.{is_some, true≢false, sym, ap, ◌∙◌, content, is_lone}
 use Rattle.euler_operators.specs.Table as table
 use Rattle.low_euler.proofs.vertex_operators_laws.SolidRows as rows
 use Rattle.low_euler.proofs.Inverses.{kvfs_inverse}
@@ -10,33 +10,12 @@ unreachable-requires c = true≢false (sym (rows.has_one_face c.args.arena.now.m
 pub outer-outer-requires : goal.outer-outer-requires
 outer-outer-requires c = (rows.goes _ _ _ c.requires.ready c.requires.accepted (sym c.only_face.ensures ∙ c.in-Some.is)).f_there
 
-pub lone_vertex-vertex-requires-clause-there : goal.lone_vertex-vertex-requires-clause-there
-lone_vertex-vertex-requires-clause-there c =
-    ap (table.has _) c.outer-outer.ensures ∙ rows.outer_there _ _ _ c.requires.ready c.requires.accepted (sym c.only_face.ensures ∙ c.in-Some.is)
-
 pub lone_vertex-vertex-requires-clause-lone : goal.lone_vertex-vertex-requires-clause-lone
 lone_vertex-vertex-requires-clause-lone c =
     ap (λ l. is_lone (content c.args.arena.now.model l)) c.outer-outer.ensures ∙ ap is_lone (rows.goes _ _ _ c.requires.ready c.requires.accepted (sym c.only_face.ensures ∙ c.in-Some.is)).is_bare
 
-pub point-point-requires : goal.point-point-requires
-point-point-requires c =
-    ap (table.has _) (c.lone_vertex-vertex.ensures ∙ ap (λ l. lone_vertex (content c.args.arena.now.model l)) c.outer-outer.ensures)
-    ∙ rows.vertex_there _ _ _ c.requires.ready c.requires.accepted (sym c.only_face.ensures ∙ c.in-Some.is)
-
 pub in_use-requires : goal.in_use-requires
 in_use-requires c = (rows.goes _ _ _ c.requires.ready c.requires.accepted (sym c.only_face.ensures ∙ c.in-Some.is)).s_there
-
-pub in_use-requires-2 : goal.in_use-requires-2
-in_use-requires-2 c = (rows.goes _ _ _ c.requires.ready c.requires.accepted (sym c.only_face.ensures ∙ c.in-Some.is)).f_there
-
-pub in_use-requires-3 : goal.in_use-requires-3
-in_use-requires-3 c =
-    ap (table.has _) c.outer-outer.ensures ∙ rows.outer_there _ _ _ c.requires.ready c.requires.accepted (sym c.only_face.ensures ∙ c.in-Some.is)
-
-pub in_use-requires-4 : goal.in_use-requires-4
-in_use-requires-4 c =
-    ap (table.has _) (c.lone_vertex-vertex.ensures ∙ ap (λ l. lone_vertex (content c.args.arena.now.model l)) c.outer-outer.ensures)
-    ∙ rows.vertex_there _ _ _ c.requires.ready c.requires.accepted (sym c.only_face.ensures ∙ c.in-Some.is)
 
 pub returns-clause-is : goal.returns-clause-is
 returns-clause-is c =

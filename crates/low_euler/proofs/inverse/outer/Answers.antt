@@ -2,9 +2,6 @@ use Rattle.low_euler.proofs.Prelude.{ap, ◌∙◌, inverse, outer, RingOut, out
 use Rattle.euler_operators.specs.Table as table
 use Rattle.low_euler.proofs.inverse.outer.Goals as goal
 
-pub face_of-home-requires : goal.face_of-home-requires
-face_of-home-requires c = (outer_goes_so _ _ _ c.requires.accepted).l_there
-
 pub outer-old-requires : goal.outer-old-requires
 outer-old-requires c = ap (table.has _) c.face_of-home.ensures ∙ c.requires.ready.sound.loops_of_faces _ (outer_goes_so _ _ _ c.requires.accepted).l_there
 

@@ -1,11 +1,6 @@
 use Rattle.low_euler.proofs.Prelude.{◌++◌, ◌∷◌, [], List, ℕ, sym, ap, subst, ◌∙◌, append_assoc, faces_of, no_cons, both_empty, IsNextFace}
-use Rattle.low_euler.proofs.Faces.{faces_above, next_faces, no_faces, all_faces, all_met}
+use Rattle.low_euler.proofs.Faces.{faces_above, next_faces, no_faces, all_met}
 use Rattle.low_euler.proofs.moving.faces_of.Goals as goal
-
-pub faces-init : goal.faces-init
-faces-init c =
-    let M = c.args.arena.now.model in
-    ap (λ fs. fs ++ faces_above M c.args.solid 0) c.new-faces.ensures ∙ all_faces M c.args.solid c.requires.sound.faces_fit
 
 pub faces-preserved : goal.faces-preserved
 faces-preserved c =

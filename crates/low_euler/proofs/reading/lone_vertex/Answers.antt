@@ -12,9 +12,3 @@ no_ring (cycle hs) h is t = true≢false (sym is)
 
 pub content-requires-clause-filled : goal.content-requires-clause-filled
 content-requires-clause-filled c = λ e. true≢false (sym c.requires.lone ∙ ap is_lone e)
-
-pub returns : goal.returns
-returns c = told _ c.in-Lone.vertex c.in-Lone.ensures
-
-pub unreachable-requires : goal.unreachable-requires
-unreachable-requires c = no_ring _ c.in-Ring.field-0 c.requires.lone c.in-Ring.ensures

@@ -1,10 +1,7 @@
 use Rattle.low_euler.proofs.Prelude.{sym, ap, ◌∙◌, ◌<◌, length, take, arith, Store, set_solid, lists, listed_at}
 use Rattle.euler_operators.specs.Table as table
-use Rattle.low_euler.proofs.face_operators_laws.Handing.{start, step, has_given}
+use Rattle.low_euler.proofs.face_operators_laws.Handing.{step, has_given}
 use Rattle.low_euler.proofs.face_operators.moving.give_faces.Goals as goal
-
-pub faces-init : goal.faces-init
-faces-init c = start c.args.arena.now c.args.s
 
 pub set_solid-requires-clause-there : goal.set_solid-requires-clause-there
 set_solid-requires-clause-there c =

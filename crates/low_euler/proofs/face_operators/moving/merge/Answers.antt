@@ -1,6 +1,6 @@
 use Rattle.low_euler.proofs.Prelude.{◌≡◌, ◌+◌, length, refl, ap, ◌∙◌, subst, arith, Store, set_solid, within, is_face_of, IsNextFace, faces_of, Merge, after, merge_goes}
 use Rattle.euler_operators.specs.Table as table
-use Rattle.low_euler.proofs.Merging.{merge_apart, merge_same, one_less, zero_stays, merge_ends, no_zero_face, no_face_left}
+use Rattle.low_euler.proofs.Merging.{merge_apart, merge_same, one_less, zero_stays, no_zero_face}
 use Rattle.low_euler.proofs.face_operators.moving.merge.Goals as goal
 
 pub faces-init : goal.faces-init
@@ -33,11 +33,3 @@ faces-preserved c =
       room = ap (λ (t : Store). within c.args.kept t.room.solids) c.set_solid.ensures ∙ c.faces.invariant.room;
       there = ap (λ (t : Store). table.has t.model.solids c.args.gone) c.set_solid.ensures ∙ c.faces.invariant.there;
     }
-
-pub returns : goal.returns
-returns c =
-    let s : Store = c.faces.arena in
-    let none = subst (IsNextFace s.model c.args.gone 0) c.in_default.is c.face_after.ensures in
-    c.take_solid.ensures
-    ∙ merge_ends s c.args.kept c.args.gone (no_face_left s.model c.args.gone c.faces.invariant.zero none)
-    ∙ c.faces.invariant.same

@@ -3,21 +3,6 @@ use Rattle.euler_operators.specs.Table as table
 use Rattle.low_euler.proofs.face_operators_laws.Rows.{loop_moved}
 use Rattle.low_euler.proofs.face_operators.rings.kfmrh.Goals as goal
 
-pub outer-ring-requires : goal.outer-ring-requires
-outer-ring-requires c = (kfmrh_goes c.args.arena.now.model c.args.kept c.args.killed c.requires.holds).g_there
-
-pub give_loop-requires-clause-there : goal.give_loop-requires-clause-there
-give_loop-requires-clause-there c =
-    let M = c.args.arena.now.model in
-    ap (table.has M.loops) c.outer-ring.ensures ∙ (c.requires.ready.sound.outers_there c.args.killed (kfmrh_goes M c.args.kept c.args.killed c.requires.holds).g_there).0
-
-pub give_loop-requires-clause-face : goal.give_loop-requires-clause-face
-give_loop-requires-clause-face c = (kfmrh_goes c.args.arena.now.model c.args.kept c.args.killed c.requires.holds).f_there
-
-pub take_face-requires : goal.take_face-requires
-take_face-requires c =
-    ap (λ (s : Store). table.has s.model.faces c.args.killed) c.give_loop.ensures ∙ (kfmrh_goes c.args.arena.now.model c.args.kept c.args.killed c.requires.holds).g_there
-
 pub returns : goal.returns
 unfolding effect kfmrh
 returns c =

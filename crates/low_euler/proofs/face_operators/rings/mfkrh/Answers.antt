@@ -3,24 +3,14 @@ use Rattle.euler_operators.specs.Table as table
 use Rattle.low_euler.proofs.face_operators_laws.Swaps.{loop_given}
 use Rattle.low_euler.proofs.face_operators.rings.mfkrh.Goals as goal
 
-pub face_of-requires : goal.face_of-requires
-face_of-requires c = (mfkrh_goes c.args.arena.now.model c.args.ring c.args.made c.requires.holds).l_there
-
 pub solid_of-solid-requires : goal.solid_of-solid-requires
 solid_of-solid-requires c = ap (table.has _) c.face_of.ensures ∙ c.requires.ready.sound.loops_of_faces _ (mfkrh_goes _ _ _ c.requires.holds).l_there
-
-pub put_face-requires-clause-free : goal.put_face-requires-clause-free
-put_face-requires-clause-free c = ap is_some (mfkrh_goes c.args.arena.now.model c.args.ring c.args.made c.requires.holds).face_free
 
 pub put_face-requires-clause-solid_room : goal.put_face-requires-clause-solid_room
 put_face-requires-clause-solid_room c =
     let M = c.args.arena.now.model in
     let home : Has M.faces c.face_of.result = ap (table.has M.faces) c.face_of.ensures ∙ c.requires.ready.sound.loops_of_faces c.args.ring (mfkrh_goes M c.args.ring c.args.made c.requires.holds).l_there in
     c.has-in_use.ensures.room (c.has-in_use.ensures.used ∙ ap (table.has M.solids) c.solid_of-solid.ensures ∙ c.requires.ready.sound.faces_of_solids c.face_of.result home)
-
-pub give_loop-requires-clause-there : goal.give_loop-requires-clause-there
-give_loop-requires-clause-there c =
-    ap (λ (s : Store). table.has s.model.loops c.args.ring) c.put_face.ensures ∙ (mfkrh_goes c.args.arena.now.model c.args.ring c.args.made c.requires.holds).l_there
 
 pub give_loop-requires-clause-face : goal.give_loop-requires-clause-face
 give_loop-requires-clause-face c =

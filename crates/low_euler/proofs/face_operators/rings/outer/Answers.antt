@@ -1,10 +1,7 @@
 use Rattle.low_euler.proofs.Prelude.{ap, subst, ◌∙◌, face_of, outer, Has, effect, take_outer, Store, set_face, set_outer, outer_goes_so}
 use Rattle.euler_operators.specs.Table as table
-use Rattle.low_euler.proofs.face_operators_laws.Swaps.{swapped, face_stays}
+use Rattle.low_euler.proofs.face_operators_laws.Swaps.{swapped}
 use Rattle.low_euler.proofs.face_operators.rings.outer.Goals as goal
-
-pub face_of-home-requires : goal.face_of-home-requires
-face_of-home-requires c = (outer_goes_so c.args.arena.now.model c.args.ring c.args.face c.requires.holds).l_there
 
 pub outer-old-requires : goal.outer-old-requires
 outer-old-requires c = ap (table.has _) c.face_of-home.ensures ∙ c.requires.ready.sound.loops_of_faces _ (outer_goes_so _ _ _ c.requires.holds).l_there
@@ -17,11 +14,6 @@ give_loop-requires-clause-there c =
     let M = c.args.arena.now.model in
     let home : Has M.faces c.face_of-home.result = ap (table.has M.faces) c.face_of-home.ensures ∙ c.requires.ready.sound.loops_of_faces c.args.ring (outer_goes_so M c.args.ring c.args.face c.requires.holds).l_there in
     ap (λ (s : Store). table.has s.model.loops c.outer-old.result) c.set_outer.ensures ∙ ap (table.has M.loops) c.outer-old.ensures ∙ (c.requires.ready.sound.outers_there c.face_of-home.result home).0
-
-pub give_loop-requires-clause-face : goal.give_loop-requires-clause-face
-give_loop-requires-clause-face c =
-    ap (λ (s : Store). table.has s.model.faces c.args.face) c.set_outer.ensures
-    ∙ face_stays c.args.arena.now c.face_of-home.result c.args.ring c.args.face (outer_goes_so c.args.arena.now.model c.args.ring c.args.face c.requires.holds).f_there
 
 pub returns : goal.returns
 unfolding effect take_outer

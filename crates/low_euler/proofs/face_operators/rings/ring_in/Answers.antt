@@ -2,12 +2,6 @@ use Rattle.low_euler.proofs.Prelude.{sym, ap, ◌∙◌, Table, LoopRow, effect,
 use Rattle.low_euler.proofs.face_operators_laws.Rows.{loop_moved}
 use Rattle.low_euler.proofs.face_operators.rings.ring_in.Goals as goal
 
-pub give_loop-requires-clause-there : goal.give_loop-requires-clause-there
-give_loop-requires-clause-there c = (ring_in_goes c.args.arena.now.model c.args.ring c.args.to c.requires.holds).0.l_there
-
-pub give_loop-requires-clause-face : goal.give_loop-requires-clause-face
-give_loop-requires-clause-face c = (ring_in_goes c.args.arena.now.model c.args.ring c.args.to c.requires.holds).0.f_there
-
 pub returns : goal.returns
 unfolding effect ring_in
 returns c =

@@ -1,13 +1,7 @@
-use Rattle.low_euler.proofs.Prelude.{sym, ap, ◌∙◌, subst, code, mate, plus, minus, edge_of-code, Store, take_edge, IsStanding, take_out}
+use Rattle.low_euler.proofs.Prelude.{sym, ap, ◌∙◌, code, mate, plus, minus, edge_of-code, Store, take_edge, take_out}
 use Rattle.euler_operators.specs.Table as table
 use Rattle.low_euler.proofs.steps_laws.EdgeSteps.{both_out}
 use Rattle.low_euler.proofs.steps.edges.kill_edge.Goals as goal
-
-pub take_out-requires : goal.take_out-requires
-take_out-requires c = subst (IsStanding c.args.arena.now.model) (sym c.mate.ensures) c.requires.mate
-
-pub take_out-requires-2 : goal.take_out-requires-2
-take_out-requires-2 c = subst (λ (t : Store). IsStanding t.model (code c.args.half)) (sym (c.take_out.ensures ∙ ap (take_out c.args.arena.now) c.mate.ensures)) c.requires.half
 
 pub take_edge-requires : goal.take_edge-requires
 take_edge-requires c =

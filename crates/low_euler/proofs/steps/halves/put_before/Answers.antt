@@ -1,9 +1,6 @@
-use Rattle.low_euler.proofs.Prelude.{ap, ◌∙◌, code, in_no_loop, join}
+use Rattle.low_euler.proofs.Prelude.{ap, ◌∙◌, code, join}
 use Rattle.low_euler.proofs.steps_laws.StoreSteps.{join_puts}
 use Rattle.low_euler.proofs.steps.halves.put_before.Goals as goal
-
-pub join_alone-requires-clause-loose : goal.join_alone-requires-clause-loose
-join_alone-requires-clause-loose c = in_no_loop c.args.arena.now.model (code c.args.half) c.requires.half.nowhere
 
 pub returns : goal.returns
 returns c = c.join_alone.ensures ∙ ap (λ p. join c.args.arena.now p (code c.args.half)) (c.prev-last.ensures.in_loop c.requires.corner.looped)

@@ -4,9 +4,6 @@ use Rattle.low_euler.proofs.steps_laws.Tails.{room-tails}
 use Rattle.low_euler.proofs.vertex_operators_laws.CornerSteps as steps
 use Rattle.low_euler.proofs.vertex_operators.edges.mev_at.Goals as goal
 
-pub tail_and_prev-old-requires : goal.tail_and_prev-old-requires
-tail_and_prev-old-requires c = (steps.goes _ _ _ _ _ _ c.requires).g_there
-
 pub move_tails-requires : goal.move_tails-requires
 move_tails-requires c = record {
   sound = c.requires.ready.sound;

@@ -6,9 +6,6 @@ use Rattle.low_euler.proofs.vertex_operators.edges.mev_lone.Goals as goal
 pub lone_vertex-old-requires : goal.lone_vertex-old-requires
 lone_vertex-old-requires c = record { there = (steps.goes _ _ _ _ _ c.requires).loop_there; lone = steps.is_lone_there _ _ _ _ _ c.requires }
 
-pub put_vertex-requires-clause-range : goal.put_vertex-requires-clause-range
-put_vertex-requires-clause-range c = (steps.goes _ _ _ _ _ c.requires).point_fits
-
 pub make_edge-requires : goal.make_edge-requires
 make_edge-requires c =
     let edged = sym (λ i. with_edge (c.put_vertex.ensures i) (code c.args.half) (c.lone_vertex-old.ensures i) c.args.vertex) in

@@ -7,19 +7,8 @@ use Rattle.low_euler.proofs.vertex_operators.solids.kvfs.Goals as goal
 pub outer-outer-requires : goal.outer-outer-requires
 outer-outer-requires c = (rows.goes _ _ _ c.requires.ready c.requires.holds (sym c.only_face.ensures ∙ c.in-Some.is)).f_there
 
-pub lone_vertex-vertex-requires-clause-there : goal.lone_vertex-vertex-requires-clause-there
-lone_vertex-vertex-requires-clause-there c = ap (table.has c.args.arena.now.model.loops) c.outer-outer.ensures ∙ rows.outer_there _ _ _ c.requires.ready c.requires.holds (sym c.only_face.ensures ∙ c.in-Some.is)
-
 pub lone_vertex-vertex-requires-clause-lone : goal.lone_vertex-vertex-requires-clause-lone
 lone_vertex-vertex-requires-clause-lone c = ap (λ l. is_lone (content c.args.arena.now.model l)) c.outer-outer.ensures ∙ ap is_lone (rows.goes _ _ _ c.requires.ready c.requires.holds (sym c.only_face.ensures ∙ c.in-Some.is)).is_bare
-
-pub take_vertex-requires : goal.take_vertex-requires
-take_vertex-requires c =
-    let vertex = c.lone_vertex-vertex.ensures ∙ ap (λ l. lone_vertex (content c.args.arena.now.model l)) c.outer-outer.ensures in
-    ap (table.has c.args.arena.now.model.vertices) vertex ∙ rows.vertex_there _ _ _ c.requires.ready c.requires.holds (sym c.only_face.ensures ∙ c.in-Some.is)
-
-pub take_loop-requires-clause-there : goal.take_loop-requires-clause-there
-take_loop-requires-clause-there c = ap (λ (t : Store). table.has t.model.loops c.outer-outer.result) c.take_vertex.ensures ∙ ap (table.has c.args.arena.now.model.loops) c.outer-outer.ensures ∙ rows.outer_there _ _ _ c.requires.ready c.requires.holds (sym c.only_face.ensures ∙ c.in-Some.is)
 
 pub take_loop-requires-clause-bare : goal.take_loop-requires-clause-bare
 take_loop-requires-clause-bare c =

@@ -3,16 +3,9 @@ use Rattle.euler_operators.specs.Table as table
 use Rattle.low_euler.proofs.vertex_operators_laws.SolidRows.{was_begun, new_loop_there, new_loop_bare, mvfs_made}
 use Rattle.low_euler.proofs.vertex_operators.solids.mvfs.Goals as goal
 
-pub put_vertex-requires-clause-range : goal.put_vertex-requires-clause-range
-put_vertex-requires-clause-range c = (mvfs_goes _ _ _ _ _ _ c.requires.holds).point_fits
-
 pub put_face-requires-clause-free : goal.put_face-requires-clause-free
 put_face-requires-clause-free c =
     ap (λ (t : Store). table.has t.model.faces c.args.face) (c.put_solid.ensures ∙ ap (λ t. put_solid t c.args.solid) c.put_vertex.ensures) ∙ ap is_some (mvfs_goes _ _ _ _ _ _ c.requires.holds).face_free
-
-pub put_loop-requires-clause-free : goal.put_loop-requires-clause-free
-put_loop-requires-clause-free c =
-    ap (λ (t : Store). table.has t.model.loops c.args.outer) (was_begun _ _ _ _ _ _ _ _ _ c.put_vertex.ensures c.put_solid.ensures c.put_face.ensures) ∙ ap is_some (mvfs_goes _ _ _ _ _ _ c.requires.holds).loop_free
 
 pub set_lone-requires : goal.set_lone-requires
 set_lone-requires c =
