@@ -31,6 +31,6 @@ unfoldable pub use Rattle.sweeps_laws.specs.lamina.Path.{lamina_operators}
 pub use Rattle.sweeps_laws.specs.prism.Ready.{Ready, needed_for_sides}
 pub use Rattle.sweeps_laws.specs.prism.SweepOps.{close, close_last, loop_ops, ops_from, raise, raise_item, rounds, taken_after}
 unfoldable pub use Rattle.sweeps_laws.specs.prism.SweepOps.{sweep_ops}
-pub use Rattle.undo_journal.proofs.Marks.{back_at_mark, further_back, further_none, further_on, further_recorded, further_same, further_session, no_steps, step_after, steps_after, steps_make, steps_recorded}
-pub use Rattle.undo_journal.specs.Journal.{DraftJournal, IsFurther, Journal, after_step, after_steps, record_of, recorded}
+pub use Rattle.undo_journal.proofs.Marks.{back_at_mark, further_accepted, further_back, further_none, further_on, further_recorded, further_session, no_steps, step_after, steps_after, steps_make, steps_recorded}
+pub use Rattle.undo_journal.specs.Journal.{DraftJournal, IsFurther, after_step, after_steps, record_of, recorded}
 pub use Rattle.undo_journal.specs.Machine.{accepted, held}

@@ -120,7 +120,7 @@ fn counted_with_base(taken: &Counters) -> Counters
 
 /// Draws a block whose conditions hold: the lamina of its base, and then the sweep of the lamina's first face, whose half-edges are all
 /// known. First it asks for memory for its thirteen steps. If memory is refused, the draft holds what was drawn so far.
-#[tactic(auto, using(undo_journal::proofs::Marks::further_on))]
+#[tactic(auto, using(undo_journal::proofs::Marks::further_on, crate::proofs::BlockSteps::base_goes, crate::proofs::BlockSteps::base_left, undo_journal::proofs::Marks::further_same))]
 fn draw_block(
     draft: &mut Draft,
     taken: &Counters,

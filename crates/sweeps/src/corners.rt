@@ -72,6 +72,7 @@ fn ring_tally(arena: &Arena, shift: Point, h: HalfEdge) -> Tally
 }
 
 /// The tally of the corners of loop l.
+#[tactic(auto, using(euler_conditions::proofs::Known::filled, crate::proofs::Tallies::ring_told))]
 fn loop_tally(arena: &Arena, shift: Point, l: u32) -> Tally
     requires ready { IsReady arena.now }
     requires there { has_number arena.now Kind.Loop l ≡ true }

@@ -155,7 +155,7 @@ pub(crate) fn draw_lamina(
 }
 
 /// A lamina as steps of a draft, as `lamina` makes it, in the draft's model. On any failure the draft is as it was, and goes on.
-#[tactic(auto, using(undo_journal::proofs::Marks::further_none, undo_journal::proofs::Marks::further_back))]
+#[tactic(auto, using(undo_journal::proofs::Marks::further_none, undo_journal::proofs::Marks::further_back, undo_journal::proofs::Marks::back_at_mark))]
 pub fn lamina_in(draft: &mut Draft, solid: u32, points: &ArrayVec<Point, 64>) -> Result<(), Failure>
     ensures ok { OnOk result ((spec.lamina_refusal draft.old.model solid points.now.items ≡ None) × (draft.new.model ≡ lamina_model draft.old.model solid points.now.items)) }
     ensures steps { OnOk result (draft.new ≡ after_steps draft.old (lamina_operators draft.old.model solid points.now.items)) }

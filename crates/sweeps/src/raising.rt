@@ -172,6 +172,7 @@ pub(crate) fn raise_items(
 }
 
 /// Sweeps loop l and answers the counters after it.
+#[tactic(auto, using(crate::proofs::RaisedItems::how_many, undo_journal::proofs::Marks::further_none))]
 fn raise_loop(
     alloc: Global,
     draft: &mut Draft,

@@ -1,5 +1,5 @@
 -- Steps since a mark, taken back.
-use Rattle.undo_journal.proofs.Prelude.{sym, subst, ap, ◌∙◌, ◌≡◌, ℕ, suc, List, [], ◌∷◌, ◌++◌, length, take, drop, reverse, refl, Result, Ok, Err, OnOk, OnErr, None, take-append-drop, take_at, append-nil, append_assoc, reverse-append, Model, Sound, effect, first_false, inverse, Op, effects, AreAccepted, inverses, effects-append, AreAccepted-append, AreAccepted-front, AreAccepted-back, effects_keep_sound, inverses_undo, inverses_go, LeadsBothWays, opened, command_of, held, Record, Journal, DraftJournal, new_draft, after_step, after_steps, after_commit, record_of, recorded, each_inverse, IsMark, IsFurther, IsRecorded, back_at}
+use Rattle.undo_journal.proofs.Prelude.{sym, subst, ap, ◌∙◌, ◌≡◌, ℕ, suc, List, [], ◌∷◌, ◌++◌, length, take, drop, reverse, refl, Result, Ok, Err, OnOk, OnErr, None, take-append-drop, take_at, append-nil, append_assoc, reverse-append, Model, Sound, effect, first_false, inverse, Op, effects, AreAccepted, inverses, effects-append, AreAccepted-append, AreAccepted-front, AreAccepted-back, effects_keep_sound, inverses_undo, inverses_go, LeadsBothWays, opened, command_of, held, accepted, Record, Journal, DraftJournal, new_draft, after_step, after_steps, after_commit, record_of, recorded, each_inverse, IsMark, IsFurther, IsRecorded, back_at}
 
 -- ---- inverses in their order
 
@@ -116,6 +116,13 @@ further_recorded s t d e opened further is =
     let command : Record = record { forward = e.forward; back = reverse e.back } in
     let session = further_session d e further ∙ ap (λ (x : DraftJournal). x.session) opened in
     record { command = command; appended = ap (λ (j : Journal). j.records) is ∙ ap (λ (j : Journal). recorded j command) session }
+
+-- and what it made of the model, on the machine
+pub further_accepted : (s t : Journal) (d e : DraftJournal) (made : Model → Model) → d ≡ new_draft s → IsFurther d e → e.model ≡ made d.model → t ≡ after_commit e → t.machine ≡ accepted s.machine (made (held s.machine))
+further_accepted s t d e made opened further is done =
+    let session = further_session d e further ∙ ap (λ (x : DraftJournal). x.session) opened in
+    let model = is ∙ ap (λ (x : DraftJournal). made x.model) opened in
+    ap (λ (j : Journal). j.machine) done ∙ (λ t. accepted (session t).machine (model t))
 
 -- a draft that was opened, took some steps and was committed leaves the record of these steps
 pub steps_recorded : (s t : Journal) (d e : DraftJournal) (ops : Model → List Op) → d ≡ new_draft s → e ≡ after_steps d (ops d.model) → t ≡ after_commit e → t.records ≡ recorded s (record_of (held s.machine) (ops (held s.machine)))

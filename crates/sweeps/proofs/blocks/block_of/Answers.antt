@@ -1,25 +1,14 @@
-use Rattle.sweeps.proofs.Prelude.{rules, ap, sym, ◌∙◌, taken_in, block_refusal, block_model, block_operators, Journal, DraftJournal, accepted, verdict_passed, further_recorded, further_session, steps_recorded}
+use Rattle.sweeps.proofs.Prelude.{rules, ap, sym, ◌∙◌, taken_in, block_refusal, block_model, block_operators, DraftJournal, verdict_passed, further_accepted, further_recorded, further_session, steps_recorded}
 use Rattle.sweeps.proofs.blocks.block_of.Goals as goal
 
 pub returns-in-Ok-draw_block-clause-ok : goal.returns-in-Ok-draw_block-clause-ok
-returns-in-Ok-draw_block-clause-ok c =
-    let model = c.in-Ok-draw_block.ensures.ok ∙ ap (λ (d : DraftJournal). block_model d.model c.args.solid c.args.corner c.args.size.x c.args.size.y c.args.size.z) c.in-Ok.ensures.ok in
-    let session = further_session _ _ c.in-Ok-draw_block.ensures.further ∙ ap (λ (d : DraftJournal). d.session) c.in-Ok.ensures.ok in (
-      sym (ap (λ M. block_refusal M c.args.solid c.args.corner c.args.size.x c.args.size.y c.args.size.z) c.arena-arena.ensures.model) ∙ verdict_passed _ _ (sym c.in_default.is ∙ c.check_block.ensures),
-      ap (λ (j : Journal). j.machine) c.commit.ensures ∙ (λ t. accepted (session t).machine (model t)),
-    )
+returns-in-Ok-draw_block-clause-ok c = (
+  sym (ap (λ M. block_refusal M c.args.solid c.args.corner c.args.size.x c.args.size.y c.args.size.z) c.arena-arena.ensures.model) ∙ verdict_passed _ _ (sym c.in_default.is ∙ c.check_block.ensures),
+  further_accepted _ _ _ _ (λ M. block_model M c.args.solid c.args.corner c.args.size.x c.args.size.y c.args.size.z) c.in-Ok.ensures.ok c.in-Ok-draw_block.ensures.further c.in-Ok-draw_block.ensures.ok c.commit.ensures,
+)
 
 pub draw_block-requires-clause-taken : goal.draw_block-requires-clause-taken
 draw_block-requires-clause-taken c = c.counters_of-taken.ensures.is ∙ ap taken_in c.arena-arena.ensures.model ∙ sym (ap (λ (d : DraftJournal). taken_in d.model) c.in-Ok.ensures.ok)
-
-pub returns-in-Err-draw_block-clause-ok : goal.returns-in-Err-draw_block-clause-ok
-returns-in-Err-draw_block-clause-ok c = tt
-
-pub returns-in-Err-draw_block-clause-recorded : goal.returns-in-Err-draw_block-clause-recorded
-returns-in-Err-draw_block-clause-recorded c = tt
-
-pub returns-in-Err-draw_block-clause-record : goal.returns-in-Err-draw_block-clause-record
-returns-in-Err-draw_block-clause-record c = tt
 
 pub returns-in-Err-draw_block-clause-err : goal.returns-in-Err-draw_block-clause-err
 returns-in-Err-draw_block-clause-err c = let same = further_session _ _ c.in-Err-draw_block.ensures.further ∙ ap (λ (d : DraftJournal). d.session) c.in-Ok.ensures.ok in search rules

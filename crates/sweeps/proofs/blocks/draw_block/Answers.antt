@@ -1,41 +1,22 @@
-use Rattle.sweeps.proofs.Prelude.{◌≡◌, ℕ, List, ap, arith, length, map, subst, sym, refl, ◌∙◌, on_ok_weaker, Point, code, plus, Model, AreLeft, Taken, numbers_after, taken_in, lamina_refusal, lamina_model, lamina_operators, operators_make_blocks, DraftJournal, after_steps, further_on, further_same, steps_after, steps_make, Counters, taken_of, with_lamina}
-use Rattle.sweeps.proofs.BlockSteps.{corner_fits, base_left, base_goes, block_rises, block_ops}
+use Rattle.sweeps.proofs.Prelude.{◌≡◌, ℕ, List, ap, arith, length, map, subst, sym, refl, ◌∙◌, on_ok_weaker, Point, code, plus, Model, AreLeft, Taken, numbers_after, taken_in, lamina_model, lamina_operators, operators_make_blocks, DraftJournal, after_steps, steps_after, steps_make, Counters, taken_of, with_lamina}
+use Rattle.sweeps.proofs.BlockSteps.{corner_fits, base_left, block_rises, block_ops}
 use Rattle.sweeps.proofs.blocks.draw_block.Goals as goal
 
-pub base-corners-requires-clause-second : goal.base-corners-requires-clause-second
-base-corners-requires-clause-second c = corner_fits _ c.stays_consistent.ensures.model c.args.solid c.args.corner c.args.size.x c.args.size.y c.args.size.z c.requires.accepted 1 (omega arith)
-
-pub base-corners-requires-clause-third : goal.base-corners-requires-clause-third
-base-corners-requires-clause-third c = corner_fits _ c.stays_consistent.ensures.model c.args.solid c.args.corner c.args.size.x c.args.size.y c.args.size.z c.requires.accepted 2 (omega arith)
-
-pub base-corners-requires-clause-fourth : goal.base-corners-requires-clause-fourth
-base-corners-requires-clause-fourth c = corner_fits _ c.stays_consistent.ensures.model c.args.solid c.args.corner c.args.size.x c.args.size.y c.args.size.z c.requires.accepted 3 (omega arith)
+pub base-corners-requires : goal.base-corners-requires
+base-corners-requires c =
+    let fits = corner_fits _ c.stays_consistent.ensures.model c.args.solid c.args.corner c.args.size.x c.args.size.y c.args.size.z c.requires.accepted in
+    record { second = fits 1 (omega arith); third = fits 2 (omega arith); fourth = fits 3 (omega arith) }
 
 pub draw_lamina-requires-clause-few : goal.draw_lamina-requires-clause-few
 draw_lamina-requires-clause-few c = let four = ap length (c.as_slice.ensures ∙ c.base-corners.ensures) in omega (arith, four)
 
-pub draw_lamina-requires-clause-accepted : goal.draw_lamina-requires-clause-accepted
-draw_lamina-requires-clause-accepted c =
-    ap (λ (d : DraftJournal). lamina_refusal d.model c.args.solid c.as_slice.result.now) c.reserve.ensures
-    ∙ base_goes _ c.stays_consistent.ensures.model c.args.solid c.args.corner c.args.size.x c.args.size.y c.args.size.z c.requires.accepted _ (c.as_slice.ensures ∙ c.base-corners.ensures)
-
 left : (M : Model) (k : Counters) → taken_of k ≡ taken_in M → AreLeft (taken_in M) (record { faces = 2; loops = 2; edges = 4; vertices = 4 }) → AreLeft (taken_of k) (record { faces = 2; loops = 2; edges = 4; vertices = 4 })
 left M k is w = subst (λ t. AreLeft t (record { faces = 2; loops = 2; edges = 4; vertices = 4 })) (sym is) w
 
-pub base_items-items-requires : goal.base_items-items-requires
-base_items-items-requires c = (left _ c.args.taken.now c.requires.taken (base_left _ c.stays_consistent.ensures.model c.args.solid c.args.corner c.args.size.x c.args.size.y c.args.size.z c.requires.accepted)).edges
-
-pub counted_with_base-requires-clause-faces : goal.counted_with_base-requires-clause-faces
-counted_with_base-requires-clause-faces c = (left _ c.args.taken.now c.requires.taken (base_left _ c.stays_consistent.ensures.model c.args.solid c.args.corner c.args.size.x c.args.size.y c.args.size.z c.requires.accepted)).faces
-
-pub counted_with_base-requires-clause-loops : goal.counted_with_base-requires-clause-loops
-counted_with_base-requires-clause-loops c = (left _ c.args.taken.now c.requires.taken (base_left _ c.stays_consistent.ensures.model c.args.solid c.args.corner c.args.size.x c.args.size.y c.args.size.z c.requires.accepted)).loops
-
-pub counted_with_base-requires-clause-edges : goal.counted_with_base-requires-clause-edges
-counted_with_base-requires-clause-edges c = (left _ c.args.taken.now c.requires.taken (base_left _ c.stays_consistent.ensures.model c.args.solid c.args.corner c.args.size.x c.args.size.y c.args.size.z c.requires.accepted)).edges
-
-pub counted_with_base-requires-clause-vertices : goal.counted_with_base-requires-clause-vertices
-counted_with_base-requires-clause-vertices c = (left _ c.args.taken.now c.requires.taken (base_left _ c.stays_consistent.ensures.model c.args.solid c.args.corner c.args.size.x c.args.size.y c.args.size.z c.requires.accepted)).vertices
+pub counted_with_base-requires : goal.counted_with_base-requires
+counted_with_base-requires c =
+    let w = left _ c.args.taken.now c.requires.taken (base_left _ c.stays_consistent.ensures.model c.args.solid c.args.corner c.args.size.x c.args.size.y c.args.size.z c.requires.accepted) in
+    record { faces = w.faces; loops = w.loops; edges = w.edges; vertices = w.vertices }
 
 -- what is made of a draft is made of an equal one, by the same steps
 lamina_made : {d e : DraftJournal} {N : Model} (s : ℕ) (ps : List Point) → e ≡ d → N ≡ lamina_model e.model s ps → N ≡ lamina_model d.model s ps
@@ -57,12 +38,3 @@ returns-clause-steps c = on_ok_weaker c.raise_items.result (λ steps.
 pub returns-clause-ok : goal.returns-clause-ok
 returns-clause-ok c = on_ok_weaker c.raise_items.result (λ steps.
     steps_make _ _ _ steps ∙ operators_make_blocks _ c.args.solid c.args.corner c.args.size.x c.args.size.y c.args.size.z c.stays_consistent.ensures.model c.requires.accepted) (returns-clause-steps c)
-
-pub returns-in_err-reserve-clause-further : goal.returns-in_err-reserve-clause-further
-returns-in_err-reserve-clause-further c = further_same _ _ c.reserve.ensures
-
-pub returns-in_err-draw_lamina-clause-further : goal.returns-in_err-draw_lamina-clause-further
-returns-in_err-draw_lamina-clause-further c = further_on _ _ _ (further_same _ _ c.reserve.ensures) c.draw_lamina.ensures.further
-
-pub returns-clause-further : goal.returns-clause-further
-returns-clause-further c = further_on _ _ _ (further_on _ _ _ (further_same _ _ c.reserve.ensures) c.draw_lamina.ensures.further) c.raise_items.ensures.further

@@ -1,4 +1,4 @@
-use Rattle.sweeps.proofs.Prelude.{rules, ap, sym, ◌∙◌, taken_in, lamina_refusal, lamina_model, lamina_operators, Journal, DraftJournal, after_steps, accepted, verdict_passed, further_recorded, further_session, steps_recorded}
+use Rattle.sweeps.proofs.Prelude.{rules, ap, sym, ◌∙◌, taken_in, lamina_refusal, lamina_model, lamina_operators, DraftJournal, after_steps, verdict_passed, further_accepted, further_recorded, further_session, steps_recorded}
 use Rattle.sweeps.proofs.laminas.lamina.Goals as goal
 
 pub draw_lamina-requires-clause-accepted : goal.draw_lamina-requires-clause-accepted
@@ -8,10 +8,9 @@ draw_lamina-requires-clause-accepted c =
 
 pub returns-in-Ok-draw_lamina-clause-ok : goal.returns-in-Ok-draw_lamina-clause-ok
 returns-in-Ok-draw_lamina-clause-ok c =
-    let model = c.in-Ok-draw_lamina.ensures.ok ∙ ap (λ ps. lamina_model c.in-Ok.draft.model c.args.solid ps) c.as_slice.ensures.value ∙ ap (λ (d : DraftJournal). lamina_model d.model c.args.solid c.args.points.now.items) c.in-Ok.ensures.ok in
-    let session = further_session _ _ c.in-Ok-draw_lamina.ensures.further ∙ ap (λ (d : DraftJournal). d.session) c.in-Ok.ensures.ok in (
+    let made = c.in-Ok-draw_lamina.ensures.ok ∙ ap (λ ps. lamina_model c.in-Ok.draft.model c.args.solid ps) c.as_slice.ensures.value in (
       sym (ap (λ M. lamina_refusal M c.args.solid c.args.points.now.items) c.arena-arena.ensures.model) ∙ verdict_passed _ _ (sym c.in_default.is ∙ c.check_lamina.ensures),
-      ap (λ (j : Journal). j.machine) c.commit.ensures ∙ (λ t. accepted (session t).machine (model t)),
+      further_accepted _ _ _ _ (λ M. lamina_model M c.args.solid c.args.points.now.items) c.in-Ok.ensures.ok c.in-Ok-draw_lamina.ensures.further made c.commit.ensures,
     )
 
 pub draw_lamina-requires-clause-taken : goal.draw_lamina-requires-clause-taken

@@ -5,20 +5,14 @@ use Rattle.sweeps.proofs.raising.raise_items.Goals as goal
 pub item_at-requires : goal.item_at-requires
 item_at-requires c = let n = raised.how_many _ _ _ _ _ _ c.requires.ready c.args.items.now refl in omega (arith, two_items _ _ _ _ _ _ c.requires.ready, n)
 
-pub raise_item-requires-clause-there : goal.raise_item-requires-clause-there
-raise_item-requires-clause-there c = raised.there_first _ _ _ _ _ _ c.requires.ready c.args.items.now refl c.item_at.result c.item_at.ensures
-
-pub raise_item-requires-clause-edge_left : goal.raise_item-requires-clause-edge_left
-raise_item-requires-clause-edge_left c = omega (arith, two_items _ _ _ _ _ _ c.requires.ready, c.requires.ready.left.edges)
-
-pub raise_item-requires-clause-vertex_left : goal.raise_item-requires-clause-vertex_left
-raise_item-requires-clause-vertex_left c = omega (arith, two_items _ _ _ _ _ _ c.requires.ready, c.requires.ready.left.vertices)
-
-pub raise_item-requires-clause-range : goal.raise_item-requires-clause-range
-raise_item-requires-clause-range c = raised.range_first _ _ _ _ _ _ c.requires.ready c.args.items.now refl c.item_at.result c.item_at.ensures
-
-pub raise_item-requires-clause-accepted : goal.raise_item-requires-clause-accepted
-raise_item-requires-clause-accepted c = raised.accepted_first _ _ _ _ _ _ c.requires.ready c.args.items.now refl c.item_at.result c.item_at.ensures
+pub raise_item-requires : goal.raise_item-requires
+raise_item-requires c = record {
+  there = raised.there_first _ _ _ _ _ _ c.requires.ready c.args.items.now refl c.item_at.result c.item_at.ensures;
+  edge_left = omega (arith, two_items _ _ _ _ _ _ c.requires.ready, c.requires.ready.left.edges);
+  vertex_left = omega (arith, two_items _ _ _ _ _ _ c.requires.ready, c.requires.ready.left.vertices);
+  range = raised.range_first _ _ _ _ _ _ c.requires.ready c.args.items.now refl c.item_at.result c.item_at.ensures;
+  accepted = raised.accepted_first _ _ _ _ _ _ c.requires.ready c.args.items.now refl c.item_at.result c.item_at.ensures;
+}
 
 pub items-init : goal.items-init
 items-init c = record {

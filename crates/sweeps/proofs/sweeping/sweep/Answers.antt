@@ -1,25 +1,14 @@
-use Rattle.sweeps.proofs.Prelude.{rules, ap, sym, ◌∙◌, taken_in, prism_refusal, prism_model, sweep_ops, Journal, DraftJournal, accepted, verdict_passed, further_recorded, further_session, steps_recorded}
+use Rattle.sweeps.proofs.Prelude.{rules, ap, sym, ◌∙◌, taken_in, prism_refusal, prism_model, sweep_ops, DraftJournal, verdict_passed, further_accepted, further_recorded, further_session, steps_recorded}
 use Rattle.sweeps.proofs.sweeping.sweep.Goals as goal
 
 pub returns-in-Ok-raise-clause-ok : goal.returns-in-Ok-raise-clause-ok
-returns-in-Ok-raise-clause-ok c =
-    let model = c.in-Ok-raise.ensures.model ∙ ap (λ (d : DraftJournal). prism_model d.model c.args.f c.args.shift) c.in-Ok.ensures.ok in
-    let session = further_session _ _ c.in-Ok-raise.ensures.further ∙ ap (λ (d : DraftJournal). d.session) c.in-Ok.ensures.ok in (
-      sym (ap (λ M. prism_refusal M c.args.f c.args.shift) c.arena-arena.ensures.model) ∙ verdict_passed _ _ (sym c.in_default.is ∙ c.check_sweep.ensures),
-      ap (λ (j : Journal). j.machine) c.commit.ensures ∙ (λ t. accepted (session t).machine (model t)),
-    )
+returns-in-Ok-raise-clause-ok c = (
+  sym (ap (λ M. prism_refusal M c.args.f c.args.shift) c.arena-arena.ensures.model) ∙ verdict_passed _ _ (sym c.in_default.is ∙ c.check_sweep.ensures),
+  further_accepted _ _ _ _ (λ M. prism_model M c.args.f c.args.shift) c.in-Ok.ensures.ok c.in-Ok-raise.ensures.further c.in-Ok-raise.ensures.model c.commit.ensures,
+)
 
 pub raise-requires-clause-taken : goal.raise-requires-clause-taken
 raise-requires-clause-taken c = c.counters_of-taken.ensures.is ∙ ap taken_in c.arena-arena.ensures.model ∙ sym (ap (λ (d : DraftJournal). taken_in d.model) c.in-Ok.ensures.ok)
-
-pub returns-in-Err-raise-clause-ok : goal.returns-in-Err-raise-clause-ok
-returns-in-Err-raise-clause-ok c = tt
-
-pub returns-in-Err-raise-clause-recorded : goal.returns-in-Err-raise-clause-recorded
-returns-in-Err-raise-clause-recorded c = tt
-
-pub returns-in-Err-raise-clause-record : goal.returns-in-Err-raise-clause-record
-returns-in-Err-raise-clause-record c = tt
 
 pub returns-in-Err-raise-clause-err : goal.returns-in-Err-raise-clause-err
 returns-in-Err-raise-clause-err c = let same = further_session _ _ c.in-Err-raise.ensures.further ∙ ap (λ (d : DraftJournal). d.session) c.in-Ok.ensures.ok in search rules
