@@ -37,7 +37,7 @@ fn half_met(arena: &Arena, last: u32, code: u32) -> Met
 }
 
 /// What the half-edges of loop l, in which `first` stands, count for.
-#[tactic(auto, using(crate::proofs::solid_counts_laws::Sums::half_few))]
+#[tactic(auto, using(crate::proofs::solid_counts_laws::Sums::half_few, crate::proofs::Prelude::item_of, crate::proofs::Prelude::edge_fits, crate::proofs::Prelude::item_there))]
 fn ring_met(arena: &Arena, l: u32, first: HalfEdge) -> Met
     requires ready { IsReady arena.now }
     requires item { IsIn (code first) (items_of (content arena.now.model l)) }
@@ -77,7 +77,7 @@ fn loop_met(arena: &Arena, l: u32) -> Met
 }
 
 /// What the loops of face f, which has so many rings, count for.
-#[tactic(auto, using(crate::proofs::solid_counts_laws::Sums::nothing_together, crate::proofs::solid_counts_laws::FaceSums::all_counted, crate::proofs::solid_counts_laws::FaceSums::bare_face))]
+#[tactic(auto, using(crate::proofs::solid_counts_laws::Sums::nothing_together, crate::proofs::solid_counts_laws::FaceSums::all_counted, crate::proofs::solid_counts_laws::FaceSums::bare_face, crate::proofs::solid_counts_laws::FaceSums::counted_more))]
 pub(crate) fn face_met(arena: &Arena, f: u32, rings: u32) -> Met
     requires ready { IsReady arena.now }
     requires there { has_number arena.now Kind.Face f ≡ true }

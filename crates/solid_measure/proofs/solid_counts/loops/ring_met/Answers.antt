@@ -1,4 +1,4 @@
-use Rattle.solid_measure.proofs.Prelude.{◌≡◌, ℕ, ◌<◌, length, sym, ap, subst, ◌∙◌, IsIn, code, before, Model, items_of, content, cycle_of, Sound, HasHalf, edge_fits, to_come, item_of, item_there, together, halves_met}
+use Rattle.solid_measure.proofs.Prelude.{◌≡◌, ℕ, ◌<◌, length, sym, ap, subst, ◌∙◌, IsIn, code, before, Model, items_of, content, cycle_of, Sound, HasHalf, to_come, item_of, item_there, together, halves_met}
 use Rattle.solid_walks.proofs.TwoWays.{before_after}
 use Rattle.solid_measure.proofs.solid_counts_laws.LoopRounds.{MetRound, met_start, met_few, met_closed, met_more, met_fewer}
 use Rattle.solid_measure.proofs.solid_counts.loops.ring_met.Goals as goal
@@ -7,30 +7,12 @@ use Rattle.solid_measure.proofs.solid_counts.loops.ring_met.Goals as goal
 begins : (M : Model) → Sound M → (l first begin : ℕ) → IsIn first (items_of (content M l)) → begin ≡ first → HasHalf M begin × (cycle_of M begin ≡ items_of (content M l))
 begins M sound l first begin i e = subst (λ x. HasHalf M x × (cycle_of M x ≡ items_of (content M l))) (sym e) (item_of M sound l first i)
 
-pub code-begin-requires : goal.code-begin-requires
-code-begin-requires c =
-    let M = c.args.arena.now.model in let s = c.requires.ready.sound in let first : ℕ = code c.args.first in
-    edge_fits M s c.args.first (item_of M s c.args.l first c.requires.item).0
-
-pub previous_code-last-requires-clause-there : goal.previous_code-last-requires-clause-there
-previous_code-last-requires-clause-there c = (begins c.args.arena.now.model c.requires.ready.sound c.args.l (code c.args.first) c.code-begin.result c.requires.item c.code-begin.ensures).0
-
 pub round-init : goal.round-init
 round-init c =
     let M = c.args.arena.now.model in let s = c.requires.ready.sound in let begin : ℕ = c.code-begin.result in record {
       met = met_start M s begin (begins M s c.args.l (code c.args.first) begin c.requires.item c.code-begin.ensures).0;
       last = c.previous_code-last.ensures.previous;
     }
-
-pub half_met-requires-clause-there : goal.half_met-requires-clause-there
-half_met-requires-clause-there c =
-    let M = c.args.arena.now.model in let s = c.requires.ready.sound in let begin : ℕ = c.code-begin.result in
-    item_there M s begin (begins M s c.args.l (code c.args.first) begin c.requires.item c.code-begin.ensures).0 c.round.code c.round.invariant.met.here
-
-pub next_code-code-requires-clause-there : goal.next_code-code-requires-clause-there
-next_code-code-requires-clause-there c =
-    let M = c.args.arena.now.model in let s = c.requires.ready.sound in let begin : ℕ = c.code-begin.result in
-    item_there M s begin (begins M s c.args.l (code c.args.first) begin c.requires.item c.code-begin.ensures).0 c.round.code c.round.invariant.met.here
 
 pub together-sum-requires-clause-a : goal.together-sum-requires-clause-a
 together-sum-requires-clause-a c =
