@@ -23,6 +23,6 @@ pub use Rattle.std.proofs.lemmas.Iterator.Consumers.{YieldsList-at, YieldsList-f
 pub use Rattle.std.proofs.lemmas.List.{drop_all, length-map, length-reverse, reverse-append, take_rest}
 pub use Rattle.std.proofs.lemmas.Result.{err_from_is_err_and, on_ok_weaker}
 pub use Rattle.std.specs.List.{list_any}
-pub use Rattle.undo_journal.proofs.Marks.{first_step, further_on, further_recorded, further_session, step_after, steps_after, steps_make, steps_recorded}
-pub use Rattle.undo_journal.specs.Journal.{DraftJournal, IsFurther, Journal, after_step, after_steps}
+pub use Rattle.undo_journal.proofs.Marks.{first_step, further_accepted, further_on, further_recorded, step_after, steps_after, steps_make, steps_recorded}
+pub use Rattle.undo_journal.specs.Journal.{DraftJournal, IsFurther, after_step, after_steps}
 pub use Rattle.undo_journal.specs.Machine.{accepted, held}

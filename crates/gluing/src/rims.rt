@@ -64,6 +64,7 @@ fn starts_at(arena: &Arena, item: HalfEdge, point: Point) -> bool
 }
 
 /// The half-edge of the outer loop of face f that starts at a point; there is exactly one.
+#[tactic(auto, using(crate::proofs::Found::rim_held))]
 pub(crate) fn item_at(arena: &Arena, f: u32, point: Point) -> HalfEdge
     requires ready { IsReady arena.now }
     requires there { has_number arena.now Kind.Face f ≡ true }

@@ -50,6 +50,7 @@ fn few_repeat(points: &[Point]) -> bool
 }
 
 /// Whether two of the points are equal. It takes n log n steps for n points.
+#[tactic(auto, using(crate::proofs::glue_checks_laws::Keys::none_in, crate::proofs::glue_checks_laws::Keys::first_met, crate::proofs::glue_checks_laws::Keys::is_met, crate::proofs::glue_checks_laws::Keys::was_met))]
 fn many_repeat(alloc: Global, points: &[Point]) -> Result<bool, AllocError>
     ensures { IfOk result (λ found. found ≡ has_repeats points.now) }
 {
@@ -119,7 +120,7 @@ fn is_turn(points: &[Point], others: &[Point], place: usize) -> bool
 }
 
 /// Whether the points are a rotation of the others, which are all different. It takes n steps for n points.
-#[tactic(auto, using(crate::proofs::glue_checks_laws::Turns::turn_found, crate::proofs::glue_checks_laws::Turns::no_turn_found))]
+#[tactic(auto, using(crate::proofs::glue_checks_laws::Turns::turn_found, crate::proofs::glue_checks_laws::Turns::no_turn_found, crate::proofs::glue_checks_laws::Turns::other_length, crate::proofs::glue_checks_laws::Turns::turn_inside))]
 pub(crate) fn is_rotation(points: &[Point], others: &[Point]) -> bool
     requires { has_repeats others.now ≡ false }
     ensures { result ≡ is_rotation points.now others.now }

@@ -1,4 +1,4 @@
-use Rattle.gluing.proofs.Prelude.{rules, ap, sym, ◌∙◌, glue_model, glue_ops, Journal, DraftJournal, accepted, further_recorded, further_session, steps_recorded, early_refusal}
+use Rattle.gluing.proofs.Prelude.{rules, ap, sym, ◌∙◌, glue_model, glue_ops, DraftJournal, further_accepted, further_recorded, steps_recorded, early_refusal}
 use Rattle.shapes.specs.glue.Glue as shapes
 use Rattle.gluing.proofs.glue_checks_laws.Conditions.{none_early}
 use Rattle.gluing.proofs.command.glue_with_flat.Goals as goal
@@ -10,21 +10,10 @@ pub try_join-requires : goal.try_join-requires
 try_join-requires c = ap (λ (d : DraftJournal). shapes.glue_refusal d.model c.args.f c.args.other) c.in-Ok.ensures.ok ∙ sym (ap (λ M. shapes.glue_refusal M c.args.f c.args.other) c.arena.ensures.model) ∙ c.in_default.ensures.ok
 
 pub returns-in-Ok-try_join-clause-ok : goal.returns-in-Ok-try_join-clause-ok
-returns-in-Ok-try_join-clause-ok c =
-    let model = c.in-Ok-try_join.ensures.model ∙ ap (λ (d : DraftJournal). glue_model d.model c.args.f c.args.other) c.in-Ok.ensures.ok in
-    let session = further_session _ _ c.in-Ok-try_join.ensures.further ∙ ap (λ (d : DraftJournal). d.session) c.in-Ok.ensures.ok in (
-      sym (ap (λ M. shapes.glue_refusal M c.args.f c.args.other) c.arena.ensures.model) ∙ c.in_default.ensures.ok,
-      ap (λ (j : Journal). j.machine) c.commit.ensures ∙ (λ t. accepted (session t).machine (model t)),
-    )
-
-pub returns-in-Err-try_join-clause-ok : goal.returns-in-Err-try_join-clause-ok
-returns-in-Err-try_join-clause-ok c = tt
-
-pub returns-in-Err-try_join-clause-recorded : goal.returns-in-Err-try_join-clause-recorded
-returns-in-Err-try_join-clause-recorded c = tt
-
-pub returns-in-Err-try_join-clause-record : goal.returns-in-Err-try_join-clause-record
-returns-in-Err-try_join-clause-record c = tt
+returns-in-Ok-try_join-clause-ok c = (
+  sym (ap (λ M. shapes.glue_refusal M c.args.f c.args.other) c.arena.ensures.model) ∙ c.in_default.ensures.ok,
+  further_accepted _ _ _ _ (λ M. glue_model M c.args.f c.args.other) c.in-Ok.ensures.ok c.in-Ok-try_join.ensures.further c.in-Ok-try_join.ensures.model c.commit.ensures,
+)
 
 pub returns-in-Err-try_join-clause-err : goal.returns-in-Err-try_join-clause-err
 returns-in-Err-try_join-clause-err c = search rules

@@ -1,10 +1,7 @@
-use Rattle.gluing.proofs.Prelude.{◌∙◌, ℕ, Bool, ap, sym, subst, rules, tests, of_calls, is_some, unwrap_or, option_map, YieldsList-from_first, IsIn, same_point, code, content, outer, same_as, start, rim, serves_listed, first_is, item_at}
+use Rattle.gluing.proofs.Prelude.{◌∙◌, ℕ, Bool, ap, sym, subst, rules, tests, of_calls, is_some, unwrap_or, option_map, YieldsList-from_first, IsIn, same_point, code, same_as, start, rim, serves_listed, first_is, item_at}
 use Rattle.std.proofs.lemmas.Iterator.Search.{find_from_yields_List}
-use Rattle.gluing.proofs.Found.{rim_held, rim_there, is_found, some_mapped}
+use Rattle.gluing.proofs.Found.{rim_there, is_found, some_mapped}
 use Rattle.gluing.proofs.rims.item_at.Goals as goal
-
-pub rim-requires-clause-held : goal.rim-requires-clause-held
-rim-requires-clause-held c = let M = c.args.arena.now.model in rim_held (content M (outer M c.args.f)) (item_at M c.args.f c.args.point) c.requires.inside
 
 pub find-requires-clause-callable : goal.find-requires-clause-callable
 find-requires-clause-callable c = serves_listed code c.rim.result (λ x q k. search rules) (λ x i. let there = rim_there c.args.arena.now.model c.requires.ready.sound c.args.f (code x) (subst (IsIn (code x)) c.rim.ensures i) in search of_calls)
