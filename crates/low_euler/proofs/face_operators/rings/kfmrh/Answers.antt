@@ -3,6 +3,11 @@ use Rattle.euler_operators.specs.Table as table
 use Rattle.low_euler.proofs.face_operators_laws.Rows.{loop_moved}
 use Rattle.low_euler.proofs.face_operators.rings.kfmrh.Goals as goal
 
+pub give_loop-requires-clause-there : goal.give_loop-requires-clause-there
+give_loop-requires-clause-there c =
+    let M = c.args.arena.now.model in
+    ap (table.has M.loops) c.outer-ring.ensures ∙ (c.requires.ready.sound.outers_there c.args.killed (kfmrh_goes M c.args.kept c.args.killed c.requires.holds).g_there).0
+
 pub returns : goal.returns
 unfolding effect kfmrh
 returns c =
