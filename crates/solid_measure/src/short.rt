@@ -127,7 +127,6 @@ fn short_scaled(a: i64, x: i64) -> i64
 }
 
 /// The number `a x + b y + c z + d`.
-#[tactic(auto, using(euler_operators::proofs::Common::coordinate_held, euler_operators::proofs::Common::coordinates))]
 pub(crate) fn short_height(short: ShortPlane, p: Point) -> i64
     requires short { IsShort short }
     requires p { IsInRange p }

@@ -1,6 +1,15 @@
-use Rattle.solid_measure.proofs.Prelude.{refl, arith, coordinates}
+use Rattle.solid_measure.proofs.Prelude.{refl, arith, coordinate_held, coordinates}
 use Rattle.solid_measure.proofs.ShortNumbers.{held_as, scaled_short, sum_fits, sum_short}
 use Rattle.solid_measure.proofs.short.short_height.Goals as goal
+
+pub short_scaled-requires-clause-x : goal.short_scaled-requires-clause-x
+short_scaled-requires-clause-x c = coordinate_held c.args.p.x (coordinates c.args.p c.requires.p).0
+
+pub short_scaled-requires-2-clause-x : goal.short_scaled-requires-2-clause-x
+short_scaled-requires-2-clause-x c = coordinate_held c.args.p.y (coordinates c.args.p c.requires.p).1
+
+pub short_scaled-requires-3-clause-x : goal.short_scaled-requires-3-clause-x
+short_scaled-requires-3-clause-x c = coordinate_held c.args.p.z (coordinates c.args.p c.requires.p).2
 
 pub overflow_add-result : goal.overflow_add-result
 overflow_add-result c =
