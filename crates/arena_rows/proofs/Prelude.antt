@@ -1,9 +1,9 @@
 -- What the proofs here take from elsewhere, passed on from one place. Declares nothing.
-pub use Rattle.arena_rows.specs.Common.{AreChained, AreEdgeRings, AreEdges, AreIndexed, AreLabelled, AreLoops, AreOwned, AreRings, ArenaRows, Fits, HasEntry, HasGrown, HaveLabels, HaveNewLabels, HaveOneLabel, IsAbove, IsBelow, IsClear, IsNextFace, IsNextItem, IsNextNumber, IsNextRing, IsRelabelled, IsRingOf, IsWhole, Owners, OwnersHaveGrown, PartlyLabelled, RowsAreTied, ShareLabel, Spots, StandsAt, Store, asleep, both_tails, but_label, cut, edge_room, edge_row, empty_store, face_numbers, face_row, follower, gained, has_label, has_number, has_room, head_at, head_in, held_row, holder, in_loops, is_edge, is_face_of, is_in, is_of, is_owner, items, join, label, labelled, leading_back, leading_on, link_at, live, loop_at, loop_row, loose_ring, loose_row, loosened, lost, map_row, map_spot, names, new_label, next, next_in, no_owners, only_item, own, owned, owner_in, owners_of, relinked, row_of, rows_of, solid_numbers, solid_row, spliced, store_of, stored_content, table_of, tail_at, take, view_of, with_links, with_loop, within, woken, woken_as}
+pub use Rattle.arena_rows.specs.Common.{AreChained, AreEdgeRings, AreEdges, AreIndexed, AreLabelled, AreLabelledBut, AreLoops, AreRings, ArenaRows, CanHandOut, Fits, HasEntry, HasGrown, HaveMoreRoom, HaveRoom, IsAbove, IsBelow, IsChain, IsClear, IsHandedOut, IsNew, IsNextFace, IsNextItem, IsNextNumber, IsNextRing, IsReused, IsRingOf, IsTable, IsTakenBack, IsUsed, IsWhole, Owners, OwnersHaveGrown, PartlyLabelled, RowsAreTied, Spots, StandsAt, StandsFor, Store, asleep, both_tails, but_label, cut, edge_room, edge_row, empty_store, face_numbers, face_row, follower, gained, has_number, has_room, head_at, head_in, held_row, in_loops, is_edge, is_face_of, is_in, is_of, is_owner, items, join, label, labelled, leading_back, leading_on, link_at, live, loop_at, loop_row, loose_ring, loose_row, loosened, lost, map_row, map_spot, names, next, next_in, no_owners, only_item, owned, owner_in, owners_of, relinked, rows_of, solid_numbers, solid_row, spliced, store_of, stored_content, table_of, tail_at, take, view_of, with_links, with_loop, within, woken}
 unfoldable pub use Rattle.arena_rows.specs.Common.{clear, codes, cut_loose, cut_to, edges_end, fill, join_loops, join_loose, linked_in, linked_out, loose_key, map_in_loops, put_edge, ring, take_edge}
 pub use Rattle.arena_rows.specs.declared.owner_chains.rows.Head.{Head}
 pub use Rattle.arena_rows.specs.declared.owner_chains.rows.Link.{Link}
-pub use Rattle.arena_rows.specs.declared.ring_spots.labels.Label.{Label}
+pub use Rattle.arena_rows.specs.declared.ring_spots.labels.Labels.{Labels}
 pub use Rattle.arena_rows.specs.declared.rows.FaceCell.{FaceCell}
 pub use Rattle.arena_rows.specs.declared.rows.LoopCell.{LoopCell}
 pub use Rattle.arena_rows.specs.declared.rows.StoredContent.{StoredContent}
@@ -34,7 +34,7 @@ pub use Rattle.raw_cells.specs.Numbers.{IsLast, IsNext, uses}
 pub use Rattle.raw_cells.specs.Rows.{has_row, row_at}
 pub use Rattle.raw_ring.proofs.Mapping.{IsLive-next}
 pub use Rattle.raw_ring.specs.Rings.{IsPermutation, RingMap, Spot, awake, label_of, next_of, of_spot, or_zero, put_spot, ring_of_one, set_label, spot, tail_of, with_next, with_room, with_spot}
-pub use Rattle.std.proofs.Common.{Bool, Err, List, None, Ok, OnErr, OnOk, Option, Result, Some, T, [], ap, arith, cond, eq-eqb, eqb, eqb-true, false, inl, inr, is_some, le-leb, length, lt-ltb, nat_cmp, nat_eq, nat_le, nat_lt, ne_eqb, not, option_map, refl, slice_index_or, subst, suc, sym, true, true≢false, unwrap_or, zero, ℕ, ◌&&◌, ◌*◌, ◌++◌, ◌+◌, ◌-◌, ◌/◌, ◌<◌, ◌||◌, ◌∙◌, ◌∷◌, ◌≡◌, ◌≢◌, ◌≤◌, ◌⊎◌}
+pub use Rattle.std.proofs.Common.{Bool, Err, List, None, Ok, OnErr, OnOk, Option, Result, Some, T, [], ap, arith, cond, eq-eqb, eqb, eqb-true, false, get_or-set_other, get_or-set_same, inl, inr, is_some, le-leb, length, length-append, length-set, lt-ltb, nat_cmp, nat_eq, nat_le, nat_lt, ne_eqb, not, option_map, refl, slice_index_or, subst, suc, sym, true, true≢false, unwrap_or, vec_capacity, zero, ℕ, ◌&&◌, ◌*◌, ◌++◌, ◌+◌, ◌-◌, ◌/◌, ◌<◌, ◌∙◌, ◌∷◌, ◌≡◌, ◌≢◌, ◌≤◌, ◌⊎◌}
 pub use Rattle.std.proofs.lemmas.Bool.{and_from, cases_eq, false_from_ne_true, false≢true}
 pub use Rattle.std.proofs.lemmas.Bool.Decides.{eqb_tells, leb_tells, nat_tests}
 pub use Rattle.std.proofs.lemmas.Option.{same_Some}

@@ -8,7 +8,7 @@ pub mod LiveEdges
 pub mod LabelTables
 pub mod LoopSpots
 pub mod LabelLaws
-pub mod LoopViews
+pub mod LabelJoins
 pub mod LabelEdges
 pub mod RingViews
 pub mod Alone

@@ -8,9 +8,9 @@ pub use Rattle.arena_rows.specs.owner_chains.Chains.{AreChained, IsAbove, IsBelo
 unfoldable pub use Rattle.arena_rows.specs.owner_chains.Chains.{linked_in, linked_out}
 pub use Rattle.arena_rows.specs.owner_chains.Owners.{IsNextItem, Owners, OwnersHaveGrown, is_owner, no_owners, owned, put, take}
 pub use Rattle.arena_rows.specs.ring_spots.Edges.{AreEdgeRings, AreEdges}
-pub use Rattle.arena_rows.specs.ring_spots.Labels.{AreLabelled, AreOwned, HaveLabels, HaveNewLabels, HaveOneLabel, IsRelabelled, ShareLabel, but_label, has_label, holder, in_loops, loop_at, new_label, own, row_of, rows_of, with_loop}
+pub use Rattle.arena_rows.specs.ring_spots.Labels.{AreLabelled, AreLabelledBut, CanHandOut, HaveMoreRoom, HaveRoom, IsChain, IsHandedOut, IsNew, IsReused, IsTable, IsTakenBack, IsUsed, StandsFor, but_label, in_loops, loop_at, rows_of, with_loop}
 unfoldable pub use Rattle.arena_rows.specs.ring_spots.Labels.{map_in_loops}
 pub use Rattle.arena_rows.specs.ring_spots.Last.{is_edge}
 pub use Rattle.arena_rows.specs.ring_spots.SpotTables.{both_tails, edge_room, edge_row, loose_row}
-pub use Rattle.arena_rows.specs.ring_spots.Spots.{AreRings, PartlyLabelled, IsRingOf, Spots, asleep, is_in, label, labelled, live, map_spot, next, spliced, tail_at, with_links, woken, woken_as}
+pub use Rattle.arena_rows.specs.ring_spots.Spots.{AreRings, PartlyLabelled, IsRingOf, Spots, asleep, is_in, label, labelled, live, map_spot, next, spliced, tail_at, with_links, woken}
 unfoldable pub use Rattle.arena_rows.specs.ring_spots.Spots.{codes, edges_end, ring}

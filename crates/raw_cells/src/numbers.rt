@@ -63,15 +63,6 @@ impl Numbers {
         contains(&self.words, number)
     }
 
-    /// Whether the number is in use. There is room for it, and this isn't tested.
-    #[inline(always)]
-    pub fn contains_within(&self, number: u32) -> bool
-        requires { number / 64 < length self.now }
-        ensures { result ≡ uses self.now number }
-    {
-        contains_within(&self.words, number)
-    }
-
     /// The number, for which there is room, comes into use. It writes one word, and also a summary if the word was 0.
     pub fn put(&mut self, number: u32)
         requires { number / 64 < length self.old }
@@ -170,15 +161,6 @@ fn contains(words: &[u64], number: u32) -> bool
         Some(word) => is_set(*word, number % WORD),
         None => false,
     }
-}
-
-/// Whether the number, which has its word, is in use.
-#[inline(always)]
-fn contains_within(words: &[u64], number: u32) -> bool
-    requires { number / 64 < length words.now }
-    ensures { result ≡ uses words.now number }
-{
-    is_set(words[(number / WORD) as usize], number % WORD)
 }
 
 /// Sets the bit of the number.

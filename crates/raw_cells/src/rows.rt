@@ -74,28 +74,6 @@ impl<T: Copy> Rows<T> {
         }
     }
 
-    /// The row of this number, if it is there. There is room for the number, and this isn't tested.
-    #[inline(always)]
-    pub fn find_within(&self, number: u32) -> Option<T>
-        requires { number < length self.now }
-        ensures { result ≡ row_at self.now number }
-    {
-        if self.used.contains_within(number) {
-            Some(self.cells.get(number))
-        } else {
-            None
-        }
-    }
-
-    /// Whether the row of this number is there. There is room for the number, and this isn't tested.
-    #[inline(always)]
-    pub fn has_within(&self, number: u32) -> bool
-        requires { number < length self.now }
-        ensures { result ≡ has_row self.now number }
-    {
-        self.used.contains_within(number)
-    }
-
     /// Whether the row of this number is there.
     pub fn has(&self, number: u32) -> bool
         ensures { result ≡ has_row self.now number }

@@ -1,48 +1,209 @@
--- Labels where rings are cut, joined and put into loops.
-use Rattle.arena_rows.proofs.Prelude.{◌≡◌, ◌≢◌, ℕ, ◌+◌, Bool, true, List, Option, refl, sym, ap, subst, ◌∙◌, arith, cond, nat_eq, eq-eqb, ne_eqb, ◌⊎◌, inl, inr, count, IsIn, cut_left, cut_right, joined, IsIn_or_not, IsIn-cut, Label, Spots, live, label, ring, labelled, spliced, AreRings, own, holder, loop_at, in_loops, AreOwned, HaveLabels, AreLabelled, ShareLabel, IsRelabelled, HaveOneLabel, has_label}
-use Rattle.arena_rows.proofs.ring_spots_laws.SpotLaws.{ring_same, ring_meet, live-labelled, ring-labelled, label-labelled_in, label-labelled_out, AreRings-labelled, live-spliced, label-spliced, AreRings-cut, ring_left, ring_right, ring_beside, cut_items, AreRings-join, ring_joint, ring_aside, join_items}
-use Rattle.arena_rows.proofs.ring_spots_laws.LabelTables.{handed_over, holder_x, holder_other}
-use Rattle.arena_rows.proofs.ring_spots_laws.LoopSpots.{blank-labelled, loops-labelled}
+-- Labels where rings are cut and put into loops.
+use Rattle.arena_rows.proofs.Prelude.{◌≡◌, ◌≢◌, ℕ, zero, suc, ◌+◌, ◌-◌, ◌<◌, ◌≤◌, Bool, true, List, [], ◌∷◌, length, refl, sym, ap, subst, ◌∙◌, arith, ◌⊎◌, inl, inr, length-set, vec_capacity, cases_eq, count, IsIn, IsApart, cut_left, cut_right, IsIn_or_not, tick_le, tick_other, IsIn-cut, IsIn_head, IsIn_one, length_below, Labels, Spots, codes, live, label, ring, labelled, spliced, AreRings, loop_at, in_loops, IsChain, IsUsed, HaveRoom, AreLabelledBut, AreLabelled, CanHandOut, StandsFor, IsHandedOut}
+use Rattle.arena_rows.proofs.ring_spots_laws.SpotLaws.{ring_same, live-labelled, ring-labelled, label-labelled_in, label-labelled_out, AreRings-labelled, live-spliced, label-spliced, AreRings-cut, ring_left, ring_right, ring_beside, cut_items}
+use Rattle.arena_rows.proofs.ring_spots_laws.SpotTables.{codes_are}
+use Rattle.arena_rows.proofs.ring_spots_laws.LabelTables.{table_as, IsGiven, given, stands, stands_here, stands_other}
+use Rattle.arena_rows.proofs.ring_spots_laws.LoopSpots.{same_spots, blank-labelled, blank-loops, live-loops, label-loops, ring-loops, loops-spliced, loops-labelled}
 
-module _ (sp : Spots) (R : AreRings sp) where
-  -- where an item of a's ring stands in another ring too, they are one
-  shared_item : (a c x : ℕ) → live sp a ≡ true → live sp c ≡ true → IsIn x (ring sp a) → IsIn x (ring sp c) → IsIn c (ring sp a)
-  shared_item a c x k h i j = subst (IsIn c) (sym (ring_meet sp R a c x k h i j)) (R.rings c h).item
+-- the same, told by equations
+pub labelled_is : (sp new : Spots) (known known' : ℕ → Bool) (t : Labels) → AreLabelled sp known t → new ≡ sp → known' ≡ known → AreLabelled new known' t
+labelled_is sp new known known' t A is same = subst (λ k. AreLabelled new k t) (sym same) (subst (λ s. AreLabelled s known t) (sym is) A)
 
--- the same owners and labels: nothing changes but the loops for which labels stand
-pub labelled_alike : (sp : Spots) (known : ℕ → Bool) (rows new : List (Option Label)) → AreLabelled sp known rows → own new ≡ own rows → holder new ≡ holder rows → has_label new ≡ has_label rows → AreLabelled sp known new
-labelled_alike sp known rows new A o h there = record {
-  table = record {
-    rings = A.table.rings;
-    owners = subst (λ t. AreOwned (own new) (holder new) t) (sym there) (subst (λ f. AreOwned f (holder new) (has_label rows)) (sym o) (subst (λ f. AreOwned (own rows) f (has_label rows)) (sym h) A.table.owners));
-    codes_there = λ c k. ap (λ t. t c) there ∙ A.table.codes_there c k;
-    labels_there = λ c a. ap (λ t. t (label sp c)) there ∙ A.table.labels_there c a;
-  };
-  held = λ c a. subst (λ (f : ℕ → ℕ). IsIn (f (label sp c)) (ring sp c)) (sym h) (A.held c a);
+-- the room stays where no code wakes and no row goes
+pub room_as : (sp new : Spots) (known : ℕ → Bool) (t now : Labels) → HaveRoom sp known t → ((c : ℕ) → live new c ≡ true → live sp c ≡ true) → vec_capacity now.loops ≡ vec_capacity t.loops → length t.loops.items ≤ length now.loops.items → HaveRoom new known now
+room_as sp new known t now H lives cap len = record {
+  live_known = λ c a. H.live_known c (lives c a);
+  room = λ c k. omega (arith, cap, H.room c k);
+  some = λ p. omega (arith, len, H.some (omega (arith, p, cap)));
 }
 
--- the rows stay, and each live code has a label that is there
-pub table_kept : (sp new : Spots) (known : ℕ → Bool) (rows : List (Option Label)) → HaveLabels sp known rows → AreRings new → ((c : ℕ) → live new c ≡ true → has_label rows (label new c) ≡ true) → HaveLabels new known rows
-table_kept sp new known rows T R labels = record { rings = R; owners = T.owners; codes_there = T.codes_there; labels_there = labels }
+module _ (sp : Spots) (known : ℕ → Bool) (t : Labels) (hs : List ℕ) (A : AreLabelledBut sp known t hs) where
+  -- label 0 has its row where a code is known
+  pub some_row : (c : ℕ) → known c ≡ true → 0 < length t.loops.items
+  some_row c k = A.room.some (omega (arith, A.room.room c k))
 
--- each live code was live, with its label and its ring
-pub labelled_stays : (sp new : Spots) (known : ℕ → Bool) (rows : List (Option Label)) → AreLabelled sp known rows → AreRings new → ((c : ℕ) → live new c ≡ true → (live sp c ≡ true) × (label new c ≡ label sp c) × (ring new c ≡ ring sp c)) →
-    (now : Spots) (known' : ℕ → Bool) → now ≡ new → known' ≡ known → AreLabelled now known' rows
-labelled_stays sp new known rows A R kept now known' is same = subst (λ k. AreLabelled now k rows) (sym same) (subst (λ s. AreLabelled s known rows) (sym is) (record {
-  table = table_kept sp new known rows A.table R (λ c a. let k = kept c a in subst (λ n. has_label rows n ≡ true) (sym k.1) (A.table.labels_there c k.0));
-  held = λ c a. let k = kept c a in subst (λ hs. IsIn (holder rows (label new c)) hs) (sym k.2) (subst (λ n. IsIn (holder rows n) (ring sp c)) (sym k.1) (A.held c k.0));
-}))
+  -- the label of a live code has its row
+  pub label_row : (c : ℕ) → live sp c ≡ true → count c hs ≡ 0 → label sp c < length t.loops.items
+  label_row c a out = elim (cases_eq (label sp c) 0) [
+    | inl z ↦ omega (arith, z, some_row c (A.room.live_known c a))
+    | inr z ↦ (A.table.there (label sp c) z (c, a, out, refl)).0
+  ]
 
-module _ (sp : Spots) (known : ℕ → Bool) (rows : List (Option Label)) (A : AreLabelled sp known rows) where
-  -- two codes with one label stand in one ring
-  same_label : (c d : ℕ) → live sp c ≡ true → live sp d ≡ true → label sp d ≡ label sp c → IsIn d (ring sp c)
-  same_label c d h k e = shared_item sp A.table.rings c d (holder rows (label sp c)) h k (A.held c h) (subst (λ n. IsIn (holder rows n) (ring sp d)) e (A.held d k))
+  -- none is free: so each label up to k has a code of its own
+  module _ (none : (n : ℕ) → count n A.table.frees ≡ 0) where
+    abbrev users : (k : ℕ) → k < length t.loops.items → List ℕ
+    users zero h = []
+    users (suc k) h = (A.table.taken (suc k) (omega arith) h (none (suc k))).0 ∷ users k (omega (arith, h))
 
-  -- the label of a ring stands for loop l now
-  pub loops-put : (new : List (Option Label)) (c l : ℕ) → live sp c ≡ true → ((q : ℕ) → loop_at new q ≡ cond (nat_eq q (label sp c)) l (loop_at rows q)) → in_loops new sp ≡ labelled (in_loops rows sp) l (ring sp c)
-  loops-put new c l h is = loops-labelled sp sp rows new l (ring sp c) (λ q. refl)
-      (λ q k i. is (label sp q) ∙ ap (λ b. cond b l (loop_at rows (label sp q))) (eq-eqb (label sp q) (label sp c) ((A.table.rings.rings c h).one_label q i)))
-      (λ q k n. is (label sp q) ∙ ap (λ b. cond b l (loop_at rows (label sp q))) (ne_eqb (label sp q) (label sp c) (λ e. let i = same_label c q h k e in absurd (omega arith))))
+    length-users : (k : ℕ) (h : k < length t.loops.items) → length (users k h) ≡ k
+    length-users zero h = refl
+    length-users (suc k) h = ap suc (length-users k (omega (arith, h)))
+
+    -- these codes are live, and their labels are at most k
+    user : (k : ℕ) (h : k < length t.loops.items) (x : ℕ) → IsIn x (users k h) → (live sp x ≡ true) × (label sp x ≤ k)
+    user zero h x i = absurd (omega (arith, i))
+    user (suc k) h x i = let u = A.table.taken (suc k) (omega arith) h (none (suc k)) in elim (cases_eq x u.0) [
+      | inl q ↦ (ap (live sp) q ∙ u.1, omega (arith, ap (label sp) q ∙ u.3))
+      | inr ne ↦ let w = user k (omega (arith, h)) x (omega (arith, i, tick_other x u.0 ne)) in (w.0, omega (arith, w.1))
+    ]
+
+    users-apart : (k : ℕ) (h : k < length t.loops.items) → IsApart (users k h)
+    users-apart zero h x = omega arith
+    users-apart (suc k) h x = let u = A.table.taken (suc k) (omega arith) h (none (suc k)) in elim (cases_eq x u.0) [
+      | inl q ↦ elim (IsIn_or_not x (users k (omega (arith, h)))) [
+        | inl i ↦ absurd (omega (arith, (user k (omega (arith, h)) x i).1, ap (label sp) q ∙ u.3))
+        | inr n ↦ omega (arith, n, tick_le x u.0)
+      ]
+      | inr ne ↦ omega (arith, users-apart k (omega (arith, h)) x, tick_other x u.0 ne)
+    ]
+
+    -- where the live codes are below b there are at most b such labels
+    users_below : (b : ℕ) → ((x : ℕ) → live sp x ≡ true → x < b) → 0 < length t.loops.items → length t.loops.items ≤ b + 1
+    users_below b below some =
+        let h : length t.loops.items - 1 < length t.loops.items = omega (arith, some) in
+        omega (arith, some, length-users (length t.loops.items - 1) h, length_below b (users (length t.loops.items - 1) h) (users-apart (length t.loops.items - 1) h) (λ x i. below x (user (length t.loops.items - 1) h x i).0))
+
+  -- so a label can be handed out where a code is known
+  pub spare : (c : ℕ) → known c ≡ true → CanHandOut t
+  spare c k = spare_of A.table.frees refl where
+    spare_of : (fs : List ℕ) → A.table.frees ≡ fs → CanHandOut t
+    spare_of [] e =
+        let free : t.free ≡ 0 = subst (IsChain t.loops.items t.free) e A.table.chain in
+        let none : (n : ℕ) → count n A.table.frees ≡ 0 = λ n. ap (count n) e in
+        record {
+          first = λ z. absurd (z free);
+          room = λ z. omega (arith, A.room.room c k, users_below none (vec_capacity t.loops - 2) (λ x a. omega (arith, A.room.room x (A.room.live_known x a))) (some_row c k));
+          limit = λ z. omega (arith, codes_are, users_below none codes A.rings.bound (some_row c k));
+        }
+    spare_of (n ∷ ns) e =
+        let chain : IsChain t.loops.items t.free (n ∷ ns) = subst (IsChain t.loops.items t.free) e A.table.chain in
+        let w = A.table.within n (subst (IsIn n) (sym e) (IsIn_head n ns)) in
+        record {
+          first = λ z. omega (arith, w.1, chain.0);
+          room = λ z. absurd (w.0 (sym chain.0 ∙ z));
+          limit = λ z. absurd (w.0 (sym chain.0 ∙ z));
+        }
+
+  -- the label of a code stands for another loop
+  pub labelled-stands : (now : Labels) (c l : ℕ) → live sp c ≡ true → count c hs ≡ 0 → label sp c ≢ 0 → StandsFor t now (label sp c) l → AreLabelledBut sp known now hs
+  labelled-stands now c l a out named h = record {
+    rings = A.rings;
+    room = room_as sp sp known t now A.room (λ q k. k) h.room (omega (arith, ap length h.rows, length-set t.loops.items (label sp c) l));
+    table = stands t now (IsUsed sp hs) A.table (label sp c) l h named (c, a, out, refl);
+    alone = A.alone;
+    one = A.one;
+  }
+
+-- a ring gets a label that was free
+module _ (sp : Spots) (known : ℕ → Bool) (t : Labels) (c : ℕ) (A : AreLabelledBut sp known t (ring sp c)) (there : live sp c ≡ true) where
+  abbrev hs : List ℕ
+  hs = ring sp c
+
+  module _ (now : Labels) (m l : ℕ) (h : IsHandedOut t now m l) where
+    abbrev new : Spots
+    new = labelled sp m hs
+
+    is_given : IsGiven t now (IsUsed sp hs) m l
+    is_given = given t now (IsUsed sp hs) A.table m l (some_row sp known t hs A c (A.room.live_known c there)) h
+
+    -- each ring has a label of its own
+    pub labelled-given : AreLabelled new known now
+    labelled-given = record {
+      rings = AreRings-labelled sp A.rings c m there;
+      room = room_as sp new known t now A.room (λ d k. sym (live-labelled sp m hs d) ∙ k) h.room is_given.longer;
+      table = table_as now (λ n. IsUsed sp hs n ⊎ (n ≡ m)) (IsUsed new []) is_given.table
+          (λ n z u. elim u [
+            | inl v ↦ (v.0, live-labelled sp m hs v.0 ∙ v.1, refl, label-labelled_out sp m hs v.0 v.2 ∙ v.3)
+            | inr q ↦ (c, live-labelled sp m hs c ∙ there, refl, label-labelled_in sp m hs c (A.rings.rings c there).item there ∙ sym q)
+          ])
+          (λ n z u. let k = sym (live-labelled sp m hs u.0) ∙ u.1 in elim (IsIn_or_not u.0 hs) [
+            | inl i ↦ inr (sym u.3 ∙ label-labelled_in sp m hs u.0 i k)
+            | inr o ↦ inl (u.0, k, o, sym (label-labelled_out sp m hs u.0 o) ∙ u.3)
+          ]);
+      alone = λ d a _ z. let k = sym (live-labelled sp m hs d) ∙ a in elim (IsIn_or_not d hs) [
+        | inl i ↦ absurd (is_given.named (sym (label-labelled_in sp m hs d i k) ∙ z))
+        | inr o ↦ ring-labelled sp A.rings c m there d ∙ A.alone d k o (sym (label-labelled_out sp m hs d o) ∙ z)
+      ];
+      one = λ d e a b _ _ z q.
+          let k = sym (live-labelled sp m hs d) ∙ a in
+          let j = sym (live-labelled sp m hs e) ∙ b in
+          subst (IsIn e) (sym (ring-labelled sp A.rings c m there d)) (elim (IsIn_or_not d hs) [
+            | inl i ↦ elim (IsIn_or_not e hs) [
+              | inl i' ↦ subst (IsIn e) (sym (ring_same sp A.rings c d there i)) i'
+              | inr o' ↦ absurd (is_given.fresh (e, j, o', sym (label-labelled_out sp m hs e o') ∙ q ∙ label-labelled_in sp m hs d i k))
+            ]
+            | inr o ↦ elim (IsIn_or_not e hs) [
+              | inl i' ↦ absurd (is_given.fresh (d, k, o, sym (label-labelled_out sp m hs d o) ∙ sym q ∙ label-labelled_in sp m hs e i' j))
+              | inr o' ↦ A.one d e k j o o' (λ w. z (label-labelled_out sp m hs d o ∙ w)) (sym (label-labelled_out sp m hs e o') ∙ q ∙ label-labelled_out sp m hs d o)
+            ]
+          ]);
+    }
+
+    -- the ring stands in loop l, and the others where they stood
+    pub loops-given : in_loops now.loops.items new ≡ labelled (in_loops t.loops.items sp) l hs
+    loops-given = loops-labelled sp new t.loops.items now.loops.items l hs (blank-labelled sp m hs)
+        (λ q k i. ap (loop_at now.loops.items) (label-labelled_in sp m hs q i k) ∙ is_given.here)
+        (λ q k o. ap (loop_at now.loops.items) (label-labelled_out sp m hs q o) ∙ is_given.other (label sp q) (λ e. is_given.fresh (q, k, o, e)))
+
+  -- a ring of one gets label 0
+  module _ (alone : ring sp c ≡ c ∷ []) where
+    abbrev loose : Spots
+    loose = labelled sp 0 hs
+
+    -- each ring has a label of its own, or is a ring of one
+    pub labelled-loose : AreLabelled loose known t
+    labelled-loose = record {
+      rings = AreRings-labelled sp A.rings c 0 there;
+      room = room_as sp loose known t t A.room (λ d k. sym (live-labelled sp 0 hs d) ∙ k) refl (omega arith);
+      table = table_as t (IsUsed sp hs) (IsUsed loose []) A.table
+          (λ n z u. (u.0, live-labelled sp 0 hs u.0 ∙ u.1, refl, label-labelled_out sp 0 hs u.0 u.2 ∙ u.3))
+          (λ n z u. let k = sym (live-labelled sp 0 hs u.0) ∙ u.1 in elim (IsIn_or_not u.0 hs) [
+            | inl i ↦ absurd (z (sym u.3 ∙ label-labelled_in sp 0 hs u.0 i k))
+            | inr o ↦ (u.0, k, o, sym (label-labelled_out sp 0 hs u.0 o) ∙ u.3)
+          ]);
+      alone = λ d a _ z. let k = sym (live-labelled sp 0 hs d) ∙ a in ring-labelled sp A.rings c 0 there d ∙ elim (IsIn_or_not d hs) [
+        | inl i ↦ let e : d ≡ c = IsIn_one c d (subst (IsIn d) alone i) in subst (λ x. ring sp x ≡ x ∷ []) (sym e) alone
+        | inr o ↦ A.alone d k o (sym (label-labelled_out sp 0 hs d o) ∙ z)
+      ];
+      one = λ d e a b _ _ z q.
+          let k = sym (live-labelled sp 0 hs d) ∙ a in
+          let j = sym (live-labelled sp 0 hs e) ∙ b in
+          subst (IsIn e) (sym (ring-labelled sp A.rings c 0 there d)) (elim (IsIn_or_not d hs) [
+            | inl i ↦ absurd (z (label-labelled_in sp 0 hs d i k))
+            | inr o ↦ elim (IsIn_or_not e hs) [
+              | inl i' ↦ absurd (z (sym q ∙ label-labelled_in sp 0 hs e i' j))
+              | inr o' ↦ A.one d e k j o o' (λ w. z (label-labelled_out sp 0 hs d o ∙ w)) (sym (label-labelled_out sp 0 hs e o') ∙ q ∙ label-labelled_out sp 0 hs d o)
+            ]
+          ]);
+    }
+
+    -- the ring stands in no loop
+    pub loops-loose : in_loops t.loops.items loose ≡ labelled (in_loops t.loops.items sp) 0 hs
+    loops-loose = loops-labelled sp loose t.loops.items t.loops.items 0 hs (blank-labelled sp 0 hs)
+        (λ q k i. ap (loop_at t.loops.items) (label-labelled_in sp 0 hs q i k) ∙ A.table.none)
+        (λ q k o. ap (loop_at t.loops.items) (label-labelled_out sp 0 hs q o))
+
+module _ (sp : Spots) (known : ℕ → Bool) (t : Labels) (A : AreLabelled sp known t) where
+  -- where the ring of a code has label 0, nothing has to be said of it
+  pub but_loose : (c : ℕ) → live sp c ≡ true → label sp c ≡ 0 → AreLabelledBut sp known t (ring sp c)
+  but_loose c a zero_is = record {
+    rings = A.rings;
+    room = A.room;
+    table = table_as t (IsUsed sp []) (IsUsed sp (ring sp c)) A.table
+        (λ n z u. elim (IsIn_or_not u.0 (ring sp c)) [
+          | inl i ↦ absurd (z (sym u.3 ∙ (A.rings.rings c a).one_label u.0 i ∙ zero_is))
+          | inr o ↦ (u.0, u.1, o, u.3)
+        ])
+        (λ n z u. (u.0, u.1, refl, u.3));
+    alone = λ d k _ z. A.alone d k refl z;
+    one = λ d e k j _ _ z q. A.one d e k j refl refl z q;
+  }
+
+  -- the ring of a code with another label stands in loop l now
+  pub loops-stands : (now : Labels) (c l : ℕ) → live sp c ≡ true → label sp c ≢ 0 → StandsFor t now (label sp c) l → in_loops now.loops.items sp ≡ labelled (in_loops t.loops.items sp) l (ring sp c)
+  loops-stands now c l a named h = loops-labelled sp sp t.loops.items now.loops.items l (ring sp c) (λ q. refl)
+      (λ q k i. ap (loop_at now.loops.items) ((A.rings.rings c a).one_label q i) ∙ stands_here t now (label sp c) l h (label_row sp known t [] A c a refl))
+      (λ q k o. stands_other t now (label sp c) l h (label sp q) (λ e. absurd (omega (arith, o, A.one c q a k refl refl named e))))
 
   -- a ring is cut
   module _ (a b : ℕ) (a_there : live sp a ≡ true) (together : IsIn b (ring sp a)) (ne : a ≢ b) where
@@ -51,247 +212,142 @@ module _ (sp : Spots) (known : ℕ → Bool) (rows : List (Option Label)) (A : A
 
     -- b is live
     cut_b_there : live sp b ≡ true
-    cut_b_there = (A.table.rings.rings a a_there).awake b together
+    cut_b_there = (A.rings.rings a a_there).awake b together
+
+    -- the rings are rings
+    cut_rings : AreRings cutted
+    cut_rings = AreRings-cut sp A.rings a b a_there cut_b_there together ne
 
     -- a stands in the left part, b in the right one
     cut_sides : IsIn a (cut_left a b (ring sp a)) × IsIn b (cut_right a b (ring sp a))
-    cut_sides = let o = A.table.rings.rings a a_there in IsIn-cut a b (ring sp a) o.apart o.item together ne
-
-    -- once it is cut, the ring of a is the left part
-    cut_left_is : ring cutted a ≡ cut_left a b (ring sp a)
-    cut_left_is = (ring_left sp A.table.rings a b a_there cut_b_there together ne a cut_sides.0).0
-
-    -- and the ring of b is the right part
-    cut_right_is : ring cutted b ≡ cut_right a b (ring sp a)
-    cut_right_is = (ring_right sp A.table.rings a b a_there cut_b_there together ne b cut_sides.1).0
+    cut_sides = let o = A.rings.rings a a_there in IsIn-cut a b (ring sp a) o.apart o.item together ne
 
     -- the two rings have the items of the one between them
     cut_count : (x : ℕ) → count x (ring cutted a) + count x (ring cutted b) ≡ count x (ring sp a)
-    cut_count x = (λ i. count x (cut_left_is i) + count x (cut_right_is i)) ∙ cut_items sp A.table.rings a b a_there cut_b_there together ne x
+    cut_count x = (λ i. count x ((ring_left sp A.rings a b a_there cut_b_there together ne a cut_sides.0).0 i) + count x ((ring_right sp A.rings a b a_there cut_b_there together ne b cut_sides.1).0 i))
+        ∙ cut_items sp A.rings a b a_there cut_b_there together ne x
 
-    -- the two rings share the label that the one had
-    pub share-cut : ShareLabel cutted known rows a b
-    share-cut = let o = A.table.rings.rings a a_there in record {
-      table = table_kept sp cutted known rows A.table (AreRings-cut sp A.table.rings a b a_there cut_b_there together ne) (λ c h. subst (λ n. has_label rows n ≡ true) (sym (label-spliced sp a b c)) (A.table.labels_there c (sym (live-spliced sp a b c) ∙ h)));
-      a_there = live-spliced sp a b a ∙ a_there;
-      b_there = live-spliced sp a b b ∙ cut_b_there;
-      apart = let i : IsIn b (ring cutted b) = subst (IsIn b) (sym cut_right_is) cut_sides.1 in omega (arith, i, cut_count b, o.apart b);
-      one = label-spliced sp a b b ∙ o.one_label b together ∙ sym (label-spliced sp a b a);
-      held = let i : IsIn (holder rows (label cutted a)) (ring sp a) = subst (λ n. IsIn (holder rows n) (ring sp a)) (sym (label-spliced sp a b a)) (A.held a a_there) in
-          elim (IsIn_or_not (holder rows (label cutted a)) (ring cutted a)) [ inl j ↦ inl j | inr n ↦ inr (omega (arith, i, cut_count (holder rows (label cutted a)))) ];
-      others = λ c h n m.
-          let k = sym (live-spliced sp a b c) ∙ h in
-          let e = (ring_beside sp A.table.rings a b a_there cut_b_there together ne c k (omega (arith, cut_count c))).0 in
-          subst (λ hs. IsIn (holder rows (label cutted c)) hs) (sym e) (subst (λ w. IsIn (holder rows w) (ring sp c)) (sym (label-spliced sp a b c)) (A.held c k));
-    }
+    -- so each item stands in one of them
+    cut_here : (x : ℕ) → live sp x ≡ true → IsIn x (ring cutted x)
+    cut_here x k = (cut_rings.rings x (live-spliced sp a b x ∙ k)).item
 
-    -- the same, where the cut rings are told by an equation
-    pub share-cut_to : (new : Spots) (known' : ℕ → Bool) → new ≡ cutted → known' ≡ known → ShareLabel new known' rows a b
-    share-cut_to new known' is same = subst (λ k. ShareLabel new k rows a b) (sym same) (subst (λ s. ShareLabel s known rows a b) (sym is) share-cut)
+    -- the label of a cut ring isn't 0, since it had two items
+    cut_named : label sp a ≢ 0
+    cut_named z =
+        let one : ring sp a ≡ a ∷ [] = A.alone a a_there refl z in
+        ne (sym (IsIn_one a b (subst (IsIn b) one together)))
 
-  -- the rings of a and b get one label
-  module _ (a b : ℕ) (a_there : live sp a ≡ true) (b_there : live sp b ≡ true) (other : label sp b ≢ label sp a) where
-    -- b stands in another ring than a
-    b_apart : count b (ring sp a) ≡ 0
-    b_apart = elim (IsIn_or_not b (ring sp a)) [ inl i ↦ absurd (other ((A.table.rings.rings a a_there).one_label b i)) | inr n ↦ n ]
+    -- nothing has to be said of the labels of one of the two, since the other one has the label that both share
+    module _ (part rest : ℕ) (rest_there : live sp rest ≡ true) (rest_in : IsIn rest (ring sp a)) (items : (x : ℕ) → count x (ring cutted part) + count x (ring cutted rest) ≡ count x (ring sp a)) where
+      rest_out : count rest (ring cutted part) ≡ 0
+      rest_out = omega (arith, items rest, cut_here rest rest_there, (A.rings.rings a a_there).apart rest)
 
-    abbrev label_b : ℕ
-    label_b = label sp b
+      but_part : AreLabelledBut cutted known t (ring cutted part)
+      but_part = record {
+        rings = cut_rings;
+        room = room_as sp cutted known t t A.room (λ c h. sym (live-spliced sp a b c) ∙ h) refl (omega arith);
+        table = table_as t (IsUsed sp []) (IsUsed cutted (ring cutted part)) A.table
+            (λ n z u. elim (IsIn_or_not u.0 (ring cutted part)) [
+              | inl i ↦
+                  let o = A.rings.rings a a_there in
+                  let j : IsIn u.0 (ring sp a) = omega (arith, i, items u.0) in
+                  (rest, live-spliced sp a b rest ∙ rest_there, rest_out, label-spliced sp a b rest ∙ o.one_label rest rest_in ∙ sym (o.one_label u.0 j) ∙ u.3)
+              | inr m ↦ (u.0, live-spliced sp a b u.0 ∙ u.1, m, label-spliced sp a b u.0 ∙ u.3)
+            ])
+            (λ n z u. (u.0, sym (live-spliced sp a b u.0) ∙ u.1, refl, sym (label-spliced sp a b u.0) ∙ u.3));
+        alone = λ c h out z.
+            let k = sym (live-spliced sp a b c) ∙ h in
+            let zero_is = sym (label-spliced sp a b c) ∙ z in
+            elim (IsIn_or_not c (ring sp a)) [
+              | inl i ↦ absurd (cut_named (sym ((A.rings.rings a a_there).one_label c i) ∙ zero_is))
+              | inr m ↦ (ring_beside sp A.rings a b a_there cut_b_there together ne c k m).0 ∙ A.alone c k refl zero_is
+            ];
+        one = λ c d h g out away z e.
+            let k = sym (live-spliced sp a b c) ∙ h in
+            let j = sym (live-spliced sp a b d) ∙ g in
+            let i : IsIn d (ring sp c) = A.one c d k j refl refl (λ q. z (label-spliced sp a b c ∙ q)) (sym (label-spliced sp a b d) ∙ e ∙ label-spliced sp a b c) in
+            elim (IsIn_or_not c (ring sp a)) [
+              | inl m ↦
+                  let c_in : IsIn c (ring cutted rest) = omega (arith, items c, out, m) in
+                  let whole : IsIn d (ring sp a) = subst (IsIn d) (ring_same sp A.rings a c a_there m) i in
+                  let d_in : IsIn d (ring cutted rest) = omega (arith, items d, away, whole) in
+                  subst (IsIn d) (sym (ring_same cutted cut_rings rest c (live-spliced sp a b rest ∙ rest_there) c_in)) d_in
+              | inr m ↦ subst (IsIn d) (sym (ring_beside sp A.rings a b a_there cut_b_there together ne c k m).0) i
+            ];
+      }
 
-    abbrev like_b : Spots
-    like_b = labelled sp label_b (ring sp a)
+    but_first : AreLabelledBut cutted known t (ring cutted a)
+    but_first = but_part a b cut_b_there together cut_count
 
-    -- each code keeps its ring, where the ring of a gets the label of b
-    like_b_rings : (q : ℕ) → ring like_b q ≡ ring sp q
-    like_b_rings q = ring-labelled sp A.table.rings a label_b a_there q
+    but_second : AreLabelledBut cutted known t (ring cutted b)
+    but_second = but_part b a a_there (A.rings.rings a a_there).item (λ x. omega (arith, cut_count x))
 
-    -- b keeps its label
-    like_b_b : label like_b b ≡ label_b
-    like_b_b = label-labelled_out sp label_b (ring sp a) b b_apart
+    -- b stands beside the ring of a
+    second_out : count b (ring cutted a) ≡ 0
+    second_out = rest_out a b cut_b_there together cut_count
 
-    -- a has the label of b
-    like_b_a : label like_b a ≡ label_b
-    like_b_a = label-labelled_in sp label_b (ring sp a) a (A.table.rings.rings a a_there).item a_there
+    -- what is seen where b's part gets loop l
+    seen_second : (l : ℕ) → labelled (in_loops t.loops.items cutted) l (ring cutted b) ≡ labelled (spliced (in_loops t.loops.items sp) a b) l (ring (spliced (in_loops t.loops.items sp) a b) b)
+    seen_second l =
+        (λ i. labelled (in_loops t.loops.items cutted) l (sym (ring-loops t.loops.items cutted b) i))
+        ∙ ap (λ (s : Spots). labelled s l (ring s b)) (loops-spliced t.loops.items sp a b)
 
-    -- the two rings share the label of b
-    shared : ShareLabel like_b known rows a b
-    shared = record {
-      table = table_kept sp like_b known rows A.table (AreRings-labelled sp A.table.rings a label_b a_there) (λ c h. let k = sym (live-labelled sp label_b (ring sp a) c) ∙ h in elim (IsIn_or_not c (ring sp a)) [
-        | inl i ↦ subst (λ n. has_label rows n ≡ true) (sym (label-labelled_in sp label_b (ring sp a) c i k)) (A.table.labels_there b b_there)
-        | inr n ↦ subst (λ n. has_label rows n ≡ true) (sym (label-labelled_out sp label_b (ring sp a) c n)) (A.table.labels_there c k)
-      ]);
-      a_there = live-labelled sp label_b (ring sp a) a ∙ a_there;
-      b_there = live-labelled sp label_b (ring sp a) b ∙ b_there;
-      apart = ap (count b) (like_b_rings a) ∙ b_apart;
-      one = like_b_b ∙ sym like_b_a;
-      held = inr (subst (λ hs. IsIn (holder rows (label like_b a)) hs) (sym (like_b_rings b)) (subst (λ n. IsIn (holder rows n) (ring sp b)) (sym like_b_a) (A.held b b_there)));
-      others = λ c h n m.
-          let k = sym (live-labelled sp label_b (ring sp a) c) ∙ h in
-          let out : count c (ring sp a) ≡ 0 = sym (ap (count c) (like_b_rings a)) ∙ n in
-          subst (λ hs. IsIn (holder rows (label like_b c)) hs) (sym (like_b_rings c)) (subst (λ l. IsIn (holder rows l) (ring sp c)) (sym (label-labelled_out sp label_b (ring sp a) c out)) (A.held c k));
-    }
+    -- the same, where the shared label gets loop l, and a's part another label, which stands for the loop in which the ring stood
+    seen_first : (now : Labels) (l kept : ℕ) → StandsFor t now (label cutted b) l → kept ≡ loop_at t.loops.items (label sp a) → labelled (in_loops now.loops.items cutted) kept (ring cutted a) ≡ labelled (in_loops t.loops.items cutted) l (ring cutted b)
+    seen_first now l kept h is = same_spots (labelled (in_loops now.loops.items cutted) kept (ring cutted a)) (labelled (in_loops t.loops.items cutted) l (ring cutted b))
+        (λ q. blank-labelled (in_loops now.loops.items cutted) kept (ring cutted a) q ∙ blank-loops now.loops.items cutted q ∙ sym (blank-labelled (in_loops t.loops.items cutted) l (ring cutted b) q ∙ blank-loops t.loops.items cutted q))
+        (λ q a_live.
+        let k : live cutted q ≡ true = sym (live-labelled (in_loops now.loops.items cutted) kept (ring cutted a) q ∙ live-loops now.loops.items cutted q) ∙ a_live in
+        let old = sym (live-spliced sp a b q) ∙ k in
+        let o = A.rings.rings a a_there in
+        elim (IsIn_or_not q (ring cutted b)) [
+          | inl i ↦
+              let whole : IsIn q (ring sp a) = omega (arith, i, cut_count q) in
+              label-labelled_out (in_loops now.loops.items cutted) kept (ring cutted a) q (omega (arith, i, cut_count q, o.apart q))
+              ∙ label-loops now.loops.items cutted q k ∙ ap (loop_at now.loops.items) (label_of q whole)
+              ∙ stands_here t now (label cutted b) l h (label_row cutted known t (ring cutted a) but_first b (live-spliced sp a b b ∙ cut_b_there) second_out)
+              ∙ sym (label-labelled_in (in_loops t.loops.items cutted) l (ring cutted b) q i (live-loops t.loops.items cutted q ∙ k))
+          | inr n ↦ elim (IsIn_or_not q (ring cutted a)) [
+            | inl i ↦
+                let whole : IsIn q (ring sp a) = omega (arith, i, cut_count q) in
+                label-labelled_in (in_loops now.loops.items cutted) kept (ring cutted a) q i (live-loops now.loops.items cutted q ∙ k)
+                ∙ is ∙ ap (loop_at t.loops.items) (sym (o.one_label q whole) ∙ sym (label-spliced sp a b q))
+                ∙ sym (label-labelled_out (in_loops t.loops.items cutted) l (ring cutted b) q n ∙ label-loops t.loops.items cutted q k)
+            | inr m ↦
+                label-labelled_out (in_loops now.loops.items cutted) kept (ring cutted a) q m ∙ label-loops now.loops.items cutted q k
+                ∙ stands_other t now (label cutted b) l h (label cutted q) (λ e. let i : IsIn q (ring sp a) = A.one a q a_there old refl refl cut_named (sym (label-spliced sp a b q) ∙ e ∙ label-spliced sp a b b ∙ o.one_label b together) in absurd (omega (arith, i, n, m, cut_count q)))
+                ∙ sym (label-labelled_out (in_loops t.loops.items cutted) l (ring cutted b) q n ∙ label-loops t.loops.items cutted q k)
+          ]
+        ])
+      where
+        label_of : (q : ℕ) → IsIn q (ring sp a) → label cutted q ≡ label cutted b
+        label_of q i = let o = A.rings.rings a a_there in label-spliced sp a b q ∙ o.one_label q i ∙ sym (label-spliced sp a b b ∙ o.one_label b together)
 
-    -- that of b
-    share-label : (new : Spots) (known' : ℕ → Bool) → new ≡ labelled sp (label sp b) (ring sp a) → known' ≡ known → ShareLabel new known' rows a b
-    share-label new known' is same = subst (λ k. ShareLabel new k rows a b) (sym same) (subst (λ s. ShareLabel s known rows a b) (sym is) shared)
+    -- what is seen of the cut ring, in either case
+    pub seen_cut_first : (after : Spots) → after ≡ cutted → (now : Labels) (l kept : ℕ) → StandsFor t now (label after b) l → kept ≡ loop_at t.loops.items (label sp a) →
+        labelled (in_loops now.loops.items after) kept (ring after a) ≡ labelled (spliced (in_loops t.loops.items sp) a b) l (ring (spliced (in_loops t.loops.items sp) a b) b)
+    seen_cut_first after is now l kept h k = ap (λ (s : Spots). labelled (in_loops now.loops.items s) kept (ring s a)) is ∙ seen_first now l kept (subst (λ (s : Spots). StandsFor t now (label s b) l) is h) k ∙ seen_second l
 
-    -- labels of the two rings alone have changed
-    relabelled-share : (new : Spots) → new ≡ labelled sp (label sp b) (ring sp a) → IsRelabelled sp new a b
-    relabelled-share new is = subst (λ s. IsRelabelled sp s a b) (sym is) (record { same = blank-labelled sp label_b (ring sp a); others = λ q h n m. label-labelled_out sp label_b (ring sp a) q n })
+    pub seen_cut_second : (after : Spots) → after ≡ cutted → (l : ℕ) → labelled (in_loops t.loops.items after) l (ring after b) ≡ labelled (spliced (in_loops t.loops.items sp) a b) l (ring (spliced (in_loops t.loops.items sp) a b) b)
+    seen_cut_second after is l = ap (λ (s : Spots). labelled (in_loops t.loops.items s) l (ring s b)) is ∙ seen_second l
 
--- which of the two comes first is the same
-pub share_turned : (sp : Spots) (known : ℕ → Bool) (rows : List (Option Label)) (a b : ℕ) → ShareLabel sp known rows a b → ShareLabel sp known rows b a
-share_turned sp known rows a b S = record {
-  table = S.table;
-  a_there = S.b_there;
-  b_there = S.a_there;
-  apart = elim (IsIn_or_not a (ring sp b)) [
-    | inl i ↦ let j : IsIn b (ring sp a) = shared_item sp S.table.rings a b a S.a_there S.b_there (S.table.rings.rings a S.a_there).item i in absurd (omega (arith, S.apart))
-    | inr n ↦ n
-  ];
-  one = sym S.one;
-  held = elim S.held [ inl i ↦ inr (subst (λ n. IsIn (holder rows n) (ring sp a)) (sym S.one) i) | inr i ↦ inl (subst (λ n. IsIn (holder rows n) (ring sp b)) (sym S.one) i) ];
-  others = λ c h n m. S.others c h m n;
-}
+-- a ring was cut, and its two parts share its label
+pub record IsCut (sp : Spots) (known : ℕ → Bool) (t : Labels) (a b : ℕ) : Type 0 where
+  pub rings : AreRings sp
+  pub a_there : live sp a ≡ true
+  pub b_there : live sp b ≡ true
+  pub first : AreLabelledBut sp known t (ring sp a)
+  pub second : AreLabelledBut sp known t (ring sp b)
+  pub beside : count b (ring sp a) ≡ 0
+  pub named : label sp b ≢ 0
 
--- which of two rings that got labels comes first is the same
-relabelled_turned : (sp new : Spots) (a b : ℕ) → IsRelabelled sp new a b → IsRelabelled sp new b a
-relabelled_turned sp new a b r = record { same = r.same; others = λ q h n m. r.others q h m n }
-
-module _ (sp : Spots) (known : ℕ → Bool) (rows : List (Option Label)) (A : AreLabelled sp known rows) (a b : ℕ) (a_there : live sp a ≡ true) (b_there : live sp b ≡ true) (other : label sp b ≢ label sp a) where
-  -- the two rings share a label, whichever of the two it is
-  pub share-one : (new : Spots) (known' : ℕ → Bool) → HaveOneLabel sp new a b → known' ≡ known → ShareLabel new known' rows a b
-  share-one new known' (inl is) same = share-label sp known rows A a b a_there b_there other new known' is same
-  share-one new known' (inr is) same = share_turned new known' rows b a (share-label sp known rows A b a b_there a_there (λ e. other (sym e)) new known' is same)
-
-  -- labels of the two rings alone have changed
-  pub relabelled-one : (new : Spots) → HaveOneLabel sp new a b → IsRelabelled sp new a b
-  relabelled-one new (inl is) = relabelled-share sp known rows A a b a_there b_there other new is
-  relabelled-one new (inr is) = relabelled_turned sp new b a (relabelled-share sp known rows A b a b_there a_there (λ e. other (sym e)) new is)
-
-module _ (sp : Spots) (known : ℕ → Bool) (rows : List (Option Label)) (a b : ℕ) (S : ShareLabel sp known rows a b) where
-  abbrev shared_label : ℕ
-  shared_label = label sp b
-
-  -- a code whose ring has the shared label's holder stands in one of the two rings
-  whose : (c : ℕ) → live sp c ≡ true → IsIn (holder rows shared_label) (ring sp c) → IsIn c (ring sp a) ⊎ IsIn c (ring sp b)
-  whose c h i = elim S.held [
-    | inl j ↦ inl (shared_item sp S.table.rings a c (holder rows shared_label) S.a_there h (subst (λ n. IsIn (holder rows n) (ring sp a)) (sym S.one) j) i)
-    | inr j ↦ inr (shared_item sp S.table.rings b c (holder rows shared_label) S.b_there h (subst (λ n. IsIn (holder rows n) (ring sp b)) (sym S.one) j) i)
-  ]
-
-  -- once b owns the label, a owns the one that it owned before, which wasn't that one
-  pub own_kept : (rows' : List (Option Label)) → ((q : ℕ) → own rows' q ≡ cond (nat_eq q b) shared_label (cond (nat_eq q (holder rows shared_label)) (own rows b) (own rows q))) → own rows a ≢ shared_label → own rows' a ≡ own rows a
-  own_kept rows' own_is ne =
-      let not_b : a ≢ b = λ e. let i : IsIn b (ring sp a) = subst (λ z. IsIn z (ring sp a)) e (S.table.rings.rings a S.a_there).item in absurd (omega (arith, i, S.apart)) in
-      own_is a ∙ ap (λ t. cond t shared_label (cond (nat_eq a (holder rows shared_label)) (own rows b) (own rows a))) (ne_eqb a b not_b)
-      ∙ ap (λ t. cond t (own rows b) (own rows a)) (ne_eqb a (holder rows shared_label) (λ e. ne (ap (own rows) e ∙ S.table.owners.owned shared_label (S.table.labels_there b S.b_there))))
-
-  -- a label for the ring of a changes labels of the two rings alone
-  pub relabelled_part : (new : Spots) (l : ℕ) → new ≡ labelled sp l (ring sp a) → IsRelabelled sp new a b
-  relabelled_part new l is = subst (λ s. IsRelabelled sp s a b) (sym is) (record { same = blank-labelled sp l (ring sp a); others = λ q h n m. label-labelled_out sp l (ring sp a) q n })
-
-  -- the ring of b keeps the label, which b owns now, and the ring of a gets the label that a owns
-  module _ (new : Spots) (rows' : List (Option Label)) (b_known : has_label rows b ≡ true) (a_known : has_label rows a ≡ true) (there : has_label rows' ≡ has_label rows)
-      (own_is : (q : ℕ) → own rows' q ≡ cond (nat_eq q b) shared_label (cond (nat_eq q (holder rows shared_label)) (own rows b) (own rows q)))
-      (holder_is : (q : ℕ) → holder rows' q ≡ cond (nat_eq q shared_label) b (cond (nat_eq q (own rows b)) (holder rows shared_label) (holder rows q)))
-      (is : new ≡ labelled sp (own rows' a) (ring sp a)) where
-    abbrev own_a : ℕ
-    own_a = own rows' a
-
-    -- each code owns one label and each label has one holder once b owns the shared one
-    owners' : AreOwned (own rows') (holder rows') (has_label rows)
-    owners' = handed_over (own rows) (holder rows) (has_label rows) S.table.owners (own rows') (holder rows') b shared_label b_known (S.table.labels_there b S.b_there) own_is holder_is
-
-    -- b is the holder of the shared label
-    holder_of_x : holder rows' shared_label ≡ b
-    holder_of_x = holder_x (own rows) (holder rows) (has_label rows) S.table.owners (own rows') (holder rows') b shared_label b_known (S.table.labels_there b S.b_there) own_is holder_is
-
-    abbrev now : Spots
-    now = labelled sp own_a (ring sp a)
-
-    -- each code keeps its ring
-    rings_are : (c : ℕ) → ring now c ≡ ring sp c
-    rings_are c = ring-labelled sp S.table.rings a own_a S.a_there c
-
-    -- the live codes stay
-    live_are : (c : ℕ) → live now c ≡ live sp c
-    live_are c = live-labelled sp own_a (ring sp a) c
-
-    -- a label's holder stands in a ring as it is now where it stood in the ring before
-    holds : (c n : ℕ) → label now c ≡ n → IsIn (holder rows' n) (ring sp c) → IsIn (holder rows' (label now c)) (ring now c)
-    holds c n e i = subst (λ hs. IsIn (holder rows' (label now c)) hs) (sym (rings_are c)) (subst (λ w. IsIn (holder rows' w) (ring sp c)) (sym e) i)
-
-    -- the ring of a has the holder of its new label
-    held_in_a : (c : ℕ) → live sp c ≡ true → IsIn c (ring sp a) → IsIn (holder rows' (label now c)) (ring now c)
-    held_in_a c h i = holds c own_a (label-labelled_in sp own_a (ring sp a) c i h)
-        (subst (λ w. IsIn w (ring sp c)) (sym (owners'.held a a_known)) (subst (IsIn a) (sym (ring_same sp S.table.rings a c S.a_there i)) (S.table.rings.rings a S.a_there).item))
-
-    -- the ring of b has the holder of the shared label
-    held_in_b : (c : ℕ) → live sp c ≡ true → count c (ring sp a) ≡ 0 → IsIn c (ring sp b) → IsIn (holder rows' (label now c)) (ring now c)
-    held_in_b c h n i = holds c shared_label (label-labelled_out sp own_a (ring sp a) c n ∙ (S.table.rings.rings b S.b_there).one_label c i)
-        (subst (λ w. IsIn w (ring sp c)) (sym holder_of_x) (subst (IsIn b) (sym (ring_same sp S.table.rings b c S.b_there i)) (S.table.rings.rings b S.b_there).item))
-
-    -- elsewhere each label has the holder that it had
-    held_else : (c : ℕ) → live sp c ≡ true → count c (ring sp a) ≡ 0 → count c (ring sp b) ≡ 0 → IsIn (holder rows' (label now c)) (ring now c)
-    held_else c h n m =
-        let i : IsIn (holder rows (label sp c)) (ring sp c) = S.others c h n m in
-        let not_x : label sp c ≢ shared_label = λ e. elim (whose c h (subst (λ w. IsIn (holder rows w) (ring sp c)) e i)) [ inl j ↦ absurd (omega arith) | inr j ↦ absurd (omega arith) ] in
-        let not_own : label sp c ≢ own rows b = λ e.
-        let k : IsIn b (ring sp c) = subst (λ w. IsIn w (ring sp c)) (ap (holder rows) e ∙ S.table.owners.held b b_known) i in
-        let j : IsIn c (ring sp b) = shared_item sp S.table.rings b c b S.b_there h (S.table.rings.rings b S.b_there).item k in
-        absurd (omega arith) in
-        holds c (label sp c) (label-labelled_out sp own_a (ring sp a) c n)
-        (subst (λ w. IsIn w (ring sp c)) (sym (holder_other (own rows) (holder rows) (has_label rows) S.table.owners (own rows') (holder rows') b shared_label b_known (S.table.labels_there b S.b_there) own_is holder_is (label sp c) not_x not_own)) i)
-
-    -- each ring has a label of its own
-    now_labelled : AreLabelled now known rows'
-    now_labelled = record {
-      table = record {
-        rings = AreRings-labelled sp S.table.rings a own_a S.a_there;
-        owners = subst (λ t. AreOwned (own rows') (holder rows') t) (sym there) owners';
-        codes_there = λ c k. ap (λ t. t c) there ∙ S.table.codes_there c k;
-        labels_there = λ c h. let k = sym (live_are c) ∙ h in elim (IsIn_or_not c (ring sp a)) [
-          | inl i ↦ subst (λ n. has_label rows' n ≡ true) (sym (label-labelled_in sp own_a (ring sp a) c i k)) (ap (λ t. t own_a) there ∙ owners'.own_there a a_known)
-          | inr n ↦ subst (λ n. has_label rows' n ≡ true) (sym (label-labelled_out sp own_a (ring sp a) c n)) (ap (λ t. t (label sp c)) there ∙ S.table.labels_there c k)
-        ];
-      };
-      held = λ c h. let k = sym (live_are c) ∙ h in elim (IsIn_or_not c (ring sp a)) [
-        | inl i ↦ held_in_a c k i
-        | inr n ↦ elim (IsIn_or_not c (ring sp b)) [ inl i ↦ held_in_b c k n i | inr m ↦ held_else c k n m ]
-      ];
-    }
-
-    -- the same, where the labels are told by an equation
-    pub labelled-apart : (known' : ℕ → Bool) → known' ≡ known → AreLabelled new known' rows'
-    labelled-apart known' same = subst (λ k. AreLabelled new k rows') (sym same) (subst (λ s. AreLabelled s known rows') (sym is) now_labelled)
-
-  -- the two rings are joined
-  labelled-join : AreLabelled (spliced sp a b) known rows
-  labelled-join = record {
-    table = table_kept sp (spliced sp a b) known rows S.table (AreRings-join sp S.table.rings a b S.a_there S.b_there S.apart S.one) (λ c h. subst (λ n. has_label rows n ≡ true) (sym (label-spliced sp a b c)) (S.table.labels_there c (sym (live-spliced sp a b c) ∙ h)));
-    held = λ c h. let k = sym (live-spliced sp a b c) ∙ h in elim (IsIn_or_not c (joined a b (ring sp a) (ring sp b))) [
-      | inl i ↦ in_joint c k i
-      | inr n ↦ subst (λ hs. IsIn (holder rows (label (spliced sp a b) c)) hs) (sym (ring_aside sp S.table.rings a b S.a_there S.b_there S.apart S.one c k n).0)
-          (subst (λ w. IsIn (holder rows w) (ring sp c)) (sym (label-spliced sp a b c)) (S.others c k (omega (arith, items c)) (omega (arith, items c))))
-    ];
-  } where
-    items : (q : ℕ) → count q (joined a b (ring sp a) (ring sp b)) ≡ count q (ring sp a) + count q (ring sp b)
-    items = join_items sp S.table.rings a b S.a_there S.b_there S.apart S.one
-
-    one_label : (c : ℕ) → live sp c ≡ true → IsIn c (joined a b (ring sp a) (ring sp b)) → label (spliced sp a b) c ≡ label sp a
-    one_label c h i = label-spliced sp a b c ∙ elim (IsIn_or_not c (ring sp a)) [
-      | inl j ↦ (S.table.rings.rings a S.a_there).one_label c j
-      | inr n ↦ (S.table.rings.rings b S.b_there).one_label c (omega (arith, items c)) ∙ S.one
-    ]
-
-    held_joint : IsIn (holder rows (label sp a)) (joined a b (ring sp a) (ring sp b))
-    held_joint = elim S.held [ inl i ↦ omega (arith, i, items (holder rows (label sp a))) | inr i ↦ omega (arith, i, items (holder rows (label sp a))) ]
-
-    in_joint : (c : ℕ) → live sp c ≡ true → IsIn c (joined a b (ring sp a) (ring sp b)) → IsIn (holder rows (label (spliced sp a b) c)) (ring (spliced sp a b) c)
-    in_joint c h i = subst (λ hs. IsIn (holder rows (label (spliced sp a b) c)) hs) (sym (ring_joint sp S.table.rings a b S.a_there S.b_there S.apart S.one c i).0)
-        (subst (λ w. IsIn (holder rows w) (joined a b (ring sp a) (ring sp b))) (sym (one_label c h i)) held_joint)
-
-  -- the same, where the joint ring is told by an equation
-  pub labelled-join_to : (new : Spots) (known' : ℕ → Bool) → new ≡ spliced sp a b → known' ≡ known → AreLabelled new known' rows
-  labelled-join_to new known' is same = subst (λ k. AreLabelled new k rows) (sym same) (subst (λ s. AreLabelled s known rows) (sym is) labelled-join)
+pub is_cut : (sp : Spots) (known : ℕ → Bool) (t : Labels) (A : AreLabelled sp known t) (a b : ℕ) (a_there : live sp a ≡ true) (together : IsIn b (ring sp a)) (ne : a ≢ b) (new : Spots) (known' : ℕ → Bool) → new ≡ spliced sp a b → known' ≡ known → IsCut new known' t a b
+is_cut sp known t A a b a_there together ne new known' is same = subst (λ k. IsCut new k t a b) (sym same) (subst (λ s. IsCut s known t a b) (sym is) (record {
+  rings = cut_rings sp known t A a b a_there together ne;
+  a_there = live-spliced sp a b a ∙ a_there;
+  b_there = live-spliced sp a b b ∙ cut_b_there sp known t A a b a_there together ne;
+  first = but_first sp known t A a b a_there together ne;
+  second = but_second sp known t A a b a_there together ne;
+  beside = second_out sp known t A a b a_there together ne;
+  named = λ z. cut_named sp known t A a b a_there together ne (sym ((A.rings.rings a a_there).one_label b together) ∙ sym (label-spliced sp a b b) ∙ z);
+}))

@@ -1,171 +1,223 @@
--- The table of labels, where rows are written, where labels come and where one gets another owner.
-use Rattle.arena_rows.proofs.Prelude.{◌≡◌, ◌≢◌, ℕ, ◌<◌, ◌≤◌, Bool, true, false, cond, nat_eq, nat_lt, List, [], length, Option, Some, unwrap_or, Result, Ok, Err, OnOk, refl, sym, ap, subst, ◌∙◌, arith, eq-eqb, ne_eqb, ◌⊎◌, inl, inr, eqb_tells, nat_tests, row_at, Label, new_label, row_of, has_label, own, holder, loop_at, AreOwned, HaveNewLabels}
-use Rattle.arena_rows.proofs.Views.{row_past}
+-- The table of labels, where one is handed out, taken back or stands for another loop.
+use Rattle.arena_rows.proofs.Prelude.{◌≡◌, ◌≢◌, ℕ, zero, suc, ◌+◌, ◌<◌, ◌≤◌, List, [], ◌∷◌, ◌++◌, length, refl, sym, ap, subst, ◌∙◌, arith, ◌⊎◌, inl, inr, get_or-set_same, get_or-set_other, length-set, length-append, cases_eq, count, IsIn, tick_same, tick_other, tick_le, IsIn_head, Labels, loop_at, IsChain, IsTable, StandsFor, IsReused, IsNew, IsHandedOut, IsTakenBack, HaveMoreRoom}
+use Rattle.std.proofs.lemmas.List.{get_or_past, get_or_push}
 
--- a truth value is true or false
-yes_or_no : (b : Bool) → (b ≡ true) ⊎ (b ≡ false)
-yes_or_no true = inl refl
-yes_or_no false = inr refl
+-- the free labels stay chained where none of them is written
+chain_kept : (rows new : List ℕ) (f : ℕ) (ns : List ℕ) → ((n : ℕ) → IsIn n ns → loop_at new n ≡ loop_at rows n) → IsChain rows f ns → IsChain new f ns
+chain_kept rows new f [] same c = c
+chain_kept rows new f (n ∷ ns) same c = (c.0, subst (λ g. IsChain new g ns) (sym (same n (IsIn_head n ns))) (chain_kept rows new (loop_at rows n) ns (λ m i. same m (omega (arith, i))) c.1))
 
--- one row is written, in place of another or where there was none
-module _ (rows new : List (Option Label)) (n : ℕ) (row : Label) (is : (q : ℕ) → row_at new q ≡ cond (nat_eq q n) (Some row) (row_at rows q)) where
-  -- the row that is written is read back
-  read_here : (q : ℕ) → q ≡ n → row_at new q ≡ Some row
-  read_here q e = is q ∙ ap (λ b. cond b (Some row) (row_at rows q)) (eq-eqb q n e)
-
-  -- each other row stays
-  read_other : (q : ℕ) → q ≢ n → row_at new q ≡ row_at rows q
-  read_other q ne = is q ∙ ap (λ b. cond b (Some row) (row_at rows q)) (ne_eqb q n ne)
-
-  -- of the row that is written each part is read back, and each other row's part stays
-  pub written : (f : Label → ℕ) (q : ℕ) → f (row_of new q) ≡ cond (nat_eq q n) (f row) (f (row_of rows q))
-  written f q = elim (eqb_tells q n) [
-    | inl p ↦ ap (λ o. f (unwrap_or o (new_label q))) (read_here q p.1) ∙ sym (ap (λ b. cond b (f row) (f (row_of rows q))) p.0)
-    | inr p ↦ ap (λ o. f (unwrap_or o (new_label q))) (read_other q p.1) ∙ sym (ap (λ b. cond b (f row) (f (row_of rows q))) p.0)
-  ]
-
-  -- what the new row has as the old one had it
-  pub unwritten : (f : Label → ℕ) → f row ≡ f (row_of rows n) → (q : ℕ) → f (row_of new q) ≡ f (row_of rows q)
-  unwritten f same q = elim (eqb_tells q n) [
-    | inl p ↦ ap (λ o. f (unwrap_or o (new_label q))) (read_here q p.1) ∙ same ∙ ap (λ k. f (row_of rows k)) (sym p.1)
-    | inr p ↦ ap (λ o. f (unwrap_or o (new_label q))) (read_other q p.1)
-  ]
-
--- what number n has already
-pub already : (f : ℕ → ℕ) (n x : ℕ) → f n ≡ x → (q : ℕ) → f q ≡ cond (nat_eq q n) x (f q)
-already f n x is q = elim (eqb_tells q n) [
-  | inl p ↦ ap f p.1 ∙ is ∙ sym (ap (λ b. cond b x (f q)) p.0)
-  | inr p ↦ sym (ap (λ b. cond b x (f q)) p.0)
-]
-
--- a test that a number is below another is true only where it is
-within : (n k : ℕ) → nat_lt n k ≡ true → n < k
-within n k h = grind (arith, nat_tests)
-
--- and false only where it is not
-beyond : (n k : ℕ) → nat_lt n k ≡ false → k ≤ n
-beyond n k h = grind (arith, nat_tests)
-
--- it is true wherever the number is below the other
-inside : (n k : ℕ) → n < k → nat_lt n k ≡ true
-inside n k h = grind (arith, nat_tests)
-
--- a label that is there has a row in the list
-pub label_within : (rows : List (Option Label)) (n : ℕ) → has_label rows n ≡ true → n < length rows
-label_within rows n h = within n (length rows) h
-
--- no label is there where there are no rows
-pub no_label : (n : ℕ) → has_label [] n ≡ true → ⊥
-no_label n h = let none = within n 0 h in omega arith
-
--- the label before one that is there
-pub label_below : (rows : List (Option Label)) (m n : ℕ) → m ≤ n → has_label rows n ≡ true → has_label rows m ≡ true
-label_below rows m n h there = inside m (length rows) (omega (arith, h, within n (length rows) there))
-
--- a label is there where rows were made past its number
-pub label_reached : {E : Type 0} (r : Result (Unit {0}) E) (rows : List (Option Label)) (n : ℕ) → OnOk r (n < length rows) → OnOk r (has_label rows n ≡ true)
-label_reached (Ok x) rows n h = inside n (length rows) h
-label_reached (Err e) rows n h = tt
-
--- there is room for more labels
-pub more_labels : (rows new : List (Option Label)) → ((q : ℕ) → row_at new q ≡ row_at rows q) → length rows ≤ length new → HaveNewLabels rows new
-more_labels rows new same grows = record {
-  kept = λ k h. inside k (length new) (omega (arith, grows, within k (length rows) h));
-  same = λ k h. ap (λ o. unwrap_or o (new_label k)) (same k);
-  added = λ k f h. ap (λ o. unwrap_or o (new_label k)) (same k ∙ row_past rows k (beyond k (length rows) f));
+-- the same labels are used, told in another way; of label 0 nothing is said
+pub table_as : (t : Labels) (used other : ℕ → Type 0) → IsTable t used → ((n : ℕ) → n ≢ 0 → used n → other n) → ((n : ℕ) → n ≢ 0 → other n → used n) → IsTable t other
+table_as t used other T to from = record {
+  none = T.none;
+  frees = T.frees;
+  chain = T.chain;
+  apart = T.apart;
+  within = T.within;
+  there = λ n z u. T.there n z (from n z u);
+  taken = λ n z b f. to n z (T.taken n z b f);
 }
 
--- a map that has x at c now, and at d what it had at c
-module _ (f f' : ℕ → ℕ) (c x d : ℕ) (is : (q : ℕ) → f' q ≡ cond (nat_eq q c) x (cond (nat_eq q d) (f c) (f q))) where
-  -- at c it has x
-  turned_here : f' c ≡ x
-  turned_here = is c ∙ ap (λ b. cond b x (cond (nat_eq c d) (f c) (f c))) (eq-eqb c c refl)
+-- the label that stands for another loop, and each other one
+pub stands_here : (t new : Labels) (m l : ℕ) → StandsFor t new m l → m < length t.loops.items → loop_at new.loops.items m ≡ l
+stands_here t new m l h below = ap (λ xs. loop_at xs m) h.rows ∙ get_or-set_same t.loops.items m l 0 below
 
-  -- at d it has what f has at c
-  turned_before : (q : ℕ) → q ≢ c → q ≡ d → f' q ≡ f c
-  turned_before q n e = is q ∙ ap (λ b. cond b x (cond (nat_eq q d) (f c) (f q))) (ne_eqb q c n) ∙ ap (λ b. cond b (f c) (f q)) (eq-eqb q d e)
+pub stands_other : (t new : Labels) (m l : ℕ) → StandsFor t new m l → (n : ℕ) → n ≢ m → loop_at new.loops.items n ≡ loop_at t.loops.items n
+stands_other t new m l h n ne = ap (λ xs. loop_at xs n) h.rows ∙ get_or-set_other t.loops.items m n l 0 ne
 
-  -- elsewhere it has what f has
-  turned_other : (q : ℕ) → q ≢ c → q ≢ d → f' q ≡ f q
-  turned_other q n m = is q ∙ ap (λ b. cond b x (cond (nat_eq q d) (f c) (f q))) (ne_eqb q c n) ∙ ap (λ b. cond b (f c) (f q)) (ne_eqb q d m)
+-- no row comes or goes
+pub len_stands : (t new : Labels) (m l : ℕ) → StandsFor t new m l → length new.loops.items ≡ length t.loops.items
+len_stands t new m l h = ap length h.rows ∙ length-set t.loops.items m l
 
-  -- its values are there where those of f and x are
-  turned_there : (there : ℕ → Bool) → there x ≡ true → there (f c) ≡ true → (q : ℕ) → there (f q) ≡ true → there (f' q) ≡ true
-  turned_there there x_there c_there q l = elim (eqb_tells q c) [
-    | inl p ↦ ap there (ap f' p.1 ∙ turned_here) ∙ x_there
-    | inr n ↦ elim (eqb_tells q d) [ inl r ↦ ap there (turned_before q n.1 r.1) ∙ c_there | inr m ↦ ap there (turned_other q n.1 m.1) ∙ l ]
-  ]
+-- label m is used now, beside those that were, and stands for loop l
+pub record IsGiven (t new : Labels) (used : ℕ → Type 0) (m l : ℕ) : Type 0 where
+  pub table : IsTable new (λ n. used n ⊎ (n ≡ m))
+  pub named : m ≢ 0
+  pub fresh : used m → ⊥
+  pub here : loop_at new.loops.items m ≡ l
+  pub other : (n : ℕ) → n ≢ m → loop_at new.loops.items n ≡ loop_at t.loops.items n
+  pub longer : length t.loops.items ≤ length new.loops.items
 
--- g undoes f still, once both are turned
-undone : (f g f' g' : ℕ → ℕ) (there : ℕ → Bool) (c x : ℕ) → there c ≡ true → ((n : ℕ) → there n ≡ true → g (f n) ≡ n) → ((q : ℕ) → f' q ≡ cond (nat_eq q c) x (cond (nat_eq q (g x)) (f c) (f q))) →
-    ((q : ℕ) → g' q ≡ cond (nat_eq q x) c (cond (nat_eq q (f c)) (g x) (g q))) → (q : ℕ) → there q ≡ true → g' (f' q) ≡ q
-undone f g f' g' there c x c_there back f_is g_is q l = elim (eqb_tells q c) [
-  | inl p ↦ ap g' (ap f' p.1 ∙ turned_here f f' c x (g x) f_is) ∙ turned_here g g' x c (f c) g_is ∙ sym p.1
-  | inr n ↦ elim (eqb_tells q (g x)) [
-    | inl r ↦ ap g' (turned_before f f' c x (g x) f_is q n.1 r.1) ∙ turned_before g g' x c (f c) g_is (f c) (λ e. n.1 (r.1 ∙ sym (ap g e) ∙ back c c_there)) refl ∙ sym r.1
-    | inr m ↦ ap g' (turned_other f f' c x (g x) f_is q n.1 m.1) ∙ turned_other g g' x c (f c) g_is (f q) (λ e. m.1 (sym (back q l) ∙ ap g e)) (λ e. n.1 (sym (back q l) ∙ ap g e ∙ back c c_there)) ∙ back q l
-  ]
+module _ (t new : Labels) (used : ℕ → Type 0) (T : IsTable t used) (m l : ℕ) where
+  -- the first free label is handed out
+  reused : (fs : List ℕ) → T.frees ≡ fs → IsReused t new m l → IsGiven t new used m l
+  reused [] e h = absurd (h.label.0 (h.label.1 ∙ subst (IsChain t.loops.items t.free) e T.chain))
+  reused (n ∷ ns) e h =
+      let chain : IsChain t.loops.items t.free (n ∷ ns) = subst (IsChain t.loops.items t.free) e T.chain in
+      let is : m ≡ n = h.label.1 ∙ chain.0 in
+      let below : m < length t.loops.items = (T.within m (subst (IsIn m) (sym e) (subst (λ k. IsIn k (n ∷ ns)) (sym is) (IsIn_head n ns)))).1 in
+      let len : length new.loops.items ≡ length t.loops.items = ap length h.rows ∙ length-set t.loops.items m l in
+      let other : (k : ℕ) → k ≢ m → loop_at new.loops.items k ≡ loop_at t.loops.items k = λ k ne. ap (λ xs. loop_at xs k) h.rows ∙ get_or-set_other t.loops.items m k l 0 ne in
+      let apart : (x : ℕ) → count x (n ∷ ns) ≤ 1 = λ x. subst (λ xs. count x xs ≤ 1) e (T.apart x) in
+      let left : (k : ℕ) → IsIn k ns → k ≢ m = λ k i q. absurd (let a = apart n in let j : IsIn n ns = subst (λ z. IsIn z ns) (q ∙ is) i in omega (arith, a, j, tick_same n)) in
+      record {
+        table = record {
+          none = other 0 (λ q. h.label.0 (sym q)) ∙ T.none;
+          frees = ns;
+          chain = chain_kept t.loops.items new.loops.items new.free ns (λ k i. other k (left k i)) (subst (λ f. IsChain t.loops.items f ns) (sym (h.free ∙ ap (loop_at t.loops.items) is)) chain.1);
+          apart = λ x. omega (arith, apart x);
+          within = λ k i. let w = T.within k (subst (IsIn k) (sym e) (omega (arith, i))) in (w.0, omega (arith, w.1, len));
+          there = λ k z u. elim u [
+            | inl v ↦ let w = T.there k z v in let c : count k (n ∷ ns) ≡ 0 = subst (λ xs. count k xs ≡ 0) e w.1 in (omega (arith, w.0, len), omega (arith, c))
+            | inr q ↦ (omega (arith, q, below, len), subst (λ x. count x ns ≡ 0) (sym (q ∙ is)) (omega (arith, apart n, tick_same n)))
+          ];
+          taken = λ k z b f. elim (cases_eq k m) [
+            | inl q ↦ inr q
+            | inr ne ↦ inl (T.taken k z (omega (arith, b, len)) (subst (λ xs. count k xs ≡ 0) (sym e) (omega (arith, f, tick_other k n (λ q. ne (q ∙ sym is))))))
+          ];
+        };
+        named = h.label.0;
+        fresh = λ u. let c : count m (n ∷ ns) ≡ 0 = subst (λ xs. count m xs ≡ 0) e (T.there m h.label.0 u).1 in let d : count n (n ∷ ns) ≡ 0 = subst (λ x. count x (n ∷ ns) ≡ 0) is c in absurd (omega (arith, d, tick_same n));
+        here = ap (λ xs. loop_at xs m) h.rows ∙ get_or-set_same t.loops.items m l 0 below;
+        other = other;
+        longer = omega (arith, len);
+      }
+
+  -- none is free, and a new label is handed out
+  renewed : (fs : List ℕ) → T.frees ≡ fs → 0 < length t.loops.items → IsNew t new m l → IsGiven t new used m l
+  renewed (n ∷ ns) e some h =
+      let chain : IsChain t.loops.items t.free (n ∷ ns) = subst (IsChain t.loops.items t.free) e T.chain in
+      absurd ((T.within n (subst (IsIn n) (sym e) (IsIn_head n ns))).0 (sym chain.0 ∙ h.free.0))
+  renewed [] e some h =
+      let len : length new.loops.items ≡ length t.loops.items + 1 = ap length h.rows ∙ length-append t.loops.items (l ∷ []) in
+      let named : m ≢ 0 = λ q. absurd (omega (arith, q, h.label, some)) in
+      let other : (k : ℕ) → k ≢ m → loop_at new.loops.items k ≡ loop_at t.loops.items k = λ k ne. ap (λ xs. loop_at xs k) h.rows ∙ pushed t.loops.items k (λ q. ne (q ∙ sym h.label)) in
+      record {
+        table = record {
+          none = other 0 (λ q. named (sym q)) ∙ T.none;
+          frees = [];
+          chain = h.free.1;
+          apart = λ x. omega arith;
+          within = λ k i. absurd (omega (arith, i));
+          there = λ k z u. elim u [ inl v ↦ (omega (arith, (T.there k z v).0, len), refl) | inr q ↦ (omega (arith, q, h.label, len), refl) ];
+          taken = λ k z b f. elim (cases_eq k m) [
+            | inl q ↦ inr q
+            | inr ne ↦ let below : k < length t.loops.items = omega (arith, b, len, h.label) in inl (T.taken k z below (subst (λ xs. count k xs ≡ 0) (sym e) refl))
+          ];
+        };
+        named = named;
+        fresh = λ u. absurd (omega (arith, (T.there m named u).0, h.label));
+        here = ap (λ xs. loop_at xs m) h.rows ∙ get_or_push t.loops.items l 0 m (sym h.label);
+        other = other;
+        longer = omega (arith, len);
+      }
+    where
+      pushed : (rows : List ℕ) (k : ℕ) → k ≢ length rows → loop_at (rows ++ l ∷ []) k ≡ loop_at rows k
+      pushed [] zero ne = absurd (ne refl)
+      pushed [] (suc k) ne = get_or_past (l ∷ []) (suc k) 0 (omega arith) ∙ sym (get_or_past [] (suc k) 0 (omega arith))
+      pushed (x ∷ rows) zero ne = refl
+      pushed (x ∷ rows) (suc k) ne = pushed rows k (λ q. ne (ap suc q))
+
+  -- a label is handed out
+  pub given : 0 < length t.loops.items → IsHandedOut t new m l → IsGiven t new used m l
+  given some h = elim h.either [ inl r ↦ reused T.frees refl r | inr n ↦ renewed T.frees refl some n ]
+
+  -- label m stands for another loop
+  pub stands : StandsFor t new m l → m ≢ 0 → used m → IsTable new used
+  stands h named is =
+      let len = len_stands t new m l h in
+      let other = stands_other t new m l h in
+      record {
+        none = other 0 (λ q. named (sym q)) ∙ T.none;
+        frees = T.frees;
+        chain = chain_kept t.loops.items new.loops.items new.free T.frees (λ k i. other k (λ q. absurd (let j : IsIn m T.frees = subst (λ z. IsIn z T.frees) q i in omega (arith, j, (T.there m named is).1))))
+            (subst (λ f. IsChain t.loops.items f T.frees) (sym h.free) T.chain);
+        apart = T.apart;
+        within = λ k i. let w = T.within k i in (w.0, omega (arith, w.1, len));
+        there = λ k z u. let w = T.there k z u in (omega (arith, w.0, len), w.1);
+        taken = λ k z b f. T.taken k z (omega (arith, b, len)) f;
+      }
+
+-- where label 0 is taken back nothing changes
+pub none_taken_back : (t : Labels) (m : ℕ) → m ≡ 0 → IsTakenBack t t m
+none_taken_back t m e = record { none = λ _. refl; rows = λ z. absurd (z e); free = λ z. absurd (z e); room = refl }
+
+-- no row comes or goes where a label is taken back
+pub len_taken_back : (t new : Labels) (m : ℕ) → IsTakenBack t new m → length new.loops.items ≡ length t.loops.items
+len_taken_back t new m h = elim (cases_eq m 0) [
+  | inl q ↦ ap (λ (s : Labels). length s.loops.items) (h.none q)
+  | inr named ↦ ap length (h.rows named) ∙ length-set t.loops.items m t.free
 ]
 
-module _ (own holder : ℕ → ℕ) (there : ℕ → Bool) (A : AreOwned own holder there) where
-  -- a code becomes the owner of label x, and the code that owned it gets the other one's label
-  module _ (own' holder' : ℕ → ℕ) (c x : ℕ) (c_there : there c ≡ true) (x_there : there x ≡ true) (own_is : (q : ℕ) → own' q ≡ cond (nat_eq q c) x (cond (nat_eq q (holder x)) (own c) (own q)))
-      (holder_is : (q : ℕ) → holder' q ≡ cond (nat_eq q x) c (cond (nat_eq q (own c)) (holder x) (holder q))) where
-    -- c is the holder of x
-    pub holder_x : holder' x ≡ c
-    holder_x = turned_here holder holder' x c (own c) holder_is
+-- label m is used no longer
+pub record IsFreed (t new : Labels) (used : ℕ → Type 0) (m : ℕ) : Type 0 where
+  pub table : IsTable new (λ n. used n × (n ≢ m))
+  pub other : (n : ℕ) → n ≢ m → loop_at new.loops.items n ≡ loop_at t.loops.items n
+  pub len : length new.loops.items ≡ length t.loops.items
 
-    -- each label but x and the one that c owned has the holder that it had
-    pub holder_other : (q : ℕ) → q ≢ x → q ≢ own c → holder' q ≡ holder q
-    holder_other = turned_other holder holder' x c (own c) holder_is
+-- a label is taken back
+pub freed : (t new : Labels) (used : ℕ → Type 0) → IsTable t used → (m : ℕ) → (m ≢ 0 → used m) → IsTakenBack t new m → IsFreed t new used m
+freed t new used T m is h = elim (cases_eq m 0) [
+  | inl q ↦ subst (λ s. IsFreed t s used m) (sym (h.none q)) (record {
+    table = table_as t used (λ n. used n × (n ≢ m)) T (λ n z u. (u, λ r. z (r ∙ q))) (λ n z u. u.0);
+    other = λ n ne. refl;
+    len = refl;
+  })
+  | inr named ↦
+      let there = T.there m named (is named) in
+      let rows = h.rows named in
+      let len = len_taken_back t new m h in
+      let other : (k : ℕ) → k ≢ m → loop_at new.loops.items k ≡ loop_at t.loops.items k = λ k ne. ap (λ xs. loop_at xs k) rows ∙ get_or-set_other t.loops.items m k t.free 0 ne in
+      let here : loop_at new.loops.items m ≡ t.free = ap (λ xs. loop_at xs m) rows ∙ get_or-set_same t.loops.items m t.free 0 there.0 in
+      record {
+        table = record {
+          none = other 0 (λ q. named (sym q)) ∙ T.none;
+          frees = m ∷ T.frees;
+          chain = (
+            h.free named,
+            chain_kept t.loops.items new.loops.items (loop_at new.loops.items m) T.frees (λ k i. other k (λ q. absurd (let j : IsIn m T.frees = subst (λ z. IsIn z T.frees) q i in omega (arith, j, there.1))))
+                (subst (λ f. IsChain t.loops.items f T.frees) (sym here) T.chain),
+          );
+          apart = λ x. elim (cases_eq x m) [
+            | inl q ↦ subst (λ z. count z (m ∷ T.frees) ≤ 1) (sym q) (omega (arith, there.1, tick_le m m))
+            | inr ne ↦ omega (arith, T.apart x, tick_other x m ne)
+          ];
+          within = λ k i. elim (cases_eq k m) [
+            | inl q ↦ (λ z. named (sym q ∙ z), omega (arith, q, there.0, len))
+            | inr ne ↦ let w = T.within k (omega (arith, i, tick_other k m ne)) in (w.0, omega (arith, w.1, len))
+          ];
+          there = λ k z u. let w = T.there k z u.0 in (omega (arith, w.0, len), omega (arith, w.1, tick_other k m u.1));
+          taken = λ k z b f.
+              let ne : k ≢ m = λ q. absurd (let g : count m (m ∷ T.frees) ≡ 0 = subst (λ x. count x (m ∷ T.frees) ≡ 0) q f in omega (arith, g, tick_same m)) in
+              (T.taken k z (omega (arith, b, len)) (omega (arith, f)), ne);
+        };
+        other = other;
+        len = len;
+      }
+]
 
-    -- each code owns one label still, and each label has one holder
-    pub handed_over : AreOwned own' holder' there
-    handed_over = record {
-      own_there = λ q l. turned_there own own' c x (holder x) own_is there x_there (A.own_there c c_there) q (A.own_there q l);
-      holder_there = λ q l. turned_there holder holder' x c (own c) holder_is there c_there (A.holder_there x x_there) q (A.holder_there q l);
-      held = undone own holder own' holder' there c x c_there A.held own_is holder_is;
-      owned = undone holder own holder' own' there x c x_there A.owned holder_is own_is;
+-- the room is the same
+pub same_room : (t : Labels) → HaveMoreRoom t t
+same_room t = record { rows = inl refl; free = refl; room = omega arith; some = λ h. h }
+
+-- there is room for more labels
+module _ (t new : Labels) where
+  -- the labels that have rows stand for the loops for which they stood
+  pub rows_more : HaveMoreRoom t new → (n : ℕ) → n < length t.loops.items → loop_at new.loops.items n ≡ loop_at t.loops.items n
+  rows_more M n below = elim M.rows [ inl e ↦ ap (λ xs. loop_at xs n) e | inr e ↦ absurd (omega (arith, below, ap length e.0)) ]
+
+  -- the same labels are used and free
+  pub table_more : (used : ℕ → Type 0) → IsTable t used → HaveMoreRoom t new → IsTable new used
+  table_more used T M = elim M.rows [
+    | inl e ↦ let len : length new.loops.items ≡ length t.loops.items = ap length e in record {
+      none = ap (λ xs. loop_at xs 0) e ∙ T.none;
+      frees = T.frees;
+      chain = chain T M;
+      apart = T.apart;
+      within = λ n i. let w = T.within n i in (w.0, omega (arith, w.1, len));
+      there = λ n z u. let w = T.there n z u in (omega (arith, w.0, len), w.1);
+      taken = λ n z b f. T.taken n z (omega (arith, b, len)) f;
     }
-
-module _ (rows new : List (Option Label)) (h : HaveNewLabels rows new) where
-  -- a code that was there owns the label that it owned
-  pub own_same : (n : ℕ) → has_label rows n ≡ true → own new n ≡ own rows n
-  own_same n l = ap (λ (r : Label). r.own) (h.same n l)
-
-  -- a label that was there has the holder that it had
-  pub holder_same : (n : ℕ) → has_label rows n ≡ true → holder new n ≡ holder rows n
-  holder_same n l = ap (λ (r : Label). r.holder) (h.same n l)
-
-  -- a label that was there stands for the loop for which it stood
-  pub loop_same : (n : ℕ) → has_label rows n ≡ true → loop_at new n ≡ loop_at rows n
-  loop_same n l = ap (λ (r : Label). r.loop_number) (h.same n l)
-
-  -- a new code owns the label of its number
-  own_new : (n : ℕ) → has_label rows n ≡ false → has_label new n ≡ true → own new n ≡ n
-  own_new n f l = ap (λ (r : Label). r.own) (h.added n f l)
-
-  -- a new label is held by the code of its number
-  holder_new : (n : ℕ) → has_label rows n ≡ false → has_label new n ≡ true → holder new n ≡ n
-  holder_new n f l = ap (λ (r : Label). r.holder) (h.added n f l)
-
-  -- each code owns one label still, and each label has one holder
-  pub owned_more : AreOwned (own rows) (holder rows) (has_label rows) → AreOwned (own new) (holder new) (has_label new)
-  owned_more A = record {
-    own_there = λ n l. elim (yes_or_no (has_label rows n)) [
-      | inl p ↦ subst (λ z. has_label new z ≡ true) (sym (own_same n p)) (h.kept (own rows n) (A.own_there n p))
-      | inr f ↦ subst (λ z. has_label new z ≡ true) (sym (own_new n f l)) l
-    ];
-    holder_there = λ n l. elim (yes_or_no (has_label rows n)) [
-      | inl p ↦ subst (λ z. has_label new z ≡ true) (sym (holder_same n p)) (h.kept (holder rows n) (A.holder_there n p))
-      | inr f ↦ subst (λ z. has_label new z ≡ true) (sym (holder_new n f l)) l
-    ];
-    held = λ n l. elim (yes_or_no (has_label rows n)) [
-      | inl p ↦ ap (holder new) (own_same n p) ∙ holder_same (own rows n) (A.own_there n p) ∙ A.held n p
-      | inr f ↦ ap (holder new) (own_new n f l) ∙ holder_new n f l
-    ];
-    owned = λ n l. elim (yes_or_no (has_label rows n)) [
-      | inl p ↦ ap (own new) (holder_same n p) ∙ own_same (holder rows n) (A.holder_there n p) ∙ A.owned n p
-      | inr f ↦ ap (own new) (holder_new n f l) ∙ own_new n f l
-    ];
-  }
+    | inr e ↦ let none : length t.loops.items ≡ 0 = ap length e.0 in record {
+      none = ap (λ xs. loop_at xs 0) e.1;
+      frees = T.frees;
+      chain = chain T M;
+      apart = T.apart;
+      within = λ n i. absurd (omega (arith, (T.within n i).1, none));
+      there = λ n z u. absurd (omega (arith, (T.there n z u).0, none));
+      taken = λ n z b f. absurd (z (omega (arith, b, ap length e.1)));
+    }
+  ] where
+    chain : (T : IsTable t used) → HaveMoreRoom t new → IsChain new.loops.items new.free T.frees
+    chain T M = chain_kept t.loops.items new.loops.items new.free T.frees (λ n i. rows_more M n (T.within n i).1) (subst (λ f. IsChain t.loops.items f T.frees) (sym M.free) T.chain)

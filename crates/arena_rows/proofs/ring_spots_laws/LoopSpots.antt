@@ -1,8 +1,8 @@
 -- Spots that differ in labels alone, and the loops for which labels stand.
-use Rattle.arena_rows.proofs.Prelude.{◌≡◌, ℕ, ◌<◌, Bool, true, false, cond, nat_eq, List, Option, Some, None, is_some, option_map, refl, sym, ap, ◌∙◌, true≢false, inl, inr, contains_key, get-entries, get-from_entries, nat_cmp_total, Spot, RingMap, spot, awake, or_zero, of_spot, count, IsIn, splice, mate, map_rows, get-map_rows, IsIn_or_not, Label, Spots, codes, live, next, label, ring, is_in, map_spot, asleep, with_links, spliced, labelled, AreRings, but_label, loop_at, with_loop, in_loops, rows_of, map_in_loops, set_tail}
+use Rattle.arena_rows.proofs.Prelude.{◌≡◌, ℕ, Bool, true, false, cond, nat_eq, List, Option, Some, None, is_some, option_map, refl, sym, ap, ◌∙◌, true≢false, inl, inr, contains_key, get-entries, get-from_entries, nat_cmp_total, Spot, RingMap, spot, awake, or_zero, of_spot, ring_of_one, count, IsIn, splice, map_rows, get-map_rows, IsIn_or_not, Spots, live, next, label, ring, is_in, map_spot, woken, asleep, with_links, spliced, labelled, but_label, loop_at, with_loop, in_loops, rows_of, map_in_loops, set_tail}
 use Rattle.std.specs.FinMap.{get}
 use Rattle.boundary_model.specs.Table as table
-use Rattle.arena_rows.proofs.ring_spots_laws.SpotLaws.{either, live-map, ring_kept, ring_next, label-labelled_in, label-labelled_out}
+use Rattle.arena_rows.proofs.ring_spots_laws.SpotLaws.{either, live-map, ring_next, label-labelled_in, label-labelled_out}
 
 -- what stands at two codes is equal where it is but for labels, and the labels are
 same_spot : (o p : Option Spot) → but_label o ≡ but_label p → (is_some o ≡ true → or_zero (of_spot (λ s. s.label) o) ≡ or_zero (of_spot (λ s. s.label) p)) → o ≡ p
@@ -36,7 +36,7 @@ blank-labelled sp l hs q = either but_label (is_in q hs) _ _ _ (blank-label (sp 
   blank-label (Some s) = refl
 
 -- loops in the place of labels change nothing but labels
-pub blank-loops : (rows : List (Option Label)) (sp : Spots) (q : ℕ) → but_label (in_loops rows sp q) ≡ but_label (sp q)
+pub blank-loops : (rows : List ℕ) (sp : Spots) (q : ℕ) → but_label (in_loops rows sp q) ≡ but_label (sp q)
 blank-loops rows sp q = blank-with_loop (sp q) where
   blank-with_loop : (o : Option Spot) → but_label (map_spot (with_loop rows) o) ≡ but_label o
   blank-with_loop None = refl
@@ -56,15 +56,7 @@ module _ (sp new : Spots) (same : (q : ℕ) → but_label (new q) ≡ but_label 
   pub ring-alike : (q : ℕ) → ring new q ≡ ring sp q
   ring-alike q = ring_next sp new q next-alike
 
-  -- the rings stay rings where each still has one label
-  pub AreRings-alike : AreRings sp → ((c : ℕ) → live sp c ≡ true → (x : ℕ) → IsIn x (ring sp c) → label new x ≡ label new c) → AreRings new
-  AreRings-alike R labels = let bound : (x : ℕ) → live new x ≡ true → x < codes = λ x a. R.bound x (sym (live-alike x) ∙ a) in record {
-    bound = bound;
-    rings = λ c a. let b = sym (live-alike c) ∙ a in (ring_kept sp new R c b (λ x _ e. live-alike x ∙ e) bound (λ x i. next-alike x) (labels c b)).1;
-    mates = λ c a. live-alike (mate c) ∙ R.mates c (sym (live-alike c) ∙ a);
-  }
-
-module _ (rows : List (Option Label)) (sp : Spots) where
+module _ (rows : List ℕ) (sp : Spots) where
   -- with loops in the place of labels the live codes are the same
   pub live-loops : (q : ℕ) → live (in_loops rows sp) q ≡ live sp q
   live-loops = live-alike sp (in_loops rows sp) (blank-loops rows sp)
@@ -99,6 +91,13 @@ module _ (rows : List (Option Label)) (sp : Spots) where
     with_loop-none true o = refl
     with_loop-none false o = refl
 
+  -- where label 0 stands for no loop, a code wakes with it before or after that
+  pub loops-woken : loop_at rows 0 ≡ 0 → (c v : ℕ) → in_loops rows (woken sp c v) ≡ woken (in_loops rows sp) c v
+  loops-woken none c v = λ i q. with_loop-one (nat_eq q c) (sp q) i where
+    with_loop-one : (b : Bool) (o : Option Spot) → map_spot (with_loop rows) (cond b (Some (ring_of_one c v)) o) ≡ cond b (Some (ring_of_one c v)) (map_spot (with_loop rows) o)
+    with_loop-one true o = ap (λ n. Some (record { next = c; tail = v; label = n })) none
+    with_loop-one false o = refl
+
   -- links are spliced before or after that
   pub loops-spliced : (a b : ℕ) → in_loops rows (spliced sp a b) ≡ spliced (in_loops rows sp) a b
   loops-spliced a b = (λ i q. with_loop-next (splice (next sp) a b q) (sp q) i) ∙ ap (λ (f : ℕ → ℕ). with_links (in_loops rows sp) (splice f a b)) (λ i q. sym (next-loops q) i) where
@@ -107,7 +106,7 @@ module _ (rows : List (Option Label)) (sp : Spots) where
     with_loop-next n (Some s) = refl
 
 -- the loops where labels change: the items of hs stand in loop l now, and the others where they stood
-pub loops-labelled : (sp new : Spots) (rows rows' : List (Option Label)) (l : ℕ) (hs : List ℕ) → ((q : ℕ) → but_label (new q) ≡ but_label (sp q)) → ((q : ℕ) → live sp q ≡ true → IsIn q hs → loop_at rows' (label new q) ≡ l) →
+pub loops-labelled : (sp new : Spots) (rows rows' : List ℕ) (l : ℕ) (hs : List ℕ) → ((q : ℕ) → but_label (new q) ≡ but_label (sp q)) → ((q : ℕ) → live sp q ≡ true → IsIn q hs → loop_at rows' (label new q) ≡ l) →
     ((q : ℕ) → live sp q ≡ true → count q hs ≡ 0 → loop_at rows' (label new q) ≡ loop_at rows (label sp q)) → in_loops rows' new ≡ labelled (in_loops rows sp) l hs
 loops-labelled sp new rows rows' l hs same inside outside =
     same_spots (in_loops rows' new) (labelled (in_loops rows sp) l hs) (λ q. blank-loops rows' new q ∙ same q ∙ sym (blank-labelled (in_loops rows sp) l hs q ∙ blank-loops rows sp q)) (λ q a.
@@ -119,7 +118,7 @@ loops-labelled sp new rows rows' l hs same inside outside =
     ])
 
 -- nothing is seen of a change of labels that stand for the same loops
-pub loops-same : (sp new : Spots) (rows rows' : List (Option Label)) → ((q : ℕ) → but_label (new q) ≡ but_label (sp q)) → ((q : ℕ) → live sp q ≡ true → loop_at rows' (label new q) ≡ loop_at rows (label sp q)) → in_loops rows' new ≡ in_loops rows sp
+pub loops-same : (sp new : Spots) (rows rows' : List ℕ) → ((q : ℕ) → but_label (new q) ≡ but_label (sp q)) → ((q : ℕ) → live sp q ≡ true → loop_at rows' (label new q) ≡ loop_at rows (label sp q)) → in_loops rows' new ≡ in_loops rows sp
 loops-same sp new rows rows' same loops = same_spots (in_loops rows' new) (in_loops rows sp) (λ q. blank-loops rows' new q ∙ same q ∙ sym (blank-loops rows sp q)) (λ q a.
     let b : live new q ≡ true = sym (live-loops rows' new q) ∙ a in
     let c : live sp q ≡ true = sym (live-alike sp new same q) ∙ b in
@@ -127,7 +126,7 @@ loops-same sp new rows rows' same loops = same_spots (in_loops rows' new) (in_lo
 
 -- ---- the map that a contract sees
 
-module _ (rows : List (Option Label)) (m : RingMap) where
+module _ (rows : List ℕ) (m : RingMap) where
   -- at each code the map has what it had, with its loop in the place of its label
   pub get-loops : (q : ℕ) → get (map_in_loops rows m) q ≡ option_map (map_spot (with_loop rows)) (get m q)
   unfolding map_in_loops table.get

@@ -1,5 +1,5 @@
 -- A walk round a ring that gives each item a label.
-use Rattle.arena_rows.proofs.Prelude.{◌≡◌, ◌≢◌, ℕ, ◌+◌, ◌-◌, ◌<◌, Bool, true, false, ◌||◌, cond, nat_eq, List, [], ◌∷◌, Some, is_some, refl, sym, ap, subst, ◌∙◌, arith, eq-eqb, ne_eqb, eqb, true≢false, inl, inr, eqb_tells, RingMap, or_zero, of_spot, spot, next_of, set_label, count, IsIn, walk_to, rotate_to, IsIn_or_not, tick_same, tick_other, count-rotate_to, IsIn_head, orbit_from, walk_to_more, Spots, codes, live, next, ring, is_in, map_spot, labelled, AreRings, PartlyLabelled, length_below}
+use Rattle.arena_rows.proofs.Prelude.{◌≡◌, ◌≢◌, ℕ, ◌+◌, ◌-◌, ◌<◌, true, cond, nat_eq, List, [], ◌∷◌, Some, is_some, refl, sym, ap, subst, ◌∙◌, arith, eq-eqb, ne_eqb, eqb, inl, inr, eqb_tells, RingMap, or_zero, of_spot, spot, next_of, set_label, count, IsIn, walk_to, rotate_to, IsIn_or_not, tick_same, tick_other, count-rotate_to, IsIn_head, orbit_from, walk_to_more, Spots, codes, live, next, ring, is_in, map_spot, labelled, AreRings, PartlyLabelled, length_below}
 use Rattle.arena_rows.proofs.ring_spots_laws.RingMaps.{spot-with}
 use Rattle.arena_rows.proofs.ring_spots_laws.SpotLaws.{either, next-labelled, live-labelled, next_in_ring, ring_same, is_in-yes, is_in-no, part-kept, live-map}
 
@@ -75,29 +75,6 @@ partly_more sp now new l from h x n k hs e d is to on =
 -- where the walk has none to go all have the label
 pub partly_over : (sp now : Spots) (l from h n : ℕ) (hs : List ℕ) → n ≡ 0 → PartlyLabelled sp now l hs (walk_to (next sp) from h n) → now ≡ labelled sp l hs
 partly_over sp now l from h n hs e d = partly_end sp now l hs (subst (λ k. PartlyLabelled sp now l hs (walk_to (next sp) from h k)) e d)
-
--- a code that hasn't been met yet
-module _ (f : ℕ → ℕ) (from h x n s : ℕ) (to : f h ≡ x) (ne : s ≢ h) where
-  -- a code that is met from h on, and is not h, is met after it
-  missed_step : (k : ℕ) → n ≡ k + 1 → IsIn s (walk_to f from h n) → IsIn s (cond (eqb (f h) from) [] (walk_to f from (f h) k))
-  missed_step k e i = let j : IsIn s (h ∷ cond (eqb (f h) from) [] (walk_to f from (f h) k)) = subst (IsIn s) (walk_to_more f from h n k e) i in omega (arith, j, tick_other s h ne)
-
-  -- so it is met from the next item on, where that does not end the walk
-  pub missed_more : (k : ℕ) → n ≡ k + 1 → x ≢ from → IsIn s (walk_to f from h n) → IsIn s (walk_to f from x k)
-  missed_more k e on i = subst (λ z. IsIn s (walk_to f from z k)) to (subst (IsIn s) (ap (λ b. cond b [] (walk_to f from (f h) k)) (ne_eqb (f h) from (λ q. on (sym to ∙ q)))) (missed_step k e i))
-
-  -- there is none where the next item ends the walk
-  pub missed_last : 0 < n → x ≡ from → IsIn s (walk_to f from h n) → ⊥
-  missed_last some back i = let j : IsIn s [] = subst (IsIn s) (ap (λ b. cond b [] (walk_to f from (f h) (n - 1))) (eq-eqb (f h) from (to ∙ back))) (missed_step (n - 1) (omega (arith, some)) i) in absurd (omega (arith, j))
-
--- none is met where the walk has none to go
-pub missed_over : (f : ℕ → ℕ) (from h n s : ℕ) → n ≡ 0 → IsIn s (walk_to f from h n) → ⊥
-missed_over f from h n s e i = let j : IsIn s [] = subst (λ k. IsIn s (walk_to f from h k)) e i in absurd (omega (arith, j))
-
--- a code that was not met, nor is met now, is another than the one met now
-pub not_met : (m : Bool) (h s : ℕ) → (m || eqb h s) ≡ false → (m ≡ false) × (s ≢ h)
-not_met true h s e = absurd (true≢false e)
-not_met false h s e = (refl, λ q. true≢false (sym (eq-eqb h s (sym q)) ∙ e))
 
 -- an item's successor stands in the ring
 pub step_in : (sp : Spots) (R : AreRings sp) (from h : ℕ) → live sp from ≡ true → IsIn h (ring sp from) → IsIn (next sp h) (ring sp from)

@@ -40,9 +40,6 @@ is_in x xs = nat_lt 0 (count x xs)
 abbrev pub woken : Spots → ℕ → ℕ → Spots
 woken sp c t q = cond (nat_eq q c) (Some (ring_of_one c t)) (sp q)
 
-abbrev pub woken_as : Spots → ℕ → ℕ → ℕ → Spots
-woken_as sp c t l q = cond (nat_eq q c) (Some (record { next = c; tail = t; label = l })) (sp q)
-
 abbrev pub asleep : Spots → ℕ → Spots
 asleep sp c q = cond (nat_eq q c) None (sp q)
 

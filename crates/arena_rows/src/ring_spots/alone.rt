@@ -3,58 +3,77 @@ ghost use Rattle.std.specs.Prelude.{◌≡◌, ◌≢◌, true, Some, [], ◌∷
 ghost use Rattle.std.specs.FinMap.{contains_key};
 ghost use Rattle.raw_ring.specs.Rings.{spot, next_of};
 ghost use Rattle.arena_rows.specs.ring_spots.Spots.{live, label, ring, labelled, spliced};
-ghost use Rattle.arena_rows.specs.ring_spots.Labels.{in_loops, AreLabelled, ShareLabel};
+ghost use Rattle.arena_rows.specs.ring_spots.Labels.{loop_at, in_loops, AreLabelled};
 
-use crate::ring_spots::labels::{Label, hand_over, own, row_of, stand_for, stand_for_own};
-use crate::ring_spots::links;
-use raw_cells::Rows;
+use crate::ring_spots::labels::Labels;
+use crate::ring_spots::{links, parts};
 use raw_ring::Rings;
 
-/// Puts b, which is alone in its ring, after a. It gets the label of a's ring.
-pub(crate) fn join_alone(rings: &mut Rings, a: u32, b: u32)
+/// Puts b, which is alone in its ring, after a. They stand in different loops, or one of them stands in none. Then b has the label of a's ring.
+#[inline(always)]
+pub(crate) fn join_alone(rings: &mut Rings, labels: &mut Labels, a: u32, b: u32)
+    requires whole { AreLabelled (spot rings.old) (contains_key rings.old) labels.old }
     requires a { live (spot rings.old) a ≡ true }
     requires b { live (spot rings.old) b ≡ true }
     requires alone { ring (spot rings.old) b ≡ b ∷ [] }
-    ensures spots { spot rings.new ≡ spliced (labelled (spot rings.old) (label (spot rings.old) a) (ring (spot rings.old) b)) a b }
+    requires apart { loop_at labels.old.loops.items (label (spot rings.old) b) ≢ loop_at labels.old.loops.items (label (spot rings.old) a) }
+    ensures whole { AreLabelled (spot rings.new) (contains_key rings.new) labels.new }
+    ensures spots { in_loops labels.new.loops.items (spot rings.new) ≡ spliced (labelled (in_loops labels.old.loops.items (spot rings.old)) (loop_at labels.old.loops.items (label (spot rings.old) a)) (ring (spot rings.old) b)) a b }
     ensures known { contains_key rings.new ≡ contains_key rings.old }
 {
-    set_label(rings, b, rings.label(a));
-    links::splice(rings, a, b);
+    if rings.label(b) == 0 {
+        set_label(rings, b, rings.label(a));
+        links::splice(rings, a, b);
+    } else {
+        join_labelled(rings, labels, a, b);
+    }
 }
 
-/// Takes b, which follows a, out of their ring. Then b stands in loop l, or is loose if l is 0.
-pub(crate) fn cut_alone(rings: &mut Rings, labels: &mut Rows<Label>, a: u32, b: u32, l: u32)
+/// The same, where b has a label that isn't 0.
+#[inline(never)]
+fn join_labelled(rings: &mut Rings, labels: &mut Labels, a: u32, b: u32)
+    requires whole { AreLabelled (spot rings.old) (contains_key rings.old) labels.old }
+    requires a { live (spot rings.old) a ≡ true }
+    requires b { live (spot rings.old) b ≡ true }
+    requires apart { loop_at labels.old.loops.items (label (spot rings.old) b) ≢ loop_at labels.old.loops.items (label (spot rings.old) a) }
+    ensures whole { AreLabelled (spot rings.new) (contains_key rings.new) labels.new }
+    ensures spots { in_loops labels.new.loops.items (spot rings.new) ≡ spliced (labelled (in_loops labels.old.loops.items (spot rings.old)) (loop_at labels.old.loops.items (label (spot rings.old) a)) (ring (spot rings.old) b)) a b }
+    ensures known { contains_key rings.new ≡ contains_key rings.old }
+{
+    let kept = parts::loop_of(rings, labels, a);
+    parts::join(rings, labels, a, b, kept);
+}
+
+/// Takes b, which follows a, out of their ring. Then b stands in loop l, or is loose, with label 0, if l is 0.
+#[inline(always)]
+pub(crate) fn cut_alone(rings: &mut Rings, labels: &mut Labels, a: u32, b: u32, l: u32)
     requires whole { AreLabelled (spot rings.old) (contains_key rings.old) labels.old }
     requires follows { next_of rings.old a ≡ Some b }
     requires apart { a ≢ b }
     ensures whole { AreLabelled (spot rings.new) (contains_key rings.new) labels.new }
-    ensures spots { in_loops labels.new (spot rings.new) ≡ labelled (spliced (in_loops labels.old (spot rings.old)) a b) l (ring (spliced (in_loops labels.old (spot rings.old)) a b) b) }
+    ensures spots { in_loops labels.new.loops.items (spot rings.new) ≡ labelled (spliced (in_loops labels.old.loops.items (spot rings.old)) a b) l (ring (spliced (in_loops labels.old.loops.items (spot rings.old)) a b) b) }
     ensures known { contains_key rings.new ≡ contains_key rings.old }
 {
-    links::splice(rings, a, b);
-    let row = row_of(labels, b);
-    if row.own == rings.label(b) {
-        give_up_label(rings, labels, a, b, l);
+    if l == 0 {
+        links::splice(rings, a, b);
+        set_label(rings, b, 0);
     } else {
-        set_label(rings, b, row.own);
-        stand_for_own(labels, b, row, l);
+        cut_labelled(rings, labels, a, b, l);
     }
 }
 
-/// Code b is alone and owns the label of the ring in which it was. This gives b another label, which stands for loop l; the old one stays
-/// with the ring, and a owns it.
+/// The same, where l isn't 0.
 #[inline(never)]
-fn give_up_label(rings: &mut Rings, labels: &mut Rows<Label>, a: u32, b: u32, l: u32)
-    requires shared { ShareLabel (spot rings.old) (contains_key rings.old) labels.old a b }
-    requires alone { ring (spot rings.old) b ≡ b ∷ [] }
+fn cut_labelled(rings: &mut Rings, labels: &mut Labels, a: u32, b: u32, l: u32)
+    requires whole { AreLabelled (spot rings.old) (contains_key rings.old) labels.old }
+    requires follows { next_of rings.old a ≡ Some b }
+    requires apart { a ≢ b }
     ensures whole { AreLabelled (spot rings.new) (contains_key rings.new) labels.new }
-    ensures spots { in_loops labels.new (spot rings.new) ≡ labelled (in_loops labels.old (spot rings.old)) l (ring (in_loops labels.old (spot rings.old)) b) }
+    ensures spots { in_loops labels.new.loops.items (spot rings.new) ≡ labelled (spliced (in_loops labels.old.loops.items (spot rings.old)) a b) l (ring (spliced (in_loops labels.old.loops.items (spot rings.old)) a b) b) }
     ensures known { contains_key rings.new ≡ contains_key rings.old }
 {
-    hand_over(labels, a, rings.label(b));
-    let free = own(labels, b);
-    set_label(rings, b, free);
-    stand_for(labels, free, l);
+    let kept = parts::loop_of(rings, labels, a);
+    parts::cut(rings, labels, a, b, l, kept);
 }
 
 /// Gives the label l to a code that is alone in its ring.

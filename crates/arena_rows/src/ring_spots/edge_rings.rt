@@ -8,23 +8,23 @@ ghost use Rattle.arena_rows.specs.ring_spots.Spots.{live, label, ring, labelled,
 ghost use Rattle.arena_rows.specs.ring_spots.Last.{is_edge};
 ghost use Rattle.raw_cells.specs.Numbers.{IsLast, IsNext};
 
-use crate::ring_spots::labels::Label;
-use crate::ring_spots::{alone, links, parts};
-use raw_cells::{Numbers, Rows};
+use crate::ring_spots::labels::Labels;
+use crate::ring_spots::{alone, labels, links, parts};
+use raw_cells::Numbers;
 use raw_ring::Rings;
 use std::alloc::{AllocError, Global};
 use std::marker::Model;
 
 /// Rings of half-edges, two for each edge, with the numbers of the edges in use.
 ///
-/// Each ring has a label at its nodes, and the label stands for the ring's loop. So one write moves a ring to another loop, and if a ring
+/// Each ring has a label at its nodes, and the label stands for the ring's loop. So a write or two move a ring to another loop, and if a ring
 /// is cut or two are joined, only the labels of the shorter part are written.
 ///
 /// A contract sees what stands at each known half-edge, with the loop's number as its label. Only `room_edge` and `copy` take
 /// memory.
 #[derive(Drop)]
 pub struct EdgeRings {
-    labels: Rows<Label>,
+    labels: Labels,
     edges: Numbers,
     rings: Rings,
 }
@@ -38,7 +38,7 @@ impl Model for EdgeRings {
 
     ghost coded = { ring_map_code };
 
-    ghost view = { λ a. map_in_loops a.labels a.rings };
+    ghost view = { λ a. map_in_loops a.labels.loops.items a.rings };
 
     ghost invariant = { λ a. AreEdgeRings a.rings a.labels a.edges };
 }
@@ -50,7 +50,7 @@ impl EdgeRings {
     {
         Self {
             rings: Rings::new(alloc),
-            labels: Rows::new(alloc),
+            labels: labels::new(alloc),
             edges: Numbers::new(alloc),
         }
     }
@@ -61,7 +61,7 @@ impl EdgeRings {
     {
         Ok(EdgeRings {
             rings: self.rings.copy(alloc)?,
-            labels: self.labels.copy(alloc)?,
+            labels: labels::copy(&self.labels, alloc)?,
             edges: self.edges.copy(alloc)?,
         })
     }
@@ -102,7 +102,7 @@ impl EdgeRings {
         ensures spots { spot self.new ≡ woken (woken (spot self.old) (plus e) start) (minus e) end }
         ensures known { contains_key self.new ≡ contains_key self.old }
     {
-        links::put_edge(&mut self.rings, &mut self.labels, e, start, end);
+        links::put_edge(&mut self.rings, e, start, end);
         self.edges.put(e);
     }
 
@@ -114,17 +114,17 @@ impl EdgeRings {
         ensures spots { spot self.new ≡ asleep (asleep (spot self.old) (plus e)) (minus e) }
         ensures known { contains_key self.new ≡ contains_key self.old }
     {
-        links::take_edge(&mut self.rings, e);
+        links::take_edge(&mut self.rings, &mut self.labels, e);
         self.edges.take(e);
     }
 
-    /// Puts the ring of a half-edge into loop l, or into none if l is 0. It writes one number, and walks over nothing.
+    /// Puts the ring of a half-edge into loop l, or into none if l is 0. It writes one number or two, and walks over nothing.
     pub fn put_in_loop(&mut self, from: u32, l: u32)
         requires { live (spot self.old) from ≡ true }
         ensures spots { spot self.new ≡ labelled (spot self.old) l (ring (spot self.old) from) }
         ensures known { contains_key self.new ≡ contains_key self.old }
     {
-        parts::put_in_loop(&self.rings, &mut self.labels, from, l);
+        parts::put_in_loop(&mut self.rings, &mut self.labels, from, l);
     }
 
     /// Cuts the ring of a and b in two, one with a and one with b. The caller names the loop in which the ring stands, or 0: a's ring stays
@@ -179,7 +179,7 @@ impl EdgeRings {
         ensures spots { spot self.new ≡ spliced (labelled (spot self.old) (label (spot self.old) a) (ring (spot self.old) b)) a b }
         ensures known { contains_key self.new ≡ contains_key self.old }
     {
-        alone::join_alone(&mut self.rings, a, b);
+        alone::join_alone(&mut self.rings, &mut self.labels, a, b);
     }
 
     /// Changes the vertex at which a half-edge starts.

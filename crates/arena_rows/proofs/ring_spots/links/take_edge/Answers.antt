@@ -1,19 +1,24 @@
-use Rattle.arena_rows.proofs.Prelude.{ap, ◌∙◌, ◌≡◌, ℕ, Some, cond, ne_eqb, None, sym, contains_key, insert, RingMap, Spot, spot, of_spot, next_of, IsLive-next, plus, minus, plus_other, asleep}
-use Rattle.arena_rows.proofs.ring_spots_laws.RingMaps.{spot-insert, spot-asleep, known-same, live_known}
+use Rattle.arena_rows.proofs.Prelude.{ap, ◌∙◌, subst, sym, refl, arith, spot, or_zero, IsLive-next, plus, minus, label, in_loops, IsTakenBack}
+use Rattle.arena_rows.proofs.ring_spots_laws.LabelLaws.{labelled_is, label_row}
+use Rattle.arena_rows.proofs.ring_spots_laws.LabelTables.{len_taken_back}
+use Rattle.arena_rows.proofs.ring_spots_laws.LabelEdges.{labelled-asleep, loops-asleep_both}
 use Rattle.arena_rows.proofs.ring_spots.links.take_edge.Goals as goal
 
-still : (m new : RingMap) (e : ℕ) → new ≡ insert m (plus e) None → next_of m (minus e) ≡ Some (minus e) → next_of new (minus e) ≡ Some (minus e)
-still m new e is h = ap (λ (k : RingMap). next_of k (minus e)) is ∙ ap (of_spot (λ (s : Spot). s.next)) (spot-insert m (plus e) None (minus e) ∙ ap (λ b. cond b None (spot m (minus e))) (ne_eqb (minus e) (plus e) (λ q. plus_other e (sym q)))) ∙ h
+pub take_back-requires : goal.take_back-requires
+take_back-requires c = let below = label_row _ _ _ _ c.requires.whole (plus c.args.e) (IsLive-next _ _ _ c.requires.first) refl in omega (arith, below, ap or_zero c.label.ensures)
 
-pub sleep-requires-2 : goal.sleep-requires-2
-sleep-requires-2 c = still _ _ _ c.sleep.ensures c.requires.second
+pub take_back-requires-2 : goal.take_back-requires-2
+take_back-requires-2 c = let below = label_row _ _ _ _ c.requires.whole (minus c.args.e) (IsLive-next _ _ _ c.requires.second) refl in omega (arith, below, ap or_zero c.label-2.ensures, len_taken_back _ _ _ c.take_back.ensures)
 
 pub returns : goal.returns
 returns c =
-    let k = known-same c.args.rings.now (plus c.args.e) None (live_known _ _ (IsLive-next _ _ _ c.requires.first)) in
+    let m = c.args.rings.now in
+    let h : IsTakenBack c.args.labels.now c.take_back.new.labels (label (spot m) (plus c.args.e)) = subst (IsTakenBack c.args.labels.now c.take_back.new.labels) (sym (ap or_zero c.label.ensures)) c.take_back.ensures in
+    let g : IsTakenBack c.take_back.new.labels c.take_back-2.new.labels (label (spot m) (minus c.args.e)) = subst (IsTakenBack c.take_back.new.labels c.take_back-2.new.labels) (sym (ap or_zero c.label-2.ensures)) c.take_back-2.ensures in
+    let p = IsLive-next _ _ _ c.requires.first in
+    let q = IsLive-next _ _ _ c.requires.second in
     record {
-      spots = ap (λ (m : RingMap). spot m) c.sleep-2.ensures ∙ spot-asleep _ _ ∙ ap (λ sp. asleep sp (minus c.args.e)) (ap (λ (m : RingMap). spot m) c.sleep.ensures ∙ spot-asleep _ _);
-      known = ap (λ (m : RingMap). contains_key m) c.sleep-2.ensures
-          ∙ known-same c.sleep.new.self (minus c.args.e) None (live_known _ _ (IsLive-next _ _ _ (still _ _ _ c.sleep.ensures c.requires.second)))
-          ∙ ap (λ (m : RingMap). contains_key m) c.sleep.ensures ∙ k;
+      whole = labelled_is _ _ _ _ _ (labelled-asleep _ _ _ c.requires.whole c.args.e p q (ap or_zero c.requires.first) (ap or_zero c.requires.second) _ _ h g) c.put_to_sleep.ensures.spots c.put_to_sleep.ensures.known;
+      spots = ap (in_loops c.take_back-2.new.labels.loops.items) c.put_to_sleep.ensures.spots ∙ loops-asleep_both _ _ _ c.requires.whole c.args.e p q (ap or_zero c.requires.first) (ap or_zero c.requires.second) _ _ h g;
+      known = c.put_to_sleep.ensures.known;
     }

@@ -1,23 +1,36 @@
-use Rattle.arena_rows.proofs.Prelude.{refl, sym, ap, ◌∙◌, spot, Spots, label, ring, labelled, loop_at, in_loops}
-use Rattle.arena_rows.proofs.ring_spots_laws.SpotLaws.{label-spliced}
-use Rattle.arena_rows.proofs.ring_spots_laws.LoopSpots.{live-alike}
-use Rattle.arena_rows.proofs.ring_spots_laws.LabelLaws.{share-cut_to}
-use Rattle.arena_rows.proofs.ring_spots_laws.LoopViews.{seen-cut}
+use Rattle.arena_rows.proofs.Prelude.{sym, ap, subst, ◌∙◌, arith, or_zero, StandsFor}
+use Rattle.arena_rows.proofs.ring_spots_laws.LabelLaws.{label_row, is_cut, labelled-stands, seen_cut_first, seen_cut_second}
 use Rattle.arena_rows.proofs.ring_spots.parts.cut.Goals as goal
 
-pub set_apart-requires-clause-shared : goal.set_apart-requires-clause-shared
-set_apart-requires-clause-shared c = share-cut_to _ _ _ c.requires.whole c.args.a c.args.b c.requires.a c.requires.together c.requires.apart _ _ c.splice.ensures.spots c.splice.ensures.known
+pub is_shorter-requires : goal.is_shorter-requires
+is_shorter-requires c =
+    let cut = is_cut _ _ _ c.requires.whole c.args.a c.args.b c.requires.a c.requires.together c.requires.apart _ _ c.splice.ensures.spots c.splice.ensures.known in
+    record { rings = cut.rings; a = cut.a_there; b = cut.b_there }
 
-pub set_apart-requires-clause-kept : goal.set_apart-requires-clause-kept
-set_apart-requires-clause-kept c = c.requires.kept ∙ ap (loop_at c.args.labels.now) (sym (ap (λ (s : Spots). label s c.args.a) c.splice.ensures.spots ∙ label-spliced (spot c.args.rings.now) c.args.a c.args.b c.args.a))
+pub label-requires : goal.label-requires
+label-requires c = (is_cut _ _ _ c.requires.whole c.args.a c.args.b c.requires.a c.requires.together c.requires.apart _ _ c.splice.ensures.spots c.splice.ensures.known).b_there
 
-pub put_in_loop-requires-clause-there : goal.put_in_loop-requires-clause-there
-put_in_loop-requires-clause-there c =
-    let S = share-cut_to _ _ _ c.requires.whole c.args.a c.args.b c.requires.a c.requires.together c.requires.apart _ _ c.splice.ensures.spots c.splice.ensures.known in
-    live-alike _ _ c.set_apart.ensures.spots.same c.args.b ∙ S.b_there
+pub stand_for-requires : goal.stand_for-requires
+stand_for-requires c =
+    let cut = is_cut _ _ _ c.requires.whole c.args.a c.args.b c.requires.a c.requires.together c.requires.apart _ _ c.splice.ensures.spots c.splice.ensures.known in
+    let below = label_row _ _ _ _ cut.first c.args.b cut.b_there cut.beside in
+    omega (arith, below, ap or_zero c.label.ensures)
 
-pub returns-clause-spots : goal.returns-clause-spots
-returns-clause-spots c =
-    c.put_in_loop.ensures.spots
-    ∙ ap (λ (s : Spots). labelled s c.args.l (ring (spot c.set_apart.new.rings) c.args.b)) (c.set_apart.ensures.loops ∙ ap (λ n. labelled (in_loops c.args.labels.now (spot c.set_apart.new.rings)) n (ring (spot c.set_apart.new.rings) c.args.a)) c.requires.kept)
-    ∙ seen-cut _ _ _ c.requires.whole c.args.a c.args.b c.requires.a c.requires.together c.requires.apart _ _ c.args.labels.now c.args.l c.splice.ensures.spots c.set_apart.ensures.spots refl
+pub give_label-requires : goal.give_label-requires
+give_label-requires c =
+    let cut = is_cut _ _ _ c.requires.whole c.args.a c.args.b c.requires.a c.requires.together c.requires.apart _ _ c.splice.ensures.spots c.splice.ensures.known in
+    let stands = subst (λ n. StandsFor c.args.labels.now c.stand_for.new.labels n c.args.l) (sym (ap or_zero c.label.ensures)) c.stand_for.ensures in
+    record { whole = labelled-stands _ _ _ _ cut.first _ c.args.b c.args.l cut.b_there cut.beside cut.named stands; there = cut.a_there }
+
+pub give_label-requires-else-is_shorter : goal.give_label-requires-else-is_shorter
+give_label-requires-else-is_shorter c =
+    let cut = is_cut _ _ _ c.requires.whole c.args.a c.args.b c.requires.a c.requires.together c.requires.apart _ _ c.splice.ensures.spots c.splice.ensures.known in
+    record { whole = cut.second; there = cut.b_there }
+
+pub returns-then-is_shorter-clause-spots : goal.returns-then-is_shorter-clause-spots
+returns-then-is_shorter-clause-spots c =
+    let stands = subst (λ n. StandsFor c.args.labels.now c.stand_for.new.labels n c.args.l) (sym (ap or_zero c.label.ensures)) c.stand_for.ensures in
+    c.give_label.ensures.spots ∙ seen_cut_first _ _ _ c.requires.whole c.args.a c.args.b c.requires.a c.requires.together c.requires.apart _ c.splice.ensures.spots _ c.args.l c.args.kept stands c.requires.kept
+
+pub returns-else-is_shorter-clause-spots : goal.returns-else-is_shorter-clause-spots
+returns-else-is_shorter-clause-spots c = c.give_label-else-is_shorter.ensures.spots ∙ seen_cut_second _ _ _ c.requires.whole c.args.a c.args.b c.requires.a c.requires.together c.requires.apart _ c.splice.ensures.spots c.args.l

@@ -1,10 +1,19 @@
-use Rattle.arena_rows.proofs.Prelude.{◌≡◌, ℕ, cond, nat_eq, ap, sym, subst, or_zero, loop_at}
-use Rattle.arena_rows.proofs.ring_spots_laws.LabelLaws.{labelled_alike, loops-put}
+use Rattle.arena_rows.proofs.Prelude.{sym, ap, subst, refl, ◌∙◌, arith, or_zero, StandsFor}
+use Rattle.arena_rows.proofs.ring_spots_laws.LabelLaws.{label_row, but_loose, labelled-stands, loops-stands}
 use Rattle.arena_rows.proofs.ring_spots.parts.put_in_loop.Goals as goal
 
-pub returns-clause-whole : goal.returns-clause-whole
-returns-clause-whole c = labelled_alike _ _ _ _ c.requires.whole c.stand_for.ensures.own c.stand_for.ensures.holder c.stand_for.ensures.there
+pub give_label-requires-clause-whole : goal.give_label-requires-clause-whole
+give_label-requires-clause-whole c = but_loose _ _ _ c.requires.whole c.args.from c.requires.there (ap or_zero c.label-label.ensures ∙ c.if-label-eq0.true)
 
-pub returns-clause-spots : goal.returns-clause-spots
-returns-clause-spots c = loops-put _ _ _ c.requires.whole _ c.args.from c.args.l c.requires.there
-    (subst (λ x. (q : ℕ) → loop_at c.stand_for.new.labels q ≡ cond (nat_eq q x) c.args.l (loop_at c.args.labels.now q)) (sym (ap or_zero c.label.ensures)) c.stand_for.ensures.loops)
+pub stand_for-requires : goal.stand_for-requires
+stand_for-requires c = let below = label_row _ _ _ _ c.requires.whole c.args.from c.requires.there refl in omega (arith, below, ap or_zero c.label-label.ensures)
+
+pub returns-else-label-eq0-clause-whole : goal.returns-else-label-eq0-clause-whole
+returns-else-label-eq0-clause-whole c =
+    let e = ap or_zero c.label-label.ensures in
+    labelled-stands _ _ _ _ c.requires.whole _ c.args.from c.args.l c.requires.there refl (λ z. c.if-label-eq0.false (sym e ∙ z)) (subst (λ n. StandsFor c.args.labels.now c.stand_for.new.labels n c.args.l) (sym e) c.stand_for.ensures)
+
+pub returns-else-label-eq0-clause-spots : goal.returns-else-label-eq0-clause-spots
+returns-else-label-eq0-clause-spots c =
+    let e = ap or_zero c.label-label.ensures in
+    loops-stands _ _ _ c.requires.whole _ c.args.from c.args.l c.requires.there (λ z. c.if-label-eq0.false (sym e ∙ z)) (subst (λ n. StandsFor c.args.labels.now c.stand_for.new.labels n c.args.l) (sym e) c.stand_for.ensures)

@@ -3,10 +3,10 @@ use Rattle.arena_rows.proofs.ring_spots_laws.RingViews.{seen_live, seen_next, se
 use Rattle.arena_rows.proofs.ring_spots.edge_rings.EdgeRings.next.Goals as goal
 
 pub next-requires : goal.next-requires
-next-requires c = sym (seen_live c.self.inside.labels c.self.inside.rings c.args.code) ∙ (rw (← c.self.view_is) at c.requires)
+next-requires c = sym (seen_live c.self.inside.labels.loops.items c.self.inside.rings c.args.code) ∙ (rw (← c.self.view_is) at c.requires)
 
 pub returns-clause-next : goal.returns-clause-next
-returns-clause-next c = rw (← c.self.view_is) (seen_next c.self.inside.labels c.self.inside.rings c.args.code ∙ c.next.ensures.next)
+returns-clause-next c = rw (← c.self.view_is) (seen_next c.self.inside.labels.loops.items c.self.inside.rings c.args.code ∙ c.next.ensures.next)
 
 pub returns-clause-permutation : goal.returns-clause-permutation
-returns-clause-permutation c = rw (← c.self.view_is) (seen_permutation c.self.inside.labels c.self.inside.rings c.next.ensures.permutation)
+returns-clause-permutation c = rw (← c.self.view_is) (seen_permutation c.self.inside.labels.loops.items c.self.inside.rings c.next.ensures.permutation)

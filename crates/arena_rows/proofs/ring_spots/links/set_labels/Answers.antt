@@ -1,15 +1,14 @@
-use Rattle.arena_rows.proofs.Prelude.{arith, ap, ◌∙◌, refl, subst, ◌-◌, ◌+◌, inl, inr, contains_key, RingMap, spot, IsIn, IsIn_or_not, codes, next, ring}
+use Rattle.arena_rows.proofs.Prelude.{arith, ap, ◌∙◌, refl, subst, ◌-◌, ◌+◌, contains_key, RingMap, spot, IsIn, codes, ring}
 use Rattle.arena_rows.proofs.ring_spots_laws.RingMaps.{known-with}
 use Rattle.arena_rows.proofs.ring_spots_laws.SpotTables.{codes_are}
-use Rattle.arena_rows.proofs.ring_spots_laws.Relabelling.{walk_items, missed_more, missed_last, missed_over, not_met, partly_start, partly_next, partly_live, partly_last, partly_more, partly_over, step_in, label_step, known_step, next_step}
-use Rattle.arena_rows.proofs.ring_spots.links.set_labels_seeking.Goals as goal
+use Rattle.arena_rows.proofs.ring_spots_laws.Relabelling.{partly_start, partly_next, partly_live, partly_last, partly_more, partly_over, step_in, label_step, known_step, next_step}
+use Rattle.arena_rows.proofs.ring_spots.links.set_labels.Goals as goal
 
 pub round-init : goal.round-init
 round-init c = record {
   done = partly_start (spot c.args.rings.now) c.requires.rings c.args.from c.args.l (codes - 0) c.requires.there (omega arith);
   here = (c.requires.rings.rings c.args.from c.requires.there).item;
   known = refl;
-  missed = λ _ i. let same = walk_items (spot c.args.rings.now) c.requires.rings c.args.from (codes - 0) c.requires.there (omega arith) c.args.sought in omega (arith, i, same);
 }
 
 pub set_label-requires : goal.set_label-requires
@@ -18,7 +17,7 @@ set_label-requires c =
 
 pub next-h-requires : goal.next-h-requires
 next-h-requires c =
-    label_step c.round.rings c.set_label.new.self c.round.h c.args.l c.round.h c.set_label.ensures
+    label_step c.round.rings c.set_label.new.self c.round.h _ c.round.h c.set_label.ensures
     ∙ partly_live _ _ _ _ _ c.round.invariant.done c.round.h ∙ (c.requires.rings.rings c.args.from c.requires.there).awake c.round.h c.round.invariant.here
 
 pub returns-then-h-from : goal.returns-then-h-from
@@ -28,13 +27,6 @@ returns-then-h-from c =
       spots = partly_last (spot c.args.rings.now) (spot c.round.rings) (spot c.set_label.new.self) c.args.l c.args.from c.round.h c.next-h.result (codes - c.round.counter) (ring (spot c.args.rings.now) c.args.from) (omega (arith, codes_are)) c.round.invariant.done
           (known_step c.round.rings c.set_label.new.self c.round.h c.args.l c.set_label.ensures) goes c.if-h-from.true;
       known = ap (λ (m : RingMap). contains_key m) c.set_label.ensures ∙ (λ i q. known-with c.round.rings c.round.h (λ s. record s { label = c.args.l }) q i) ∙ c.round.invariant.known;
-      missed = λ m. elim (IsIn_or_not c.args.sought (ring (spot c.args.rings.now) c.args.from)) [
-        | inl i ↦
-            let out = not_met c.round.met c.round.h c.args.sought m in
-            absurd (missed_last (next (spot c.args.rings.now)) c.args.from c.round.h c.next-h.result (codes - c.round.counter) c.args.sought goes out.1
-            (omega (arith, codes_are)) c.if-h-from.true (c.round.invariant.missed out.0 i))
-        | inr n ↦ n
-      ];
     }
 
 pub round-preserved : goal.round-preserved
@@ -45,19 +37,10 @@ round-preserved c = record {
   here = subst (λ z. IsIn z (ring (spot c.args.rings.now) c.args.from)) (next_step c.round.rings c.set_label.new.self c.round.h c.args.l c.set_label.ensures (partly_next _ _ _ _ _ c.round.invariant.done c.round.h) c.next-h.result c.next-h.ensures.next)
       (step_in (spot c.args.rings.now) c.requires.rings c.args.from c.round.h c.requires.there c.round.invariant.here);
   known = ap (λ (m : RingMap). contains_key m) c.set_label.ensures ∙ (λ i q. known-with c.round.rings c.round.h (λ s. record s { label = c.args.l }) q i) ∙ c.round.invariant.known;
-  missed = λ m i.
-      let out = not_met c.round.met c.round.h c.args.sought m in
-      missed_more (next (spot c.args.rings.now)) c.args.from c.round.h c.next-h.result (codes - c.round.counter) c.args.sought
-      (next_step c.round.rings c.set_label.new.self c.round.h c.args.l c.set_label.ensures (partly_next _ _ _ _ _ c.round.invariant.done c.round.h) c.next-h.result c.next-h.ensures.next) out.1
-      (codes - (c.round.counter + 1)) (omega (arith, codes_are)) c.if-h-from.false (c.round.invariant.missed out.0 i);
 }
 
 pub returns : goal.returns
 returns c = record {
   spots = partly_over (spot c.args.rings.now) (spot c.round.rings) c.args.l c.args.from c.round.h (codes - c.round.counter) (ring (spot c.args.rings.now) c.args.from) (omega (arith, codes_are)) c.round.invariant.done;
   known = c.round.invariant.known;
-  missed = λ m. elim (IsIn_or_not c.args.sought (ring (spot c.args.rings.now) c.args.from)) [
-    | inl i ↦ absurd (missed_over (next (spot c.args.rings.now)) c.args.from c.round.h (codes - c.round.counter) c.args.sought (omega (arith, codes_are)) (c.round.invariant.missed m i))
-    | inr n ↦ n
-  ];
 }
