@@ -38,6 +38,13 @@ impl FaceList {
         }
     }
 
+    /// The list of these numbers.
+    pub fn of(faces: Vec<u32>) -> Self
+        ensures { result ≡ faces.items }
+    {
+        Self { faces }
+    }
+
     /// Appends a number.
     pub fn push(&mut self, face: u32) -> Result<(), AllocError>
         ensures ok { OnOk result (self.new ≡ self.old ++ face ∷ []) }

@@ -1,11 +1,11 @@
 -- The conditions of a split: those that are tested first, and those that are tested once the faces are drawn.
-use Rattle.plane_split.proofs.Prelude.{◌≡◌, ℕ, true, Some, Result, Err, sym, ap, ◌∙◌, Plane, Model, Sound, first_refusal, Refusal, split_begins, with_crossings, Drawing, straddling_pairs, with_drawings, first_conditions, later_conditions, split_conditions, split_refusal, can_be_drawn, put_aside}
-use Rattle.euler_operators.specs.Table as table
+use Rattle.plane_split.proofs.Prelude.{◌≡◌, ℕ, Some, Result, Err, sym, ap, ◌∙◌, Plane, Model, Sound, first_refusal, Refusal, Drawing, with_drawings, faces_above, first_conditions, later_conditions, split_conditions, split_refusal, put_aside}
 use Rattle.shapes.proofs.Common.{first_refusal-append, first_refusal-refused}
 use Rattle.split_drawing_laws.specs.crossings.Laws.{CanBegin}
-use Rattle.split_drawing_laws.proofs.crossings.Whole.{crossings_keep}
-use Rattle.split_laws.specs.drawn.Kept.{KeepsSolids}
-use Rattle.split_laws.proofs.drawn.Solids.{drawing_keeps}
+use Rattle.split_drawing_laws.proofs.face_sides.Begun.{none_straddles}
+use Rattle.split_laws.proofs.sides.Sides.{begun_sided}
+use Rattle.split_laws.proofs.measures.Splittable.{between_on}
+use Rattle.split_sections.specs.section_edges.Level.{SectionLiesOn}
 use Rattle.undo_journal.specs.declared.session.Failure.{Failure}
 use Rattle.undo_journal.specs.declared.session.Failure.TheVariants as failure
 
@@ -28,10 +28,8 @@ module _ (M : Model) (s : ℕ) (p : Plane) (t : ℕ) where
     unfolding split_conditions
     later_decide d e = ap (λ x. first_refusal (later_conditions s p x)) e ∙ sym (first_refusal-append (first_conditions M s p t) (later_conditions s p (with_drawings M s p)) begun)
 
-    drawn_keeps : Sound M → KeepsSolids (with_crossings M s p).model (with_drawings M s p).model
-    unfolding with_drawings
-    drawn_keeps sound = drawing_keeps p (with_crossings M s p) (straddling_pairs M s p) (can_be_drawn M s p t sound begun)
-
-    -- the solid is there once its faces are drawn
-    pub still_there : Sound M → (d : Drawing) → d ≡ put_aside (with_drawings M s p) → table.has d.model.solids s ≡ true
-    still_there sound d e = ap (λ x. table.has x.model.solids s) e ∙ ap (λ u. table.has u s) ((drawn_keeps sound).solids ∙ (crossings_keep M s p t sound begun).solids) ∙ (split_begins M s p t begun).s_there
+    -- where no face is stuck, none of them straddles, so the section lies on the plane
+    pub section_lies : Sound M → (d : Drawing) → d ≡ put_aside (with_drawings M s p) → Sound d.model → d.stuck ≡ 0 → SectionLiesOn d.model s p
+    section_lies sound d e drawn_sound done =
+        let none = none_straddles M d.model s p t sound begun (sym (ap (λ x. x.stuck) e) ∙ done, sym (ap (λ x. x.model) e)) in
+        between_on d.model drawn_sound p s (faces_above d.model p s) (begun_sided d.model p s drawn_sound none)

@@ -1,7 +1,8 @@
 -- A solid opened along its section and parted, once its faces are drawn.
-use Rattle.plane_split.proofs.Prelude.{◌≡◌, ℕ, List, [], ◌∷◌, ◌++◌, None, sym, ap, ◌∙◌, subst, Plane, Model, Sound, Part, Leads, some_taken, faces_above, below_halves, section_cycles, Drawing, with_drawings, Opening, all_opened, opened_at, upper_left, split_refusal, split_model, rewritings_made, CanBeOpenedInTurn, drawing_of, IsSection, cycles_of, put_aside, opened_section, unopened, openings_ops, hole_ops, upper_ops, ops_above, split_above, split_ops, split_accepted, split_made}
+use Rattle.plane_split.proofs.Prelude.{◌≡◌, ℕ, List, [], ◌∷◌, ◌++◌, None, sym, ap, ◌∙◌, subst, Plane, Model, Sound, Part, Leads, some_taken, faces_above, below_halves, section_cycles, Drawing, with_drawings, Opening, all_opened, opened_at, upper_left, split_refusal, split_model, CanBeOpenedInTurn, drawing_of, IsSection, cycles_of, put_aside, opened_section, unopened, openings_ops, hole_ops, upper_ops, ops_above, split_above, split_ops, split_accepted, split_made}
 use Rattle.shapes.specs.Common.{Caps}
 use Rattle.split_drawing_laws.specs.pairs.Laws.{rewriting_ops}
+use Rattle.split_drawing_laws.proofs.pairs.Whole.{rewritings_made}
 use Rattle.split_laws.proofs.drawn.Drawn.{begins, can_open_all}
 use Rattle.split_drawing.specs.declared.Progress.{Progress}
 use Rattle.split_sections.specs.declared.section_checks.section.Section.{Section}

@@ -11,9 +11,8 @@ pub use Rattle.plane_split.specs.declared.solid_opening.caps.Caps.{Caps}
 pub use Rattle.plane_split.specs.solid_opening.Capped.{all_caps, caps_of, opened_section, opening_of, unopened}
 pub use Rattle.plane_split.specs.solid_opening.Closing.{holes_ops, outer_uppers}
 pub use Rattle.plane_split.specs.solid_opening.Stages.{AreStripped, CanOpen}
-pub use Rattle.shapes.proofs.split.Facts.{split_begins}
-pub use Rattle.shapes.specs.Common.{Drawing, Opening, Taken, all_opened, below_halves, faces_above, first_conditions, is_hole, later_conditions, numbers_after, opened_along, opened_at, outer_caps, renamed, section_cycles, six_volume, some_above, some_below, split_refusal, straddling_pairs, upper_left, vertices_of, with_crossings}
-unfoldable pub use Rattle.shapes.specs.Common.{next_opened, split_conditions, split_model, with_drawings}
+pub use Rattle.shapes.specs.Common.{Drawing, Opening, Taken, all_opened, below_halves, faces_above, first_conditions, is_hole, later_conditions, numbers_after, opened_along, opened_at, outer_caps, renamed, section_cycles, six_volume, some_above, some_below, split_refusal, upper_left, vertices_of, with_drawings}
+unfoldable pub use Rattle.shapes.specs.Common.{next_opened, split_conditions, split_model}
 pub use Rattle.split_checks.proofs.begin_checks_laws.Stages.{none_early}
 pub use Rattle.split_checks.specs.begin_checks.Conditions.{early_refusal}
 pub use Rattle.split_drawing.proofs.CutPlaces.{others, parts}
@@ -21,7 +20,6 @@ pub use Rattle.split_drawing.proofs.StepsLeft.{none_left, others_lead}
 pub use Rattle.split_drawing.specs.Counters.{taken_of}
 pub use Rattle.split_drawing.specs.Progress.{drawing_of}
 pub use Rattle.split_drawing.specs.solid_drawing.Drawn.{put_aside}
-pub use Rattle.split_drawing_laws.proofs.pairs.Whole.{can_be_drawn, rewritings_made}
 pub use Rattle.split_laws.proofs.Whole.{split_accepted, split_made, split_sound}
 pub use Rattle.split_laws.specs.SplitOps.{closing_ops, hole_ops, openings_ops, ops_above, split_above, upper_ops}
 unfoldable pub use Rattle.split_laws.specs.SplitOps.{split_ops}

@@ -29,16 +29,15 @@ fn part_drawn(
     plane: &Plane,
     upper: u32,
     drawn: &Progress,
-    section: &Section,
+    section: Section,
 ) -> Result<(), AllocError>
     requires drawn { IsDrawn (drawing_of drawn.now draft.old.model []) s plane.now upper }
-    requires section { IsSection draft.old.model s plane.now section.now }
+    requires section { IsSection draft.old.model s plane.now section }
     ensures steps { OnOk result (draft.new ≡ after_steps draft.old (ops_above (drawing_of drawn.now draft.old.model []) s plane.now upper)) }
     ensures further { IsFurther draft.old draft.new }
 {
-    let caps = open_section(alloc, draft, s, plane, &drawn.taken, section)?;
-    let above = section.above.as_slice();
-    part_upper(alloc, draft, s, upper, above, caps.as_slice())
+    let caps = open_section(alloc, draft, s, plane, &drawn.taken, &section)?;
+    part_upper(draft, s, upper, section.above, caps.as_slice())
 }
 
 /// Splits solid s of the draft's model by the plane, if that can begin and these are its cuts. It cuts the edges that cross the plane, and
@@ -68,7 +67,7 @@ fn take_steps(
         Ok(section) => section,
         Err(refusal) => return Ok(Err(refusal)),
     };
-    part_drawn(alloc, draft, s, plane, upper, &drawn, &section)?;
+    part_drawn(alloc, draft, s, plane, upper, &drawn, section)?;
     Ok(Ok(()))
 }
 

@@ -13,3 +13,4 @@ pub mod Sorted
 pub mod Met
 pub mod NotedSides
 pub mod Told
+pub mod Level

@@ -1,5 +1,5 @@
 pub mod Normals
 pub mod Walked
 pub mod Leading
-pub mod Marking
+pub mod Level
 pub mod Sorted

@@ -1,2 +1,2 @@
 pub mod BelowHalves
-pub mod Marks
+pub mod Level

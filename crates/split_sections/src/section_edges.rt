@@ -2,7 +2,6 @@
 
 mod above;
 mod halves;
-mod marked;
 
-pub(crate) use above::{direction, faces_above};
+pub(crate) use above::{direction, look_at_faces};
 pub(crate) use halves::below_halves;

@@ -1,5 +1,5 @@
 //! The holes of a section are closed, and what is above the plane is parted.
-ghost use Rattle.std.specs.Prelude.{◌≡◌, ◌∷◌, ◌++◌, [], OnOk, IfOk};
+ghost use Rattle.std.specs.Prelude.{◌≡◌, ◌∷◌, ◌++◌, [], OnOk};
 ghost use Rattle.euler_laws.specs.Laws.{AreAccepted};
 ghost use Rattle.euler_operators.specs.declared.Op.TheVariants.{Kfmrh, Part};
 ghost use Rattle.shapes.specs.Common.{outer_caps, upper_left};
@@ -10,7 +10,7 @@ ghost use Rattle.undo_journal.specs.Journal.{after_steps, IsFurther};
 
 use crate::solid_opening::caps::Caps;
 use euler_operators::{FaceList, Op};
-use std::alloc::{AllocError, Global};
+use std::alloc::AllocError;
 use undo_journal::Draft;
 
 /// The caps of the first outer cycle. If there is none, the caps are no faces.
@@ -60,19 +60,6 @@ fn close_holes(draft: &mut Draft, outer: Caps, caps: &[Caps]) -> Result<(), Allo
     Ok(())
 }
 
-/// A list of some faces.
-fn listed(alloc: Global, faces: &[u32]) -> Result<FaceList, AllocError>
-    ensures { IfOk result (λ list. list ≡ faces.now) }
-{
-    let mut list = FaceList::new(alloc);
-    let mut rest = faces;
-    'faces: while let [first, others @ ..] = rest {
-        list.push(*first)?;
-        rest = others;
-    }
-    Ok(list)
-}
-
 /// Appends to a list the caps above of the outer cycles.
 fn push_outer(list: &mut FaceList, caps: &[Caps]) -> Result<(), AllocError>
     ensures { OnOk result (list.new ≡ list.old ++ outer_uppers caps.now) }
@@ -92,19 +79,18 @@ fn push_outer(list: &mut FaceList, caps: &[Caps]) -> Result<(), AllocError>
 /// steps.
 #[tactic(auto, using(undo_journal::proofs::Marks::further_on))]
 pub(crate) fn part_upper(
-    alloc: Global,
     draft: &mut Draft,
     s: u32,
     upper: u32,
-    above: &[u32],
+    above: Vec<u32>,
     caps: &[Caps],
 ) -> Result<(), AllocError>
-    requires { AreAccepted draft.old.model (hole_ops (all_caps caps.now) ++ Part s upper (upper_left above.now (all_caps caps.now)) ∷ []) }
-    ensures steps { OnOk result (draft.new ≡ after_steps draft.old (hole_ops (all_caps caps.now) ++ Part s upper (upper_left above.now (all_caps caps.now)) ∷ [])) }
+    requires { AreAccepted draft.old.model (hole_ops (all_caps caps.now) ++ Part s upper (upper_left above.items (all_caps caps.now)) ∷ []) }
+    ensures steps { OnOk result (draft.new ≡ after_steps draft.old (hole_ops (all_caps caps.now) ++ Part s upper (upper_left above.items (all_caps caps.now)) ∷ [])) }
     ensures further { IsFurther draft.old draft.new }
 {
     close_holes(draft, outer_caps(caps), caps)?;
-    let mut faces = listed(alloc, above)?;
+    let mut faces = FaceList::of(above);
     push_outer(&mut faces, caps)?;
     draft.step_accepted(Op::Part(s, upper, faces))
 }

@@ -1,18 +1,7 @@
 -- The half-edges of a loop, taken one by one as a walk round it meets them.
-use Rattle.split_checks.proofs.Prelude.{◌≡◌, ◌≢◌, ℕ, Bool, true, false, List, [], ◌∷◌, ◌++◌, map, sym, ap, ◌∙◌, append_assoc, filter, append-nil, arith, map-append, filter-append, Plane, HalfEdge, code, edge_of, IsIn, Model, cycle_of, loop_of, point_of, Sound, HasHalf, in_a_loop, start, finish, crossings_in, item_there}
+use Rattle.split_checks.proofs.Prelude.{◌≡◌, ◌≢◌, ℕ, List, ◌++◌, map, ap, ◌∙◌, filter, map-append, filter-append, Plane, edge_of, IsIn, Model, cycle_of, loop_of, point_of, Sound, HasHalf, in_a_loop, start, finish, crossings_in, item_there}
 use Rattle.euler_operators.specs.Model as model
 use Rattle.split_checks.specs.cut_places.Crossings.{leads_across}
-
--- one half-edge is looked at: it is taken where it passes
-module _ (p : ℕ → Bool) (had now : List HalfEdge) (x : HalfEdge) (rest : List ℕ) where
-  pub taken : now ≡ had ++ x ∷ [] → p (code x) ≡ true → map code now ++ filter p rest ≡ map code had ++ filter p (code x ∷ rest)
-  taken e t = grind (arith, map-append, append_assoc)
-
-  pub passed_by : now ≡ had → p (code x) ≡ false → map code now ++ filter p rest ≡ map code had ++ filter p (code x ∷ rest)
-  passed_by e t = grind arith
-
-pub none_left : (p : ℕ → Bool) (hs rest all : List ℕ) → rest ≡ [] → hs ++ filter p rest ≡ all → hs ≡ all
-none_left p hs rest all e t = sym (append-nil hs) ∙ ap (λ (ks : List ℕ). hs ++ filter p ks) (sym e) ∙ t
 
 -- the next half-edge starts where this one ends
 module _ (M : Model) (sound : Sound M) (h : ℕ) (there : HasHalf M h) (g r : ℕ) (i : IsIn g (cycle_of M h)) (next : loop_of M g ≢ 0 → r ≡ model.after M g) where

@@ -1,5 +1,5 @@
 -- The section edges of one face: none where it is above, else those whose mates lie in faces above.
-use Rattle.split_sections.proofs.Prelude.{◌≡◌, ℕ, Bool, true, false, List, [], ◌∷◌, ◌++◌, refl, sym, ap, arith, filter, filter-append, IsIn, SameItems, IsRotation, Model, loop_of, Sound, Has, face_at, lists, count-append, tick_same, listed-from_in, loops_of, boundary, items_counted, face_of_loop, below_in, leading_above}
+use Rattle.split_sections.proofs.Prelude.{◌≡◌, ℕ, true, false, List, [], ◌∷◌, ◌++◌, refl, sym, ap, arith, IsIn, SameItems, Model, loop_of, Sound, Has, face_at, lists, count-append, tick_same, listed-from_in, loops_of, boundary, items_counted, face_of_loop, below_in, leading_above}
 
 module _ (M : Model) (above : List ℕ) (f : ℕ) where
   -- each of some half-edges lies in face f
@@ -21,7 +21,7 @@ module _ (M : Model) (above : List ℕ) (f : ℕ) where
   all_in (k ∷ hs) of low = grind (arith, rest_of, first_of, all_in hs (rest_of k hs of) low)
 
   module _ (sound : Sound M) (there : Has M.faces f) where
-    bounding : AreOf (boundary M f)
+    pub bounding : AreOf (boundary M f)
     unfolding boundary
     bounding h i =
         let l : IsIn (loop_of M h) (loops_of M f) = omega (arith, i, items_counted M sound (loops_of M f) h) in
@@ -34,13 +34,6 @@ module _ (M : Model) (above : List ℕ) (f : ℕ) where
     leading_below low = all_in (boundary M f) bounding low
 
 -- ---- met in another order
-
--- those of a ring from any of its items on
-pub picked_turned : (p : ℕ → Bool) (xs ys : List ℕ) → IsRotation xs ys → SameItems (filter p ys) (filter p xs)
-picked_turned p xs ys r x = grind (arith, filter-append, count-append)
-
-pub after_had : (had xs ys : List ℕ) → SameItems xs ys → SameItems (had ++ xs) (had ++ ys)
-after_had had xs ys same x = omega (arith, same x, count-append x had xs, count-append x had ys)
 
 -- some more are met, and the rest is still to come
 pub more_met : (now had more rest all : List ℕ) → SameItems now (had ++ more) → SameItems (had ++ (more ++ rest)) all → SameItems (now ++ rest) all

@@ -1,16 +1,17 @@
 //! The conditions of a split that are tested after the faces are drawn, in their order.
-ghost use Rattle.std.specs.Prelude.{◌≡◌, true, [], None, Some, Ok, Err, Vec};
+ghost use Rattle.std.specs.Prelude.{◌≡◌, true, [], None, Some, Ok, Err, Vec, map};
 ghost use Rattle.std.specs.declared.alloc.Global.{Global};
 ghost use Rattle.euler_conditions.specs.Ready.{IsReady};
-ghost use Rattle.euler_operators.specs.Common.{first_refusal, strictly_rises, IsCutPlane};
+ghost use Rattle.euler_operators.specs.Common.{SameItems, code, faces_of, first_refusal, strictly_rises, IsCutPlane};
 ghost use Rattle.euler_operators.specs.declared.Refusal.{Refusal};
-ghost use Rattle.euler_conditions.specs.Store.{has_number};
 ghost use Rattle.split_opening_laws.specs.cycles.SectionCycles.{AreOf};
 ghost use Rattle.shapes.specs.Common.{below_halves, later_conditions, section_conditions};
 ghost use Rattle.solid_walks.specs.Counters.{taken_of};
 ghost use Rattle.split_checks.specs.cut_places.Noted.{AreSides};
 ghost use Rattle.split_checks.specs.Progress.{drawing_of};
-ghost use Rattle.split_sections.specs.Common.{AreCyclesOf, IsSection};
+ghost use Rattle.split_sections.specs.Common.{AreCyclesOf, IsSection, AreThere};
+ghost use Rattle.split_sections.specs.section_edges.BelowHalves.{below_met, leading_above};
+ghost use Rattle.split_sections.specs.section_edges.Level.{SectionLiesOn};
 ghost use Rattle.split_sections.specs.declared.section_cycles.cycle.Cycle.{Cycle};
 ghost use Rattle.split_sections.specs.declared.section_checks.section.Section.{Section};
 
@@ -18,15 +19,15 @@ use crate::section_checks::holes::has_stray_hole;
 use crate::section_checks::numbers::check_left;
 use crate::section_checks::section::Section;
 use crate::section_cycles::{Cycle, cycles, starts_of};
-use crate::section_edges::{below_halves, faces_above};
+use crate::section_edges::{below_halves, look_at_faces};
 use euler_conditions::Arena;
-use euler_operators::{Kind, Plane, Refusal, Why};
+use euler_operators::{HalfEdge, Plane, Refusal, Why};
 use solid_walks::Counters;
 use split_checks::{Progress, Sides};
 use std::alloc::{AllocError, Global};
 
 /// The cycles of the section of solid s between these faces above, which rise, and its other faces, if the solid can be opened along them
-/// with the numbers after those taken.
+/// with the numbers after those taken. The halves of its edges in the other faces are among those of `level`.
 fn check_cycles(
     alloc: Global,
     arena: &Arena,
@@ -34,16 +35,18 @@ fn check_cycles(
     plane: Plane,
     taken: Counters,
     above: &[u32],
+    level: Vec<HalfEdge>,
 ) -> Result<Result<Vec<Cycle>, Refusal>, AllocError>
     requires ready { IsReady arena.now }
     requires plane { IsCutPlane plane }
-    requires there { has_number arena.now Kind.Solid s ≡ true }
     requires rising { strictly_rises above.now ≡ true }
     requires of_solid { AreOf arena.now.model above.now s }
+    requires level { AreThere arena.now.model (map code level.items) }
+    requires met { SameItems (leading_above arena.now.model above.now (map code level.items)) (below_met arena.now.model above.now (faces_of arena.now.model s)) }
     ensures refused { (refusal : Refusal) → (result ≡ Ok (Err refusal)) → (first_refusal (section_conditions arena.now.model s plane (taken_of taken) (below_halves arena.now.model above.now s)) ≡ Some refusal) }
     ensures open { (found : Vec Cycle Global) → (result ≡ Ok (Ok found)) → ((first_refusal (section_conditions arena.now.model s plane (taken_of taken) (below_halves arena.now.model above.now s)) ≡ None) × AreCyclesOf arena.now.model plane (below_halves arena.now.model above.now s) found.items) }
 {
-    let halves = below_halves(alloc, arena, above, s)?;
+    let halves = below_halves(arena, above, level)?;
     let listed = halves.as_slice();
     let found = starts_of(alloc, arena, listed)?;
     if let Some(v) = found.1 {
@@ -69,8 +72,8 @@ fn check_cycles(
 ///
 /// Refused, in this order: CutCrossed with the first face that could not be drawn; BranchedVertex with the least vertex at which more than
 /// two section edges meet; SectionHoles with s, where a cycle is a hole and not exactly one is outer; NumbersSpent with 2, 3, 4 or 5, where
-/// no numbers are left for the faces, loops, edges or vertices that the opening takes. Sides that aren't noted in `sides` are computed, and
-/// then noted. If memory is refused, the answer is `AllocError`.
+/// no numbers are left for the faces, loops, edges or vertices that the opening takes. It is asked that the edges of the section lie on the
+/// plane if each face could be drawn. Sides that aren't noted in `sides` are computed, and then noted. If memory is refused, the answer is `AllocError`.
 pub fn check_later(
     alloc: Global,
     arena: &Arena,
@@ -82,7 +85,7 @@ pub fn check_later(
     requires ready { IsReady arena.now }
     requires plane { IsCutPlane plane.now }
     requires sides { AreSides arena.now.model plane.now sides.old }
-    requires there { has_number arena.now Kind.Solid s ≡ true }
+    requires level { drawn.now.stuck ≡ 0 → SectionLiesOn arena.now.model s plane.now }
     ensures refused { (refusal : Refusal) → (result ≡ Ok (Err refusal)) → (first_refusal (later_conditions s plane.now (drawing_of drawn.now arena.now.model [])) ≡ Some refusal) }
     ensures open { (section : Section) → (result ≡ Ok (Ok section)) → ((first_refusal (later_conditions s plane.now (drawing_of drawn.now arena.now.model [])) ≡ None) × IsSection arena.now.model s plane.now section) }
 {
@@ -92,8 +95,17 @@ pub fn check_later(
             number: drawn.stuck,
         }));
     }
-    let above = faces_above(alloc, arena, *plane, sides, s)?;
-    match check_cycles(alloc, arena, s, *plane, drawn.taken, above.as_slice())? {
+    let looked = look_at_faces(alloc, arena, *plane, sides, s)?;
+    let above = looked.above;
+    match check_cycles(
+        alloc,
+        arena,
+        s,
+        *plane,
+        drawn.taken,
+        above.as_slice(),
+        looked.level,
+    )? {
         Ok(cycles) => Ok(Ok(Section { above, cycles })),
         Err(refusal) => Ok(Err(refusal)),
     }

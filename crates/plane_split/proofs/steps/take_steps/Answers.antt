@@ -1,20 +1,21 @@
-use Rattle.plane_split.proofs.Prelude.{[], Ok, sym, ap, subst, ◌∙◌, verdict, split_begins, split_made, after_steps, steps_after, steps_make, drawing_of, IsSection}
+use Rattle.plane_split.proofs.Prelude.{[], Ok, sym, ap, subst, ◌∙◌, verdict, split_made, after_steps, steps_after, steps_make, drawing_of, IsSection}
+use Rattle.shapes.proofs.split.Facts.{split_begins}
 use Rattle.split_drawing.specs.Noted.{AreSides}
-use Rattle.plane_split.proofs.Conditions.{still_there, later_decide}
+use Rattle.plane_split.proofs.Conditions.{later_decide, section_lies}
 use Rattle.plane_split.proofs.Parted.{split_ops_are}
 use Rattle.plane_split.proofs.steps.take_steps.Goals as goal
 
 pub check_later-requires-clause-plane : goal.check_later-requires-clause-plane
 check_later-requires-clause-plane c = (split_begins c.args.draft.now.model c.args.s c.args.plane.now c.args.upper c.requires.begins).in_range
 
-pub check_later-requires-clause-there : goal.check_later-requires-clause-there
-check_later-requires-clause-there c =
-    still_there c.args.draft.now.model c.args.s c.args.plane.now c.args.upper c.requires.begins c.requires.sound (drawing_of c.in_ok-drawn.drawn c.arena.result.now.model [])
-    (ap (λ X. drawing_of c.in_ok-drawn.drawn X []) c.arena.ensures.model ∙ c.in_ok-drawn.ensures.drawn)
-
 pub check_later-requires-clause-sides : goal.check_later-requires-clause-sides
 check_later-requires-clause-sides c =
     subst (λ X. AreSides X c.args.plane.now c.draw_solid.new.sides) (sym c.arena.ensures.model) c.in_ok-drawn.ensures.sides
+
+pub check_later-requires-clause-level : goal.check_later-requires-clause-level
+check_later-requires-clause-level c =
+    section_lies c.args.draft.now.model c.args.s c.args.plane.now c.args.upper c.requires.begins c.requires.sound (drawing_of c.in_ok-drawn.drawn c.arena.result.now.model [])
+    (ap (λ X. drawing_of c.in_ok-drawn.drawn X []) c.arena.ensures.model ∙ c.in_ok-drawn.ensures.drawn) c.arena.ensures.ready.sound
 
 pub returns-in-Err-clause-carried : goal.returns-in-Err-clause-carried
 returns-in-Err-clause-carried c =

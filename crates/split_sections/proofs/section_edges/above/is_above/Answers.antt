@@ -1,7 +1,5 @@
-use Rattle.split_sections.proofs.Prelude.{◌≡◌, ◌∙◌, ◌||◌, ◌&&◌, Bool, true, false, not, pos, sym, int_lt, Below, On, Above, direction, dot, face_is_above, reaches_above, reaches_below}
+use Rattle.split_sections.proofs.Prelude.{◌≡◌, ◌∙◌, ◌||◌, ◌&&◌, Bool, true, false, not, pos, sym, int_lt, Below, On, Above, direction, dot, face_is_above, reaches_above, reaches_below, side_reached, told_up, told_down}
 use Rattle.shapes.specs.Common.{normal}
-use Rattle.split_checks.specs.cut_places.Sides.{side_reached}
-use Rattle.split_checks.proofs.cut_places_laws.NotedSides.{told_up, told_down}
 use Rattle.split_sections.proofs.section_edges.above.is_above.Goals as goal
 
 -- what the side tells that a face reaches
@@ -14,20 +12,20 @@ told_on a b m n e same = let up = told_up On a b e in λ i. up i || (not (told_d
 told_above : (a b n : Bool) → Above ≡ side_reached a b → true ≡ a || (not b && n)
 told_above a b n e = λ i. told_up Above a b e i || (not b && n)
 
-pub returns-in-Below-clause-is : goal.returns-in-Below-clause-is
+pub returns-in-Below : goal.returns-in-Below
 unfolding face_is_above
-returns-in-Below-clause-is c =
+returns-in-Below c =
     let M = c.args.arena.now.model in let p = c.args.plane in let f = c.args.f in
-    told_below (reaches_above M p f) (reaches_below M p f) (not (int_lt (pos 0) (dot (normal M f) (direction p)))) (sym c.in-Below.is ∙ c.face_side.ensures.is)
+    told_below (reaches_above M p f) (reaches_below M p f) (not (int_lt (pos 0) (dot (normal M f) (direction p)))) (sym c.in-Below.is ∙ c.requires.side)
 
-pub returns-in-On-clause-is : goal.returns-in-On-clause-is
+pub returns-in-On : goal.returns-in-On
 unfolding face_is_above
-returns-in-On-clause-is c =
+returns-in-On c =
     let M = c.args.arena.now.model in let p = c.args.plane in let f = c.args.f in
-    told_on (reaches_above M p f) (reaches_below M p f) c.points_along.result (int_lt (pos 0) (dot (normal M f) (direction p))) (sym c.in-On.is ∙ c.face_side.ensures.is) c.points_along.ensures
+    told_on (reaches_above M p f) (reaches_below M p f) c.points_along.result (int_lt (pos 0) (dot (normal M f) (direction p))) (sym c.in-On.is ∙ c.requires.side) c.points_along.ensures
 
-pub returns-in-Above-clause-is : goal.returns-in-Above-clause-is
+pub returns-in-Above : goal.returns-in-Above
 unfolding face_is_above
-returns-in-Above-clause-is c =
+returns-in-Above c =
     let M = c.args.arena.now.model in let p = c.args.plane in let f = c.args.f in
-    told_above (reaches_above M p f) (reaches_below M p f) (not (int_lt (pos 0) (dot (normal M f) (direction p)))) (sym c.in-Above.is ∙ c.face_side.ensures.is)
+    told_above (reaches_above M p f) (reaches_below M p f) (not (int_lt (pos 0) (dot (normal M f) (direction p)))) (sym c.in-Above.is ∙ c.requires.side)
