@@ -340,10 +340,11 @@ private:
         const Axes axes = flat_axes(way);
         const auto normal = [&](const Placed *placed) {
             const Vector &across = placed->region->plane.across;
-            return Side{{}, placed->runs_back(way) ? negative(across) : across}.seen(axes);
+            return placed->runs_back(way) ? negative(across) : across;
         };
-        const Segment from({}, {1, 0});
-        std::sort(sides.begin(), sides.end(), [&](const Placed *one, const Placed *other) { return comes_before(from, normal(other), normal(one)); });
+        Vector from{};
+        from[axes[0]] = 1;
+        std::sort(sides.begin(), sides.end(), [&](const Placed *one, const Placed *other) { return comes_before(from, normal(other), normal(one), axes); });
     }
 
     /// A vertex that only divides an edge goes, unless it was there for no other reason before.

@@ -29,7 +29,7 @@ inline Part part_near(const Bench &bench, const Surface &surface, Solid solid, c
         if (!std::binary_search(near.begin(), near.end(), outer))
             continue;
         const Plane *plane = surface.plane(face);
-        const bool needs_all = all_rings || plane == nullptr || dot(plane->across, area_vector(surface.path(outer))) <= 0;
+        const bool needs_all = all_rings || plane == nullptr || dot(plane->across, area_of(surface.cycle(outer))) <= 0;
         const auto rings = bench.rings(face);
         const auto is_far = [&](Loop ring) { return !std::binary_search(near.begin(), near.end(), ring); };
         const bool is_fast = !needs_all && any(rings, is_far);
@@ -53,13 +53,11 @@ inline std::vector<Sheet> sheets_of(const Model &model)
     for (const auto &[face, loops] : model.faces) {
         go_on();
         const std::vector<Cycle> cycles = model.cycles(face);
-        const bool has_lengths = all(cycles, [](const Cycle &cycle) {
-            return !cycle.empty() && all(cycle, [](const Side &side) { return side.start != side.end; });
-        });
-        const Vector across = area_of(cycles);
-        if (!has_lengths || is_zero(across) || longest(reduced(across)) > steepest)
+        const std::vector<Side> sides = joined(cycles);
+        const Vector across = reduced(area_of(sides));
+        if (any(cycles, [](const Cycle &cycle) { return cycle.empty(); }) || !have_lengths(sides) || is_zero(across) || longest(across) > steepest)
             throw refused(GWB_WHY_NOT_FLAT, face.number());
-        sheets.push_back({{Plane::through(cycles[0][0].start, reduced(across)), cycles}, {face}, {}});
+        sheets.push_back({Shape(cycles), {face}, {}});
     }
     return sheets;
 }
@@ -141,9 +139,8 @@ inline std::optional<std::vector<Operator>> moves(const Bench &bench, const Surf
         go_on();
         if (std::binary_search(looked_at.begin() + 1, looked_at.end(), ring))
             continue;
-        const Path &path = surface.path(ring);
         const auto around = std::find_if(became.begin(), became.end(), [&](const auto &region) {
-            return any(path, [&](const Vector &at) { return region.second->locate({at}) == Place::inside; });
+            return any(surface.cycle(ring), [&](const Side &side) { return region.second->locate({side.start}) == Place::inside; });
         });
         if (around == became.end())
             return std::nullopt;
@@ -177,7 +174,7 @@ inline void follow(Surface &surface, const Model &part, const Model &made, const
     for (const auto &[face, loops] : part.faces)
         surface.forget(face, loops);
     for (const auto &[face, loops] : made.faces)
-        surface.put(face, loops, mapped(made.cycles(face), points_of));
+        surface.put(face, loops, made.cycles(face));
     for (const Operator &made_by : operators)
         if (made_by.moved)
             surface.move(made_by.moved->first, made_by.moved->second);

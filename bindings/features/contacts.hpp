@@ -31,7 +31,7 @@ inline bool comes_into(const std::vector<Sheet> &held, const std::vector<Sheet> 
             continue;
         if (any(boxes.meeting(sheet.box), [&](std::size_t at) { return added[at].passes_through(sheet); }))
             return true;
-        const bool is_within = all(sheet.points, [&](const Vector &at) { return Box{at, at}.meets(around); });
+        const bool is_within = all(sheet.sides, [&](const Side &side) { return box_of(side.start).meets(around); });
         const std::optional<ScaledPoint> inner = is_within ? sheet.inner_point() : std::nullopt;
         if (inner && is_bound(added, *inner))
             return true;
@@ -49,7 +49,7 @@ public:
 
     Findings(const Model &model, const Box &box) : model_(model), box_(box)
     {
-        const auto is_near = [&](const Cycle &cycle) { return !cycle.empty() && Box::around(points_of(cycle)).meets(box); };
+        const auto is_near = [&](const Cycle &cycle) { return !cycle.empty() && box_of(cycle).meets(box); };
         for (const auto &[face, loops] : model.faces) {
             go_on();
             const std::vector<Cycle> cycles = model.cycles(face);
@@ -82,7 +82,7 @@ private:
         {
             const auto [row, is_new] = rows.try_emplace(number, Row{side, {}});
             if (is_new)
-                boxes.put(side.box(), number);
+                boxes.put(box_of(side), number);
             row->second.faces.insert(face);
         }
     };
@@ -92,18 +92,17 @@ private:
         for (const Cycle &cycle : near)
             for (const Side &side : cycle)
                 take(face, side);
-        if (const Vector across = area_of(near); !is_zero(across))
-            if (const Sheet sheet{{Plane::through(near[0][0].start, reduced(across)), near}, {face}, {}}; sheet.is_flat()) {
-                boxes_.put(sheet.box, faces_.size());
-                faces_.push_back(sheet);
-            }
+        if (const Sheet sheet{Shape(near), {face}, {}}; sheet.is_flat()) {
+            boxes_.put(sheet.box, faces_.size());
+            faces_.push_back(sheet);
+        }
     }
     void take(Face face, const Side &side)
     {
-        if (side.box().meets(box_))
+        if (box_of(side).meets(box_))
             edges_.take(side.half.edge().number(), side.half.is_second() ? side.turned() : side, face);
-        if (const Side corner{side.start, side.start}; corner.box().meets(box_))
-            vertices_.take(model_.start(side.half).number(), corner, face);
+        if (box_of(side.start).meets(box_))
+            vertices_.take(model_.start(side.half).number(), {side.start, side.start}, face);
     }
 
     void compare_vertices()
@@ -118,10 +117,10 @@ private:
     {
         for (const auto &[edge, row] : edges_.rows) {
             go_on();
-            for (std::size_t other : edges_.boxes.meeting(row.side.box()))
+            for (std::size_t other : edges_.boxes.meeting(box_of(row.side)))
                 if (edge < other)
                     compare_edges(edge, row.side, other, edges_.rows.at(other).side);
-            for (std::size_t vertex : vertices_.boxes.meeting(row.side.box()))
+            for (std::size_t vertex : vertices_.boxes.meeting(box_of(row.side)))
                 if (lies_between(row.side, vertices_.rows.at(vertex).side.start))
                     found.insert({Kind::vertex_on_edge, vertex, edge});
         }
@@ -133,8 +132,7 @@ private:
         const Vector across = cross(first.way(), second.way());
         if (is_zero(across) || dot(across, subtract(second.start, first.start)) != 0)
             return;
-        const Axes axes = flat_axes(across);
-        if (first.seen(axes).crosses(second.seen(axes)))
+        if (first.crosses(second, flat_axes(across)))
             found.insert({Kind::edges_cross, one, other});
     }
     static bool lies_between(const Side &side, const Vector &at)
@@ -172,7 +170,7 @@ private:
             go_on();
             const std::vector<std::size_t> beside = filtered(boxes_.meeting(one.box), [&](std::size_t at) {
                 const Sheet &other = faces_[at];
-                return other.owners != one.owners && are_parallel(one.plane.across, other.plane.across) && one.height({other.points[0]}) == 0;
+                return other.owners != one.owners && are_parallel(one.plane.across, other.plane.across) && one.height({other.sides[0].start}) == 0;
             });
             const std::optional<ScaledPoint> inner = beside.empty() ? std::nullopt : one.inner_point();
             for (std::size_t at : beside)

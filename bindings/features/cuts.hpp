@@ -40,8 +40,8 @@ inline std::vector<Side> cuts_of(const Sheet &sheet, const Plane &plane)
 /// Puts in what is left of a face below the plane. A face in the plane is left where it looks upwards.
 inline void put_below(const Sheet &sheet, const Plane &plane, const Failure &why, std::vector<Sheet> &left)
 {
-    const bool is_below = any(sheet.points, [&](const Vector &at) { return plane.height(at) < 0; });
-    const bool is_above = any(sheet.points, [&](const Vector &at) { return plane.height(at) > 0; });
+    const bool is_below = any(sheet.sides, [&](const Side &side) { return plane.height(side.start) < 0; });
+    const bool is_above = any(sheet.sides, [&](const Side &side) { return plane.height(side.start) > 0; });
     if (!is_above && (is_below || dot(sheet.plane.across, plane.across) > 0))
         left.push_back(sheet);
     if (!is_above || !is_below)
@@ -49,7 +49,7 @@ inline void put_below(const Sheet &sheet, const Plane &plane, const Failure &why
     std::vector<Side> sides = sides_below(sheet, plane);
     append(sides, cuts_of(sheet, plane));
     for (const std::vector<Cycle> &cycles : Traced(sides, sheet.plane.across, why).regions())
-        left.push_back({{sheet.plane, cycles}, {sheet.owners[0]}, {}});
+        left.push_back({Shape(cycles), {sheet.owners[0]}, {}});
 }
 
 /// The sides in the plane that have no other beside them, turned round.
@@ -79,7 +79,7 @@ inline Combined part_below(const Held &held, const std::vector<Sheet> &sheets, c
         put_below(sheet, plane, meets, left);
     }
     for (const std::vector<Cycle> &cycles : Traced(open_sides(left, plane), plane.across, meets).regions())
-        caps.push_back({{Plane::through(cycles[0][0].start, reduced(plane.across)), cycles}, {Face()}, {caps.size()}});
+        caps.push_back({Shape(cycles), {Face()}, {caps.size()}});
     Result<std::vector<Sheet>> laid = tried([&] { return overlaid(left, caps); });
     std::optional<Made> made = laid ? Assembly(held, *laid, names).made(solid) : std::nullopt;
     if (!made)
@@ -103,7 +103,7 @@ inline Path corners_in(const Bench &bench, Solid solid, const Plane &plane)
 /// solid lie in the plane.
 inline void require_apart(const Model &before, const Path &corners, std::initializer_list<const Model *> parts)
 {
-    if (!corners.empty() && touch_anew({&before}, parts, Box::around(corners)))
+    if (!corners.empty() && touch_anew({&before}, parts, box_of(corners)))
         throw impossible(Misfit::meets, before.solid.number());
 }
 
@@ -118,9 +118,8 @@ inline bool is_coped_with(const Failure &failure)
 inline std::vector<Face> faces_in(const Bench &bench, Solid solid, Face above, const Plane &plane)
 {
     std::vector<Face> found;
-    const auto lies_in = [&](const Path &loop) { return all(loop, [&](const Vector &at) { return plane.height(at) == 0; }); };
     for (Face face : bench.faces(solid))
-        if (face > above && all(loops_at(bench, face), lies_in))
+        if (face > above && lie_in(joined(cycles_at(bench, face)), plane))
             found.push_back(face);
     return found;
 }

@@ -7,6 +7,7 @@
 #include "gwb.hpp"
 #include "gwb_features.h"
 #include <map>
+#include <tuple>
 #if !defined(__SIZEOF_INT128__)
 #error "the features take integers of 128 bits, as GCC and Clang have them"
 #endif
@@ -79,15 +80,6 @@ template <class Map> const typename Map::mapped_type *look_up(const Map &map, co
     return found != map.end() ? &found->second : nullptr;
 }
 
-/// Whether the test holds for the ends of a side of a closed path.
-template <class Path, class Test> bool any_side(const Path &path, Test test)
-{
-    for (std::size_t at = 0; at < path.size(); at++)
-        if (test(path[at], path[(at + 1) % path.size()]))
-            return true;
-    return false;
-}
-
 // ---- vectors
 
 constexpr Vector vector(Point point) { return {point.x, point.y, point.z}; }
@@ -113,10 +105,10 @@ inline bool are_parallel(const Vector &a, const Vector &b)
     return compare_products(a[1], b[2], a[2], b[1]) == 0 && compare_products(a[2], b[0], a[0], b[2]) == 0 &&
            compare_products(a[0], b[1], a[1], b[0]) == 0;
 }
-/// The shortest whole vector in the direction of one that isn't zero.
+/// The shortest whole vector in the direction of one.
 constexpr Vector reduced(const Vector &a)
 {
-    const Wide divisor = greatest_divisor(greatest_divisor(a[0], a[1]), a[2]);
+    const Wide divisor = std::max(Wide{1}, greatest_divisor(greatest_divisor(a[0], a[1]), a[2]));
     return {a[0] / divisor, a[1] / divisor, a[2] / divisor};
 }
 
@@ -145,6 +137,7 @@ struct Plane {
     }
     [[nodiscard]] Wide height(const Vector &at) const { return dot(across, at) + offset; }
     [[nodiscard]] Plane turned() const { return {negative(across), -offset}; }
+    friend bool operator<(const Plane &a, const Plane &b) { return std::tie(a.across, a.offset) < std::tie(b.across, b.offset); }
 };
 
 /// Points, so much further on.
@@ -153,23 +146,6 @@ inline std::vector<Vector> moved(std::vector<Vector> points, const Vector &way)
     for (Vector &at : points)
         at = add(at, way);
     return points;
-}
-
-/// Twice the area that the closed path through points goes round, as a vector.
-inline Vector area_vector(const std::vector<Vector> &points)
-{
-    Vector sum{};
-    for (std::size_t at = 2; at < points.size(); at++)
-        sum = add(sum, cross(subtract(points[at - 1], points[0]), subtract(points[at], points[0])));
-    return sum;
-}
-
-inline Vector area_vector(const std::vector<std::vector<Vector>> &loops)
-{
-    Vector sum{};
-    for (const std::vector<Vector> &points : loops)
-        sum = add(sum, area_vector(points));
-    return sum;
 }
 
 /// The axis along which a vector is longest.
@@ -193,27 +169,19 @@ constexpr Axes flat_axes(const Vector &normal)
 struct Box {
     Vector low{}, high{};
 
-    static Box around(const std::vector<Vector> &points)
-    {
-        Box box{points[0], points[0]};
-        for (const Vector &at : points)
-            box.take(at);
-        return box;
-    }
     static Box between(const Vector &a, const Vector &b)
     {
         Box box{a, a};
-        box.take(b);
+        box.take({b, b});
         return box;
     }
-    void take(const Vector &at)
+    void take(const Box &other)
     {
         for (std::size_t axis = 0; axis < 3; axis++) {
-            low[axis] = std::min(low[axis], at[axis]);
-            high[axis] = std::max(high[axis], at[axis]);
+            low[axis] = std::min(low[axis], other.low[axis]);
+            high[axis] = std::max(high[axis], other.high[axis]);
         }
     }
-    void take(const Box &other) { take(other.low), take(other.high); }
     [[nodiscard]] bool meets(const Box &other) const
     {
         for (std::size_t axis = 0; axis < 3; axis++)
@@ -222,6 +190,16 @@ struct Box {
         return true;
     }
 };
+
+/// The box around a point, and around several items that have one.
+inline Box box_of(const Vector &at) { return {at, at}; }
+template <class Item> Box box_of(const std::vector<Item> &items)
+{
+    Box box = box_of(items[0]);
+    for (const Item &item : items)
+        box.take(box_of(item));
+    return box;
+}
 
 /// Numbers by boxes. Each lies in a grid whose cells are longer than its box, by a power of two, in the cell of the box's lowest corner.
 class BoxIndex {
@@ -284,76 +262,10 @@ private:
     std::map<int, Grid> grids_;
 };
 
-// ---- planes
+// ---- places
 
 /// Where a point lies against an outline.
 enum class Place { inside, outside, on };
-
-/// A point of a plane: its coordinates are x and y divided by the scale, which is above zero.
-struct Spot {
-    Wide x = 0, y = 0, scale = 1;
-
-    /// Negative where it comes before another one, from the left, and below where both are as far left.
-    [[nodiscard]] int compare(const Spot &other) const
-    {
-        const int first = compare_products(x, other.scale, other.x, scale);
-        return first != 0 ? first : compare_products(y, other.scale, other.y, scale);
-    }
-};
-
-/// A segment of a plane, and the way along it, which stays exact where the ends have a scale. Of a segment and a point, or of two segments,
-/// one alone has ends with a scale.
-struct Segment {
-    Spot start, end;
-    Wide x, y;
-
-    Segment(const Spot &from, const Spot &to) : start(from), end(to), x(to.x - from.x), y(to.y - from.y) {}
-    /// A part of another one.
-    Segment(const Spot &from, const Spot &to, const Segment &whole) : start(from), end(to), x(whole.x), y(whole.y) {}
-
-    /// Positive where the point lies left of the segment's line, negative right of it, zero on it.
-    [[nodiscard]] int turn(const Spot &point) const
-    {
-        return compare_products(x, point.y * start.scale - start.y * point.scale, y, point.x * start.scale - start.x * point.scale);
-    }
-    /// Whether the point lies on the segment, its ends included.
-    [[nodiscard]] bool holds(const Spot &point) const
-    {
-        return turn(point) == 0 && start.compare(point) * point.compare(end) >= 0;
-    }
-    /// Whether they pass through each other between their ends.
-    [[nodiscard]] bool crosses(const Segment &other) const
-    {
-        return turn(other.start) * turn(other.end) < 0 && other.turn(start) * other.turn(end) < 0;
-    }
-    /// Whether both have a point in common.
-    [[nodiscard]] bool meets(const Segment &other) const
-    {
-        return holds(other.start) || holds(other.end) || other.holds(start) || other.holds(end) || crosses(other);
-    }
-    /// Whether both lie in boxes that meet, where the ends have no scale.
-    [[nodiscard]] bool is_near(const Segment &other) const
-    {
-        const auto overlap = [](Wide a, Wide b, Wide c, Wide d) { return std::max(a, b) >= std::min(c, d) && std::max(c, d) >= std::min(a, b); };
-        return overlap(start.x, end.x, other.start.x, other.end.x) && overlap(start.y, end.y, other.start.y, other.end.y);
-    }
-};
-
-using Outline = std::vector<Segment>;
-
-/// Where a point lies against an outline of sides without a scale, by the parity of crossings of a ray to the right.
-inline Place locate(const Outline &sides, const Spot &point)
-{
-    bool is_within = false;
-    for (const Segment &side : sides) {
-        if (side.holds(point))
-            return Place::on;
-        const bool is_above = side.start.y * point.scale > point.y;
-        if (is_above != (side.end.y * point.scale > point.y) && (side.turn(point) > 0) == (side.end.y > side.start.y))
-            is_within = !is_within;
-    }
-    return is_within ? Place::inside : Place::outside;
-}
 
 /// Where a point lies against all of some loops, of each of which a function tells it: within an odd number of them, or on one.
 template <class Loops, class Of> Place locate_in(const Loops &loops, Of of)

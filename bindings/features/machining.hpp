@@ -29,23 +29,22 @@ inline Path path_of(Items<Point> points)
 }
 
 /// Whether two sides of an outline meet otherwise than neighbours do, at their common end.
-inline bool clash(const Segment &side, const Segment &other, bool are_neighbours)
+inline bool clash(const Side &side, const Side &other, bool are_neighbours, Axes axes)
 {
     if (!are_neighbours)
-        return side.meets(other);
-    const bool is_after = side.end.compare(other.start) == 0;
-    const Spot &far = is_after ? side.start : side.end, &beyond = is_after ? other.end : other.start;
-    return other.holds(far) || side.holds(beyond);
+        return side.meets(other, axes);
+    const bool is_after = side.end == other.start;
+    return other.holds({is_after ? side.start : side.end}, axes) || side.holds({is_after ? other.end : other.start}, axes);
 }
 
 /// Refuses an outline that crosses or touches itself.
-inline void require_simple(const Outline &sides)
+inline void require_simple(const Cycle &sides, Axes axes)
 {
     for (std::size_t at = 0; at < sides.size(); at++) {
         go_on();
         for (std::size_t beyond = at + 1; beyond < sides.size(); beyond++) {
             const bool are_neighbours = beyond - at == 1 || beyond - at == sides.size() - 1;
-            if (sides[at].is_near(sides[beyond]) && clash(sides[at], sides[beyond], are_neighbours))
+            if (box_of(sides[at]).meets(box_of(sides[beyond])) && clash(sides[at], sides[beyond], are_neighbours, axes))
                 throw impossible(Misfit::outline_crossed, place(at));
         }
     }
@@ -68,11 +67,12 @@ inline Vector simple_normal(const Path &path)
     for (std::size_t at = 0; at < path.size(); at++)
         if (!seen.insert(path[at]).second)
             throw refused(GWB_WHY_REPEATED_POINT, place(at));
-    const Vector across = area_vector(path);
+    const Cycle sides = cycle_of(path);
+    const Vector across = area_of(sides);
     if (is_zero(across))
         throw impossible(Misfit::no_area, 0);
     require_in(Plane::through(path[0], across), path);
-    require_simple(outline(cycle_of(path), flat_axes(across)));
+    require_simple(sides, flat_axes(across));
     return across;
 }
 
@@ -97,27 +97,28 @@ inline Vector steps_along(Face face, const Vector &across, std::int64_t length)
 
 // ---- faces
 
-/// The points of a loop, of which a lone one has one.
-inline Path path_at(const Bench &bench, Loop loop)
+/// The sides of a loop; the vertex of a lone one, as a side of no length.
+inline Cycle cycle_at(const Bench &bench, Loop loop)
 {
     Path path;
     if (const std::optional<Vertex> vertex = bench.lone_vertex(loop))
         path.push_back(vector(bench.vertex(*vertex)));
     for (HalfEdge half : bench.around(loop))
         path.push_back(vector(bench.vertex(bench.start_of(half))));
-    return path;
+    return cycle_of(path);
 }
-inline std::vector<Path> loops_at(const Bench &bench, Face face)
+/// Those of the loops of a face, the outer one first.
+inline std::vector<Cycle> cycles_at(const Bench &bench, Face face)
 {
-    std::vector<Path> loops;
+    std::vector<Cycle> found;
     for (Loop loop : bench.loops_of(face))
-        loops.push_back(path_at(bench, loop));
-    return loops;
+        found.push_back(cycle_at(bench, loop));
+    return found;
 }
 
 // ---- what lies near
 
-/// The loops of a solid with their points, by boxes, and the planes of its faces.
+/// The loops of a solid with their sides, by boxes, and the planes of its faces.
 class Surface {
 public:
     Surface(const Bench &bench, Solid solid)
@@ -132,23 +133,23 @@ public:
     void put(const Bench &bench, Face face)
     {
         const auto loops = bench.loops_of(face);
-        put(face, {loops.begin(), loops.end()}, loops_at(bench, face));
+        put(face, {loops.begin(), loops.end()}, cycles_at(bench, face));
     }
     /// The same, of some of its loops, where the others are known.
-    void put(Face face, const std::vector<Loop> &loops, const std::vector<Path> &paths)
+    void put(Face face, const std::vector<Loop> &loops, const std::vector<Cycle> &cycles)
     {
         for (std::size_t at = 0; at < loops.size(); at++)
-            put(face, loops[at], paths[at]);
-        if (const std::optional<Plane> plane = flat_plane(paths))
+            put(face, loops[at], cycles[at]);
+        if (const std::optional<Plane> plane = flat_plane(joined(cycles)))
             planes_.emplace(face, *plane);
     }
 
     /// Takes in a ring of a face that is new, in the face's plane.
-    void put(Face face, Loop loop, const Path &path)
+    void put(Face face, Loop loop, const Cycle &cycle)
     {
-        const Box box = Box::around(path);
+        const Box box = box_of(cycle);
         boxes_.put(box, loop.number());
-        loops_.insert_or_assign(loop, std::pair(face, path));
+        loops_.insert_or_assign(loop, std::pair(face, cycle));
         if (!around_)
             around_ = box;
         around_->take(box);
@@ -159,7 +160,7 @@ public:
     {
         planes_.erase(face);
         for (Loop loop : loops) {
-            boxes_.take_away(Box::around(path(loop)), loop.number());
+            boxes_.take_away(box_of(cycle(loop)), loop.number());
             loops_.erase(loop);
         }
     }
@@ -171,9 +172,9 @@ public:
     /// Such a face, so far as some of its loops tell.
     [[nodiscard]] Shape shape(Face face, const std::vector<Loop> &loops) const
     {
-        return {planes_.at(face), mapped(loops, [&](Loop loop) { return cycle_of(path(loop)); })};
+        return {planes_.at(face), mapped(loops, [&](Loop loop) { return cycle(loop); })};
     }
-    [[nodiscard]] const Path &path(Loop loop) const { return loops_.at(loop).second; }
+    [[nodiscard]] const Cycle &cycle(Loop loop) const { return loops_.at(loop).second; }
 
     /// A box around the part of a ray that lies in the box around the solid.
     [[nodiscard]] Box box_of_ray(const Vector &start, const Vector &way) const
@@ -202,12 +203,12 @@ public:
         const Plane &plane = planes_.at(face);
         require_in(plane, path);
         const Vector across = simple_normal(path);
-        shape(face, near(Box::around(path))[face]).require_inside(face, path);
+        shape(face, near(box_of(path))[face]).require_inside(face, path);
         return dot(across, plane.across) < 0 ? path : turned(path);
     }
 
 private:
-    std::unordered_map<Loop, std::pair<Face, Path>> loops_;
+    std::unordered_map<Loop, std::pair<Face, Cycle>> loops_;
     std::map<Face, Plane> planes_;
     BoxIndex boxes_;
     std::optional<Box> around_;
@@ -286,58 +287,45 @@ inline Plane plane_of(const Bench &bench, Face face)
     return *plane;
 }
 
-/// An outline in a face moved along the face's normal, away from the face; `is_open` where it ends in another face.
+/// An outline in a face moved along the face's normal, away from the face; `is_open` where it ends in another face. In the face, and in the other one,
+/// only what is on the outline counts.
 class Prism {
 public:
-    Prism(const Vector &across, const Path &path, const Vector &way, bool is_open)
-        : path_(path), far_(moved(path, way)), way_(way), base_(Plane::through(path[0], dot(across, way) > 0 ? across : negative(across))),
-          top_(dot(base_.across, way)), is_open_(is_open), sight_{base_.across}, sides_(sight_.outline(cycle_of(path))), box_(Box::around(path))
+    Prism(const Vector &across, const Path &path, const Path &far, bool is_open)
+        : way_(subtract(far[0], path[0])), lids_{{Plane::through(path[0], across), {cycle_of(path)}}, {Plane::through(far[0], across), {cycle_of(far)}}}
     {
-        box_.take(Box::around(far_));
+        for (const Side &side : lids_[0].sides)
+            walls_.push_back(Shape({cycle_of({side.start, side.end, add(side.end, way_), add(side.start, way_)})}));
+        if (!is_open)
+            walls_.push_back(lids_[1]);
+        box_ = box_of(lids_);
     }
 
     [[nodiscard]] const Box &box() const { return box_; }
-    /// The outline where it was moved to.
-    [[nodiscard]] const Path &far() const { return far_; }
 
-    /// Whether it meets an edge of a loop, or the vertex of a lone one.
-    [[nodiscard]] bool meets_loop(const Path &path) const
+    /// Whether a point of a segment lies in it, or on it.
+    [[nodiscard]] bool meets(const Side &segment) const
     {
-        return any_side(path, [&](const Vector &start, const Vector &end) { return Box::between(start, end).meets(box_) && meets_edge(start, end); });
+        const auto passes = [&](const Shape &lid) { return sign(lid.height({segment.start})) * sign(lid.height({segment.end})) < 0 && lid.meets(segment); };
+        return box_of(segment).meets(box_) &&
+               (any(walls_, [&](const Shape &wall) { return wall.meets(segment); }) || any(lids_, passes) || holds(segment.start));
     }
 
-    /// Whether a point of the segment lies in the prism or on it; in the face, and in the other one, only what is on the outline counts.
-    [[nodiscard]] bool meets_edge(const Vector &start, const Vector &end) const
-    {
-        const Wide low = base_.height(start), high = base_.height(end);
-        if (low > high)
-            return meets_edge(end, start);
-        if (high < 0 || low > top_)
-            return false;
-        const Side edge{start, end};
-        const ScaledPoint first = low < 0 ? divided(edge, low, high) : ScaledPoint{start};
-        const ScaledPoint last = high > top_ ? divided(edge, low - top_, high - top_) : ScaledPoint{end};
-        const Segment between(sight_.spot(first), sight_.spot(last), sight_.segment(edge));
-        const bool only_outline = high == 0 || (is_open_ && low == top_);
-        return (!only_outline && locate(sides_, between.start) != Place::outside) ||
-               any(sides_, [&](const Segment &side) { return side.meets(between); });
-    }
-
-    /// Whether an edge of the prism meets a face none of whose edges meets the prism.
+    /// Whether an edge of it meets a face none of whose edges meets it.
     [[nodiscard]] bool meets_face(const Shape &shape) const
     {
-        const auto is_met = [&](const Vector &start, const Vector &end) { return shape.meets({start, end}); };
-        return any_side(path_, is_met) || any_side(far_, is_met) || any(path_, [&](const Vector &at) { return is_met(at, add(at, way_)); });
+        return any(walls_, [&](const Shape &wall) { return any(wall.sides, [&](const Side &side) { return shape.meets(side); }); });
     }
 
 private:
-    Path path_, far_;
+    /// Whether a point lies between the lids.
+    [[nodiscard]] bool holds(const Vector &at) const
+    {
+        return lids_[0].hit({at}, negative(way_)) != Place::outside && lids_[1].hit({at}, way_) != Place::outside;
+    }
+
     Vector way_;
-    Plane base_; ///< whose normal points into it
-    Wide top_;
-    bool is_open_;
-    Sight sight_;
-    Outline sides_;
+    std::vector<Shape> lids_, walls_; ///< of which the far lid is one where it isn't open
     Box box_;
 };
 
@@ -346,7 +334,8 @@ inline void require_room(const Surface &surface, const Prism &prism, Face face, 
 {
     const auto is_met = [&](const auto &beside) {
         const auto &[of, loops] = beside;
-        return any(loops, [&](Loop loop) { return prism.meets_loop(surface.path(loop)); }) ||
+        const auto meets = [&](const Side &side) { return prism.meets(side); };
+        return any(loops, [&](Loop loop) { return any(surface.cycle(loop), meets); }) ||
                (of != face && of != other && surface.plane(of) != nullptr && prism.meets_face(surface.shape(of, loops)));
     };
     if (any(surface.near(prism.box()), is_met))
@@ -454,7 +443,7 @@ inline Ring make_ring(Bench &bench, Face face, Items<Point> points)
     const Drawing drawn(bench, face, points);
     Ring made = draw(bench, face, drawn.path);
     drawn.known.follow(bench, drawn.solid, [&](Surface &surface) {
-        surface.put(face, made.loop, drawn.path);
+        surface.put(face, made.loop, cycle_of(drawn.path));
         surface.put(bench, made.face);
     });
     if (drawn.is_turned()) {
@@ -467,22 +456,22 @@ inline Ring make_ring(Bench &bench, Face face, Items<Point> points)
 /// Moves an outline in a face along the face's normal, as far as another face where it is to end in that.
 inline Pocket move_outline(Bench &bench, Face face, const Drawing &drawn, const Vector &way, Face other = Face())
 {
-    const Prism prism(drawn.across, drawn.path, way, other != Face());
+    const Path far = moved(drawn.path, way);
     const Surface &surface = drawn.known.surface(bench, drawn.solid);
     if (other != Face())
-        (void)surface.ring_path(other, prism.far());
-    require_room(surface, prism, face, other);
+        (void)surface.ring_path(other, far);
+    require_room(surface, Prism(drawn.across, drawn.path, far, other != Face()), face, other);
     const Ring ring = draw(bench, face, drawn.path);
     const std::vector<Face> sides = sides_of_sweep(bench, ring.face, way, ring.edges, false);
     const Loop far_ring = bench.face(ring.face).outer_loop;
     if (other != Face())
         bench.kfmrh(other, ring.face);
     drawn.known.follow(bench, drawn.solid, [&](Surface &of) {
-        of.put(face, ring.loop, drawn.path);
+        of.put(face, ring.loop, cycle_of(drawn.path));
         for (Face side : sides)
             of.put(bench, side);
         if (other != Face())
-            of.put(other, far_ring, prism.far());
+            of.put(other, far_ring, cycle_of(far));
         else
             of.put(bench, ring.face);
     });

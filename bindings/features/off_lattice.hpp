@@ -272,7 +272,7 @@ public:
     {
         for (Face face : bench.faces(solid)) {
             go_on();
-            faces_.push_back(machining::loops_at(bench, face));
+            faces_.push_back(mapped(machining::cycles_at(bench, face), machining::points_of));
         }
         for (Edge edge : machining::edges_of(bench, solid)) {
             const EdgeRow row = bench.edge(edge);

@@ -5,8 +5,7 @@
 
 namespace gwb_session::selection {
 
-using namespace exact;
-using machining::Path;
+using namespace machining;
 
 /// A fraction times a whole number, where that is whole.
 inline std::optional<Wide> whole(const gwb_ratio &ratio, Wide factor)
@@ -43,48 +42,33 @@ inline bool is_query(const gwb_edge_query &query)
     return (query.between[0] == 0) == (query.between[1] == 0) && is_direction(query.along) && is_called_for(query.length);
 }
 
-/// A face that is looked at.
-class Candidate {
-public:
-    Candidate(const Bench &bench, Face face) : loops_(machining::loops_at(bench, face)), across_(area_vector(loops_)) {}
-
-    [[nodiscard]] bool fits(const gwb_face_query &query) const
-    {
-        if (query.plane != nullptr && !lies_in({query.plane->a, query.plane->b, query.plane->c}, query.plane->d))
-            return false;
-        if (query.normal != nullptr && (is_zero(across_) || reduced(across_) != reduced(vector(*query.normal)) || !is_flat()))
-            return false;
-        if (query.area != nullptr && (!is_as_long(across_, whole(*query.area, 2)) || !is_flat()))
-            return false;
-        return query.containing == nullptr || holds(vector(*query.containing));
-    }
-
-private:
-    [[nodiscard]] bool lies_in(const Vector &across, Wide offset) const
-    {
-        return all(loops_, [&](const Path &path) { return all(path, [&](const Vector &at) { return dot(across, at) + offset == 0; }); });
-    }
-    [[nodiscard]] bool is_flat() const { return lies_in(across_, -dot(across_, loops_[0][0])); }
-    [[nodiscard]] bool holds(const Vector &at) const
-    {
-        const std::optional<Plane> plane = machining::flat_plane(loops_);
-        return plane && is_in_range(at) && plane->height(at) == 0 && machining::Shape(*plane, mapped(loops_, machining::cycle_of)).meets({at, at});
-    }
-
-    std::vector<Path> loops_;
-    Vector across_;
-};
+/// Whether a face fits a query.
+inline bool fits(const Bench &bench, Face face, const gwb_face_query &query)
+{
+    const std::vector<Cycle> cycles = cycles_at(bench, face);
+    const std::vector<Side> sides = joined(cycles);
+    const Vector across = area_of(sides);
+    const bool is_flat = lie_in(sides, Plane::through(sides[0].start, across));
+    const auto holds = [&](const Vector &at) {
+        const std::optional<Plane> plane = flat_plane(sides);
+        return plane && is_in_range(at) && plane->height(at) == 0 && Shape(*plane, cycles).meets({at, at});
+    };
+    return (query.plane == nullptr || lie_in(sides, Plane::of(*query.plane))) &&
+           (query.normal == nullptr || (!is_zero(across) && reduced(across) == reduced(vector(*query.normal)) && is_flat)) &&
+           (query.area == nullptr || (is_as_long(across, whole(*query.area, 2)) && is_flat)) &&
+           (query.containing == nullptr || holds(vector(*query.containing)));
+}
 
 /// The faces for which all holds that is asked, rising. Refused: NoSolid.
 inline std::vector<Face> faces(const Bench &bench, const gwb_face_query &query)
 {
     const Solid solid(query.solid);
     if (solid != Solid())
-        machining::require_solid(bench, solid);
+        require_solid(bench, solid);
     std::vector<Face> found;
     for (Face face : solid != Solid() ? bench.faces(solid) : bench.numbers<Face>()) {
         go_on();
-        if (Candidate(bench, face).fits(query))
+        if (fits(bench, face, query))
             found.push_back(face);
     }
     return found;
@@ -93,7 +77,7 @@ inline std::vector<Face> faces(const Bench &bench, const gwb_face_query &query)
 /// The edges between two faces of a solid, or of any. Refused: NoFace.
 inline std::set<Edge> edges_between(const Bench &bench, Face one, Face other, Solid solid)
 {
-    const Solid first = machining::solid_of(bench, one), second = machining::solid_of(bench, other);
+    const Solid first = solid_of(bench, one), second = solid_of(bench, other);
     std::set<Edge> found;
     if (solid == Solid() || (first == solid && second == solid))
         for (const gwb_half_edge_row &row : bench.half_edge_rows(one))
@@ -109,11 +93,11 @@ inline std::set<Edge> candidates(const Bench &bench, const gwb_edge_query &query
     const bool are_between = query.between[0] != 0;
     const std::set<Edge> between = are_between ? edges_between(bench, Face(query.between[0]), Face(query.between[1]), solid) : std::set<Edge>();
     if (solid != Solid())
-        machining::require_solid(bench, solid);
+        require_solid(bench, solid);
     if (are_between)
         return between;
     const auto all = bench.numbers<Edge>();
-    return solid != Solid() ? machining::edges_of(bench, solid) : std::set<Edge>(all.begin(), all.end());
+    return solid != Solid() ? edges_of(bench, solid) : std::set<Edge>(all.begin(), all.end());
 }
 
 /// The edges for which all holds that is asked, rising. Refused: NoFace, NoSolid.

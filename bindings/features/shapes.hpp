@@ -3,11 +3,11 @@
 #define GWB_FEATURES_SHAPES_HPP
 #include "exact.hpp"
 #include "solids.hpp"
-#include <tuple>
 
 namespace gwb_session::machining {
 
 using namespace exact;
+using exact::box_of;
 using Path = std::vector<Vector>;
 
 inline Failure impossible(Misfit why, std::uint32_t value) { return {Problem::impossible, static_cast<std::uint32_t>(why), value}; }
@@ -22,7 +22,28 @@ inline Vector whole(Face face, const std::optional<Vector> &found)
 /// The number of a place in a list, from 1 on.
 inline std::uint32_t place(std::size_t at) { return static_cast<std::uint32_t>(at) + 1; }
 
-// ---- sides
+// ---- points and sides
+
+/// A point whose coordinates are divided by the scale, which is above zero.
+struct ScaledPoint {
+    Vector at;
+    Wide scale = 1;
+
+    [[nodiscard]] bool lies_in(const Box &box) const { return Box{times(box.low, scale), times(box.high, scale)}.meets({at, at}); }
+    /// Between this one and another.
+    [[nodiscard]] ScaledPoint between(const ScaledPoint &other) const { return {add(at, other.at), scale + other.scale}; }
+    /// The point, where it is whole.
+    [[nodiscard]] std::optional<Vector> whole() const { return on_way({}, at, 1, scale); }
+    /// Negative where it comes before another one, by x, then y, then z.
+    [[nodiscard]] int compare(const ScaledPoint &other) const
+    {
+        int order = 0;
+        for (std::size_t axis = 0; axis < 3 && order == 0; axis++)
+            order = compare_products(at[axis], other.scale, other.at[axis], scale);
+        return order;
+    }
+    friend bool operator<(const ScaledPoint &a, const ScaledPoint &b) { return a.compare(b) < 0; }
+};
 
 /// A directed side, with the region on its left: its ends, and the half-edge that it is, or is a part of, or none.
 struct Side {
@@ -31,61 +52,42 @@ struct Side {
 
     [[nodiscard]] bool is_old() const { return half != HalfEdge(); }
     [[nodiscard]] Vector way() const { return subtract(end, start); }
-    [[nodiscard]] Box box() const { return Box::between(start, end); }
     [[nodiscard]] Side turned() const { return {end, start, is_old() ? half.twin() : half}; }
-    /// As it is seen in a plane.
-    [[nodiscard]] Segment seen(Axes axes) const { return {{start[axes[0]], start[axes[1]]}, {end[axes[0]], end[axes[1]]}}; }
     friend bool operator<(const Side &a, const Side &b) { return std::tie(a.start, a.end, a.half) < std::tie(b.start, b.end, b.half); }
     friend bool operator==(const Side &a, const Side &b) { return a.start == b.start && a.end == b.end && a.half == b.half; }
-};
 
-using Cycle = std::vector<Side>;
+    // Against a point or a side of the same plane, which is seen by these axes:
 
-/// The cycle through points, without sides of no length, and the points that a cycle goes through.
-inline Cycle cycle_of(const Path &path)
-{
-    Cycle cycle;
-    cycle.reserve(path.size());
-    for (std::size_t at = 0; at < path.size(); at++)
-        if (const Vector &next = path[(at + 1) % path.size()]; next != path[at])
-            cycle.push_back({path[at], next});
-    return cycle;
-}
-inline Path points_of(const Cycle &cycle) { return mapped(cycle, [](const Side &side) { return side.start; }); }
-
-/// Twice the area that cycles go round, as a vector.
-inline Vector area_of(const std::vector<Cycle> &cycles) { return area_vector(mapped(cycles, points_of)); }
-
-/// Sides as they are seen in a plane.
-inline Outline outline(const std::vector<Side> &sides, Axes axes) { return mapped(sides, [&](const Side &side) { return side.seen(axes); }); }
-
-/// Twice the area between a segment and a point, positive where that lies left.
-inline Wide area_beside(const Segment &segment, const Spot &at)
-{
-    return segment.x * (at.y - segment.start.y) - segment.y * (at.x - segment.start.x);
-}
-
-// ---- points
-
-/// A point whose coordinates are divided by the scale, which is above zero.
-struct ScaledPoint {
-    Vector at;
-    Wide scale = 1;
-
-    [[nodiscard]] Spot spot(Axes axes) const { return {at[axes[0]], at[axes[1]], scale}; }
-    [[nodiscard]] bool lies_in(const Box &box) const { return Box{times(box.low, scale), times(box.high, scale)}.meets(Box{at, at}); }
-    /// Between this one and another.
-    [[nodiscard]] ScaledPoint between(const ScaledPoint &other) const { return {add(at, other.at), scale + other.scale}; }
-    /// The point, where it is whole.
-    [[nodiscard]] std::optional<Vector> whole() const { return on_way({}, at, 1, scale); }
-    friend bool operator<(const ScaledPoint &a, const ScaledPoint &b)
+    /// Twice the area between it and a point, positive where that lies left.
+    [[nodiscard]] Wide area_beside(const Vector &at, Axes axes) const
     {
-        int order = 0;
-        for (std::size_t axis = 0; axis < 3 && order == 0; axis++)
-            order = compare_products(a.at[axis], b.scale, b.at[axis], a.scale);
-        return order < 0;
+        const Vector along = way(), to = subtract(at, start);
+        return along[axes[0]] * to[axes[1]] - along[axes[1]] * to[axes[0]];
+    }
+    /// Positive where the point lies left of the side's line, negative right of it, zero on it.
+    [[nodiscard]] int turn(const ScaledPoint &point, Axes axes) const
+    {
+        const Vector along = way(), to = subtract(point.at, times(start, point.scale));
+        return compare_products(along[axes[0]], to[axes[1]], along[axes[1]], to[axes[0]]);
+    }
+    /// Whether the point lies on the side, its ends included.
+    [[nodiscard]] bool holds(const ScaledPoint &point, Axes axes) const
+    {
+        return turn(point, axes) == 0 && ScaledPoint{start}.compare(point) * point.compare({end}) >= 0;
+    }
+    /// Whether they pass through each other between their ends.
+    [[nodiscard]] bool crosses(const Side &other, Axes axes) const
+    {
+        return turn({other.start}, axes) * turn({other.end}, axes) < 0 && other.turn({start}, axes) * other.turn({end}, axes) < 0;
+    }
+    /// Whether both have a point in common.
+    [[nodiscard]] bool meets(const Side &other, Axes axes) const
+    {
+        return holds({other.start}, axes) || holds({other.end}, axes) || other.holds({start}, axes) || other.holds({end}, axes) || crosses(other, axes);
     }
 };
+
+inline Box box_of(const Side &side) { return Box::between(side.start, side.end); }
 
 /// Where a side crosses a plane, or a line, that lies so far from its ends, on one side of it and on the other; where it starts, if it lies in it.
 inline ScaledPoint divided(const Side &side, Wide before, Wide after)
@@ -94,63 +96,103 @@ inline ScaledPoint divided(const Side &side, Wide before, Wide after)
     return {add(times(side.start, scale), times(side.way(), magnitude(before))), scale};
 }
 
-/// Points, and sides, as seen along a vector: as spots, exactly.
-struct Sight {
-    Vector along;
-    Axes axes = flat_axes(along);
-    std::size_t third = widest(along);
+using Cycle = std::vector<Side>;
 
-    [[nodiscard]] Spot spot(const ScaledPoint &point) const
-    {
-        const auto part = [&](std::size_t axis) { return point.at[axis] * along[third] - point.at[third] * along[axis]; };
-        return {part(axes[0]), part(axes[1]), point.scale};
+/// The cycle through points, and the points that a cycle goes through.
+inline Cycle cycle_of(const Path &path)
+{
+    Cycle cycle;
+    cycle.reserve(path.size());
+    for (std::size_t at = 0; at < path.size(); at++)
+        cycle.push_back({path[at], path[(at + 1) % path.size()]});
+    return cycle;
+}
+inline Path points_of(const Cycle &cycle) { return mapped(cycle, [](const Side &side) { return side.start; }); }
+
+/// The sides of all of some cycles.
+inline std::vector<Side> joined(const std::vector<Cycle> &cycles)
+{
+    std::vector<Side> sides;
+    for (const Cycle &cycle : cycles)
+        append(sides, cycle);
+    return sides;
+}
+
+/// Twice the area that the sides of cycles go round, as a vector.
+inline Vector area_of(const std::vector<Side> &sides)
+{
+    Vector sum{};
+    for (const Side &side : sides)
+        sum = add(sum, cross(side.start, side.end));
+    return sum;
+}
+
+/// Where a point lies against a cycle in its plane, by the parity of crossings of a ray along the first axis.
+inline Place locate(const Cycle &cycle, const ScaledPoint &point, Axes axes)
+{
+    bool is_within = false;
+    for (const Side &side : cycle) {
+        if (side.holds(point, axes))
+            return Place::on;
+        const Wide start = side.start[axes[1]] * point.scale, end = side.end[axes[1]] * point.scale, level = point.at[axes[1]];
+        if ((start > level) != (end > level) && (side.turn(point, axes) > 0) == (end > start))
+            is_within = !is_within;
     }
-    [[nodiscard]] Segment segment(const Side &side) const { return {spot({side.start}), spot({side.end})}; }
-    [[nodiscard]] Outline outline(const std::vector<Side> &sides) const { return mapped(sides, [&](const Side &side) { return segment(side); }); }
-};
+    return is_within ? Place::inside : Place::outside;
+}
 
 // ---- faces
 
-/// The plane of a face with these loops, its normal as short as it can be: none where one is lone, the face has no area, a vertex lies off its plane
-/// or an edge has no length.
-inline std::optional<Plane> flat_plane(const std::vector<Path> &loops)
+/// The plane of sides, its normal as short as it can be: zero where they go round no area.
+inline Plane plane_around(const std::vector<Side> &sides) { return Plane::through(sides[0].start, reduced(area_of(sides))); }
+
+/// Whether sides lie in a plane.
+inline bool lie_in(const std::vector<Side> &sides, const Plane &plane)
 {
-    const Vector sum = area_vector(loops);
-    if (is_zero(sum))
-        return std::nullopt;
-    const Plane plane = Plane::through(loops[0][0], reduced(sum));
-    const auto is_off = [&](const Vector &start, const Vector &end) { return plane.height(start) != 0 || start == end; };
-    return any(loops, [&](const Path &path) { return any_side(path, is_off); }) ? std::nullopt : std::optional(plane);
+    return all(sides, [&](const Side &side) { return plane.height(side.start) == 0; });
 }
+inline bool have_lengths(const std::vector<Side> &sides)
+{
+    return all(sides, [](const Side &side) { return side.start != side.end; });
+}
+
+/// The plane of a face with these sides: none where one has no length, as that of a lone loop, the face has no area, or a vertex lies off its plane.
+inline std::optional<Plane> flat_plane(const std::vector<Side> &sides)
+{
+    const Plane plane = plane_around(sides);
+    return !is_zero(plane.across) && have_lengths(sides) && lie_in(sides, plane) ? std::optional(plane) : std::nullopt;
+}
+
+/// A cycle, and the box around it.
+struct Contour : Cycle {
+    Box box;
+};
 
 /// A flat face, or so much of it as some of its loops tell.
 class Shape {
 public:
     Plane plane;
-    std::vector<Cycle> cycles;
+    std::vector<Contour> cycles;
     std::vector<Side> sides; ///< of all of these
-    Path points;             ///< of all sides
     Box box;                 ///< around them
 
-    Shape(const Plane &in, std::vector<Cycle> around) : plane(in), cycles(std::move(around)), axes_(flat_axes(in.across))
+    explicit Shape(const std::vector<Cycle> &around) : Shape(plane_around(joined(around)), around) {}
+    Shape(const Plane &in, const std::vector<Cycle> &around)
+        : plane(in), cycles(mapped(around, [](const Cycle &cycle) { return Contour{cycle, box_of(cycle)}; })), sides(joined(around)),
+          axes_(flat_axes(in.across))
     {
-        for (const Cycle &cycle : cycles) {
-            loops_.emplace_back(Box::around(points_of(cycle)), outline(cycle, axes_));
-            append(sides, cycle);
-        }
-        points = points_of(sides);
-        if (!points.empty())
-            box = Box::around(points);
+        if (!sides.empty())
+            box = box_of(sides);
     }
 
-    [[nodiscard]] bool is_flat() const { return all(points, [&](const Vector &at) { return plane.height(at) == 0; }); }
+    [[nodiscard]] bool is_flat() const { return !is_zero(plane.across) && lie_in(sides, plane); }
     /// Positive before the plane, negative behind it: times the point's scale.
     [[nodiscard]] Wide height(const ScaledPoint &point) const { return dot(plane.across, point.at) + plane.offset * point.scale; }
     /// Where a point of the plane lies: within an odd number of loops, of which those with a box around it count.
     [[nodiscard]] Place locate(const ScaledPoint &point) const
     {
-        return locate_in(loops_, [&](const auto &loop) {
-            return point.lies_in(loop.first) ? exact::locate(loop.second, point.spot(axes_)) : Place::outside;
+        return locate_in(cycles, [&](const Contour &cycle) {
+            return point.lies_in(cycle.box) ? machining::locate(cycle, point, axes_) : Place::outside;
         });
     }
     /// Whether it has a point of a segment, of one in its plane the start.
@@ -163,33 +205,25 @@ public:
     /// Refuses a path in its plane that doesn't lie strictly inside the face, which has this number, or has a ring of it inside.
     void require_inside(Face face, const Path &path) const
     {
-        const Outline own = outline(cycle_of(path), axes_);
-        bool is_around = false;
-        for (const auto &[around, segments] : loops_) {
-            const auto is_met = [&](const Segment &side) {
-                return any(own, [&](const Segment &other) { return side.is_near(other) && side.meets(other); });
-            };
-            if (any(segments, is_met))
-                throw impossible(Misfit::outline_outside, face.number());
-            is_around = is_around || exact::locate(own, segments[0].start) == Place::inside;
-        }
-        if (locate({path[0]}) != Place::inside)
+        const Cycle own = cycle_of(path);
+        const auto is_met = [&](const Side &side) {
+            return any(own, [&](const Side &other) { return box_of(side).meets(box_of(other)) && side.meets(other, axes_); });
+        };
+        if (any(sides, is_met) || locate({path[0]}) != Place::inside)
             throw impossible(Misfit::outline_outside, face.number());
-        if (is_around)
+        if (any(cycles, [&](const Contour &cycle) { return machining::locate(own, {cycle[0].start}, axes_) == Place::inside; }))
             throw impossible(Misfit::outline_around_ring, face.number());
     }
 
     /// Whether a part of a side in the plane lies within.
     [[nodiscard]] bool has_part(const Side &whole) const
     {
-        const Segment own = whole.seen(axes_);
         std::vector<ScaledPoint> stops = {{whole.start}, {whole.end}};
         for (const Side &side : sides) {
-            const Segment seen = side.seen(axes_);
-            const Wide before = area_beside(seen, own.start), after = area_beside(seen, own.end);
+            const Wide before = side.area_beside(whole.start, axes_), after = side.area_beside(whole.end, axes_);
             if (sign(before) * sign(after) < 0)
                 stops.push_back(divided(whole, before, after));
-            else if (own.holds(seen.start))
+            else if (whole.holds({side.start}, axes_))
                 stops.push_back({side.start});
         }
         return !parts_within(std::move(stops)).empty();
@@ -198,11 +232,11 @@ public:
     /// A point within: the middle of a triangle of corners.
     [[nodiscard]] std::optional<ScaledPoint> inner_point() const
     {
-        const std::size_t count = points.size();
+        const std::size_t count = sides.size();
         for (std::size_t step = 1; step < count; step++)
             for (std::size_t first = 0; first < count; first++)
                 for (std::size_t second = first + 1; second < count; second++) {
-                    const ScaledPoint middle{add(add(points[first], points[second]), points[(second + step) % count]), 3};
+                    const ScaledPoint middle{add(add(sides[first].start, sides[second].start), sides[(second + step) % count].start), 3};
                     if (locate(middle) == Place::inside)
                         return middle;
                 }
@@ -236,13 +270,13 @@ public:
         });
     }
 
-    /// Where a ray meets it, seen along the ray.
+    /// Where a ray meets it from behind.
     [[nodiscard]] Place hit(const ScaledPoint &start, const Vector &ray) const
     {
-        if (sign(height(start)) * sign(dot(plane.across, ray)) >= 0)
+        const Wide below = height(start), slope = dot(plane.across, ray);
+        if (sign(below) * sign(slope) >= 0)
             return Place::outside;
-        const Sight sight{ray};
-        return exact::locate(sight.outline(sides), sight.spot(start));
+        return locate({add(times(start.at, magnitude(slope)), times(ray, magnitude(below))), start.scale * magnitude(slope)});
     }
 
 private:
@@ -258,8 +292,9 @@ private:
     }
 
     Axes axes_;
-    std::vector<std::pair<Box, Outline>> loops_; ///< the cycles as they are seen in the plane, with boxes around them
 };
+
+inline Box box_of(const Shape &shape) { return shape.box; }
 
 } // namespace gwb_session::machining
 #endif

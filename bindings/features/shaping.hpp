@@ -33,7 +33,7 @@ struct Corner {
 /// The prism under an outline, as deep as the vector says.
 inline Tool prism(const Path &outline, const Vector &way)
 {
-    const Path path = dot(area_vector(outline), way) < 0 ? outline : backwards(outline);
+    const Path path = dot(area_of(cycle_of(outline)), way) < 0 ? outline : backwards(outline);
     Tool tool{{path}, {backwards(moved(path, way))}, {}};
     for (std::size_t at = 0; at < path.size(); at++) {
         const Vector &before = path[(at + path.size() - 1) % path.size()];
@@ -56,7 +56,7 @@ inline Tool wedge(const Corner &start, const Corner &end)
         made.walls.push_back({start.point, start.first, start.second});
     if (!end.is_shared)
         made.walls.push_back({end.point, end.second, end.first});
-    if (dot(area_vector(slope), subtract(start.first, start.point)) <= 0)
+    if (dot(area_of(cycle_of(slope)), subtract(start.first, start.point)) <= 0)
         for (std::vector<Path> *part : {&made.lids, &made.floors, &made.walls})
             *part = mapped(*part, backwards<Vector>);
     return made;
@@ -257,10 +257,10 @@ inline std::vector<Sheet> sheets_of(const Tool &tool, bool are_cut)
     std::vector<Sheet> sheets;
     for (const Path &seen : paths) {
         const Path path = are_cut ? backwards(seen) : seen;
-        const Vector across = area_vector(path);
-        if (is_zero(across) || !all(path, [&](const Vector &at) { return dot(across, subtract(at, path[0])) == 0; }))
+        const Cycle cycle = filtered(cycle_of(path), [](const Side &side) { return side.start != side.end; }); // (a strip may end in a point)
+        sheets.push_back({Shape({cycle}), {Face()}, {sheets.size()}});
+        if (!sheets.back().is_flat())
             throw refused(GWB_WHY_NOT_FLAT, 0);
-        sheets.push_back({{Plane::through(path[0], reduced(across)), {cycle_of(path)}}, {Face()}, {sheets.size()}}); // (a strip may end in a point)
     }
     return sheets;
 }

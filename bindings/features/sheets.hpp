@@ -10,9 +10,6 @@ namespace gwb_session::sheets {
 
 using namespace machining;
 
-/// A plane, whichever way it is looked at: its reduced normal, the first part of which that isn't zero is positive, and its offset.
-using Level = std::pair<Vector, Wide>;
-
 /// A flat region, the outline first: the faces that it is of, none of an added one that is no face; where it is added, or added ones went into it, their
 /// places among the added ones. Its normal is reduced.
 struct Sheet : Shape {
@@ -22,31 +19,20 @@ struct Sheet : Shape {
     [[nodiscard]] bool is_added() const { return !marks.empty(); }
     /// Whether it looks the way of its plane's normal.
     [[nodiscard]] bool is_facing() const { return plane.across > Vector{}; }
-    [[nodiscard]] Level level() const
-    {
-        const Plane facing = is_facing() ? plane : plane.turned();
-        return {facing.across, facing.offset};
-    }
+    /// The plane, whichever way it looks: the first part of this one's normal that isn't zero is positive.
+    [[nodiscard]] Plane level() const { return is_facing() ? plane : plane.turned(); }
 };
-
-/// The box around all of some sheets.
-inline Box box_of(const std::vector<Sheet> &sheets)
-{
-    Box box = sheets[0].box;
-    for (const Sheet &sheet : sheets)
-        box.take(sheet.box);
-    return box;
-}
 
 // ---- sides traced as cycles
 
 /// Whether one way comes before another in the turn clockwise from a third one, which itself comes last.
-inline bool comes_before(const Segment &from, const Segment &one, const Segment &other)
+inline bool comes_before(const Vector &from, const Vector &one, const Vector &other, Axes axes)
 {
-    const auto turned = [](const Segment &a, const Segment &b) { return compare_products(a.x, b.y, a.y, b.x); };
-    const auto quarter = [&](const Segment &way) { // below a half turn, a half, above it, a whole
+    const auto [x, y] = axes;
+    const auto turned = [x = x, y = y](const Vector &a, const Vector &b) { return compare_products(a[x], b[y], a[y], b[x]); };
+    const auto quarter = [&, x = x, y = y](const Vector &way) { // below a half turn, a half, above it, a whole
         const int side = turned(from, way);
-        return side != 0 ? side + 1 : from.x * way.x + from.y * way.y > 0 ? 3 : 1;
+        return side != 0 ? side + 1 : from[x] * way[x] + from[y] * way[y] > 0 ? 3 : 1;
     };
     const int quarters = quarter(one) - quarter(other);
     return quarters != 0 ? quarters < 0 : turned(one, other) < 0;
@@ -68,7 +54,7 @@ public:
         std::vector<std::pair<Wide, Cycle>> outer;
         std::vector<Cycle> holes;
         for (const Cycle &cycle : cycles())
-            if (const Wide area = dot(area_of({cycle}), across_); area > 0)
+            if (const Wide area = dot(area_of(cycle), across_); area > 0)
                 outer.emplace_back(-area, cycle);
             else
                 holes.push_back(cycle);
@@ -88,9 +74,8 @@ public:
 private:
     [[nodiscard]] bool lies_in(const Cycle &hole, const Cycle &around) const
     {
-        const Outline walls = outline(around, axes_);
         for (const Side &side : hole)
-            if (const Place place = locate(walls, side.seen(axes_).start); place != Place::on)
+            if (const Place place = locate(around, {side.start}, axes_); place != Place::on)
                 return place == Place::inside;
         return false;
     }
@@ -118,8 +103,8 @@ private:
         const auto [first, last] = std::equal_range(sides_.begin(), sides_.end(), side.turned(), starts_before);
         if (first == last)
             throw why_;
-        const auto found = std::min_element(first, last, [back = side.turned().seen(axes_), this](const Side &one, const Side &other) {
-            return comes_before(back, one.seen(axes_), other.seen(axes_));
+        const auto found = std::min_element(first, last, [&, back = side.turned().way()](const Side &one, const Side &other) {
+            return comes_before(back, one.way(), other.way(), axes_);
         });
         return static_cast<std::size_t>(found - sides_.begin());
     }
@@ -159,7 +144,7 @@ class Overlay {
 public:
     /// Sheets that are held come first, so that what is joined has their name. The box is that of the added ones.
     Overlay(std::vector<Sheet> sheets, const Box &box)
-        : sheets_(std::move(sheets)), box_(box), axes_(flat_axes(sheets_[0].level().first)), kept_(sheets_.size())
+        : sheets_(std::move(sheets)), box_(box), axes_(flat_axes(sheets_[0].level().across)), kept_(sheets_.size())
     {
         for (std::size_t at = 0; at < sheets_.size(); at++)
             boxes_.put(sheets_[at].box, at);
@@ -300,8 +285,8 @@ private:
         BoxIndex index;
         for (std::size_t place = 0; place < sheets_.size(); place++)
             for (const Side &side : sheets_[place].sides)
-                if (side.box().meets(box_)) {
-                    index.put(side.box(), near.size());
+                if (box_of(side).meets(box_)) {
+                    index.put(box_of(side), near.size());
                     near.push_back({place, side});
                 } else {
                     kept_[place].push_back(side);
@@ -321,17 +306,16 @@ private:
     [[nodiscard]] Path cut(const Part &one, const std::vector<Part> &near, const BoxIndex &index) const
     {
         std::set<Vector> points = {one.side.start, one.side.end};
-        const Segment own = one.side.seen(axes_);
-        for (std::size_t at : index.meeting(one.side.box())) {
-            const Part &other = near[at];
-            const Segment across = other.side.seen(axes_);
-            if (sheets_[other.place].is_added() == sheets_[one.place].is_added())
+        const Side &own = one.side;
+        for (std::size_t at : index.meeting(box_of(own))) {
+            const auto &[place, across] = near[at];
+            if (sheets_[place].is_added() == sheets_[one.place].is_added())
                 continue;
-            if (own.holds(across.start)) // (where the other one ends another side starts)
-                points.insert(other.side.start);
-            if (!own.crosses(across))
+            if (own.holds({across.start}, axes_)) // (where the other one ends another side starts)
+                points.insert(across.start);
+            if (!own.crosses(across, axes_))
                 continue;
-            const std::optional<Vector> at_crossing = divided(one.side, area_beside(across, own.start), area_beside(across, own.end)).whole();
+            const std::optional<Vector> at_crossing = divided(own, across.area_beside(own.start, axes_), across.area_beside(own.end, axes_)).whole();
             if (!at_crossing)
                 throw impossible(Misfit::off_lattice, one.side.half.edge().number());
             points.insert(*at_crossing);
@@ -357,7 +341,7 @@ struct InPlane {
 inline std::vector<Sheet> overlaid(const std::vector<Sheet> &held, const std::vector<Sheet> &added)
 {
     std::vector<InPlane> planes; // in the order in which they come among the added ones
-    std::map<Level, std::size_t> places;
+    std::map<Plane, std::size_t> places;
     for (const Sheet &sheet : added) {
         const std::size_t place = places.emplace(sheet.level(), places.size()).first->second;
         planes.resize(places.size());

@@ -46,7 +46,7 @@ inline Wide size_of(const std::vector<Sheet> &regions)
 {
     Wide size = 0;
     for (const Sheet &region : regions)
-        for (Wide part : area_of(region.cycles))
+        for (Wide part : area_of(region.sides))
             size += magnitude(part);
     return size;
 }
