@@ -105,20 +105,13 @@ inline bool are_parallel(const Vector &a, const Vector &b)
     return compare_products(a[1], b[2], a[2], b[1]) == 0 && compare_products(a[2], b[0], a[0], b[2]) == 0 &&
            compare_products(a[0], b[1], a[1], b[0]) == 0;
 }
+/// In how many parts whole points divide a vector: 0 where it has no length.
+constexpr Wide parts_of(const Vector &a) { return greatest_divisor(greatest_divisor(a[0], a[1]), a[2]); }
 /// The shortest whole vector in the direction of one.
 constexpr Vector reduced(const Vector &a)
 {
-    const Wide divisor = std::max(Wide{1}, greatest_divisor(greatest_divisor(a[0], a[1]), a[2]));
-    return {a[0] / divisor, a[1] / divisor, a[2] / divisor};
-}
-
-/// The point that lies so far along a way as a fraction says, where that is whole.
-inline std::optional<Vector> on_way(const Vector &start, const Vector &way, Wide numerator, Wide denominator)
-{
-    const Vector scaled = times(way, numerator);
-    if (std::any_of(scaled.begin(), scaled.end(), [&](Wide part) { return part % denominator != 0; }))
-        return std::nullopt;
-    return add(start, {scaled[0] / denominator, scaled[1] / denominator, scaled[2] / denominator});
+    const Wide parts = std::max(Wide{1}, parts_of(a));
+    return {a[0] / parts, a[1] / parts, a[2] / parts};
 }
 
 /// The plane of the points whose height is 0; above it heights are greater.

@@ -97,15 +97,15 @@ inline Vector steps_along(Face face, const Vector &across, std::int64_t length)
 
 // ---- faces
 
+inline Vector start_of(const Bench &bench, HalfEdge half) { return vector(bench.vertex(bench.start_of(half))); }
+inline Side side_at(const Bench &bench, HalfEdge half) { return {start_of(bench, half), start_of(bench, half.twin()), half}; }
+
 /// The sides of a loop; the vertex of a lone one, as a side of no length.
 inline Cycle cycle_at(const Bench &bench, Loop loop)
 {
-    Path path;
     if (const std::optional<Vertex> vertex = bench.lone_vertex(loop))
-        path.push_back(vector(bench.vertex(*vertex)));
-    for (HalfEdge half : bench.around(loop))
-        path.push_back(vector(bench.vertex(bench.start_of(half))));
-    return cycle_of(path);
+        return cycle_of({vector(bench.vertex(*vertex))});
+    return mapped(bench.half_edges(loop), [&](HalfEdge half) { return side_at(bench, half); });
 }
 /// Those of the loops of a face, the outer one first.
 inline std::vector<Cycle> cycles_at(const Bench &bench, Face face)

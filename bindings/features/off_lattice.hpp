@@ -11,8 +11,7 @@
 
 namespace gwb_session::cutting {
 
-using namespace exact;
-using machining::Path;
+using namespace machining;
 
 /// A fraction by its least terms, of which the second is above zero.
 struct Fraction {
@@ -104,23 +103,20 @@ private:
 /// The offset of a plane lies within this.
 constexpr Wide farthest_offset = 3 * Wide{farthest} * farthest;
 
-struct Ends {
-    Edge edge;
-    Vector start, end;
-
-    [[nodiscard]] Vector along() const { return subtract(end, start); }
-    /// In how many parts whole points divide it: 0 where it has no length.
-    [[nodiscard]] Wide parts() const { return greatest_divisor(greatest_divisor(along()[0], along()[1]), along()[2]); }
-    [[nodiscard]] bool is_cut(const Plane &plane) const { return sign(plane.height(start)) * sign(plane.height(end)) < 0; }
-    /// How far along it the plane meets it: 0 at its start, 1 at its end.
-    [[nodiscard]] Fraction met(const Plane &plane) const { return Fraction::of(plane.height(start), plane.height(start) - plane.height(end)); }
-    [[nodiscard]] EdgeCut cut(const Plane &plane) const
-    {
-        const Fraction way = met(plane);
-        const auto part = [&](std::size_t axis) { return Fraction::of(start[axis] * way.denominator + along()[axis] * way.numerator, way.denominator); };
-        return {edge, {part(0), part(1), part(2)}};
-    }
-};
+/// Whether a plane cuts a side between its ends.
+inline bool is_cut(const Side &side, const Plane &plane) { return sign(plane.height(side.start)) * sign(plane.height(side.end)) < 0; }
+/// How far along a side a plane meets it: 0 at its start, 1 at its end.
+inline Fraction met(const Side &side, const Plane &plane)
+{
+    return Fraction::of(plane.height(side.start), plane.height(side.start) - plane.height(side.end));
+}
+/// Where a plane meets it.
+inline EdgeCut cut_of(const Side &side, const Plane &plane)
+{
+    const ScaledPoint point = divided(side, plane.height(side.start), plane.height(side.end));
+    const auto part = [&](std::size_t axis) { return Fraction::of(point.at[axis], point.scale); };
+    return {side.half.edge(), {part(0), part(1), part(2)}};
+}
 
 /// The whole numbers remainder + k modulus, whose modulus is 1 or more.
 struct Congruence {
@@ -171,10 +167,10 @@ struct Span {
 };
 
 /// An edge that isn't level between its ends has whole points at every so many offsets; a level one is never cut.
-inline Span span_of(const Vector &normal, const Ends &ends)
+inline Span span_of(const Vector &normal, const Side &side)
 {
-    const Wide first = -dot(normal, ends.start), last = -dot(normal, ends.end);
-    const Wide step = first != last ? magnitude(last - first) / ends.parts() : 1;
+    const Wide first = -dot(normal, side.start), last = -dot(normal, side.end);
+    const Wide step = first != last ? magnitude(last - first) / parts_of(side.way()) : 1;
     return {std::min(first, last), std::max(first, last), {Congruence::rest(first, step), step}};
 }
 
@@ -216,28 +212,27 @@ inline std::optional<Wide> nearest_in(const Band &band, const Fraction &offset, 
 }
 
 /// How often a loop passes through a plane, given on which side each of its corners lies; none where it only touches it somewhere.
-inline std::optional<int> cut_places(const std::vector<int> &sides)
+inline std::optional<int> cut_places(const std::vector<int> &places)
 {
     int count = 0;
-    for (std::size_t at = 0; at < sides.size(); at++) {
-        const int before = sides[(at + sides.size() - 1) % sides.size()], side = sides[at], after = sides[(at + 1) % sides.size()];
-        if (side == 0 && before * after >= 0)
+    for (std::size_t at = 0; at < places.size(); at++) {
+        const int before = places[(at + places.size() - 1) % places.size()], place = places[at], after = places[(at + 1) % places.size()];
+        if (place == 0 && before * after >= 0)
             return std::nullopt;
-        count += side == 0 || side * after < 0;
+        count += place == 0 || place * after < 0;
     }
     return count;
 }
 
 /// Whether a face with these loops, the outer one first, lies on one side of a plane, or can be cut by it.
-inline bool is_drawn(const std::vector<Path> &loops, const Plane &plane)
+inline bool is_drawn(const std::vector<Cycle> &loops, const Plane &plane)
 {
-    const auto side = [&](const Vector &at) { return sign(plane.height(at)); };
-    const auto has = [&](int wanted) {
-        return any(loops, [&](const Path &loop) { return any(loop, [&](const Vector &at) { return side(at) == wanted; }); });
-    };
-    if (!has(-1) || !has(1))
+    const auto place = [&](const Side &side) { return sign(plane.height(side.start)); };
+    const std::vector<int> places = mapped(joined(loops), place);
+    const auto [least, greatest] = std::minmax_element(places.begin(), places.end());
+    if (*least >= 0 || *greatest <= 0)
         return true;
-    const auto counts = mapped(loops, [&](const Path &loop) { return cut_places(mapped(loop, side)); });
+    const auto counts = mapped(loops, [&](const Cycle &loop) { return cut_places(mapped(loop, place)); });
     if (counts[0] == 0 || any(counts, [](const auto &count) { return !count; }))
         return false;
     const auto sum = std::accumulate(counts.begin(), counts.end(), 0, [](int before, const auto &count) { return before + *count; });
@@ -272,25 +267,22 @@ public:
     {
         for (Face face : bench.faces(solid)) {
             go_on();
-            faces_.push_back(mapped(machining::cycles_at(bench, face), machining::points_of));
+            faces_.push_back(cycles_at(bench, face));
         }
-        for (Edge edge : machining::edges_of(bench, solid)) {
-            const EdgeRow row = bench.edge(edge);
-            edges_.push_back({edge, vector(bench.vertex(row.from)), vector(bench.vertex(row.to))});
-        }
-        const auto others = std::stable_partition(edges_.begin(), edges_.end(), [&](const Ends &ends) { return ends.is_cut(plane); });
+        for (Edge edge : edges_of(bench, solid))
+            edges_.push_back(side_at(bench, plus(edge)));
+        const auto others = std::stable_partition(edges_.begin(), edges_.end(), [&](const Side &side) { return is_cut(side, plane); });
         cuts_.assign(edges_.begin(), others);
     }
 
-    [[nodiscard]] const std::vector<Ends> &cuts() const { return cuts_; }
+    [[nodiscard]] const std::vector<Side> &cuts() const { return cuts_; }
     /// How far a coordinate of the solid lies out at most.
     [[nodiscard]] Wide reach() const
     {
         Wide reach = 0;
-        for (const std::vector<Path> &loops : faces_)
-            for (const Path &loop : loops)
-                for (const Vector &at : loop)
-                    reach = std::max(reach, longest(at));
+        for (const std::vector<Cycle> &loops : faces_)
+            for (const Side &side : joined(loops))
+                reach = std::max(reach, longest(side.start));
         return reach;
     }
 
@@ -298,9 +290,8 @@ public:
     [[nodiscard]] std::optional<gwb_near_plane> parallel() const
     {
         const Vector normal = reduced(plane_.across);
-        const std::size_t axis = widest(normal);
-        const Fraction offset = Fraction::of(plane_.offset * normal[axis], plane_.across[axis]);
-        const auto spans = mapped(edges_, [&](const Ends &ends) { return span_of(normal, ends); });
+        const Fraction offset = Fraction::of(plane_.offset, parts_of(plane_.across));
+        const auto spans = mapped(edges_, [&](const Side &side) { return span_of(normal, side); });
         std::optional<Wide> best;
         for (const Band &band : bands_of(spans, offset)) {
             go_on();
@@ -349,15 +340,15 @@ private:
     }
 
     /// Some of the cuts, that lie apart: each is the farthest from those before it.
-    [[nodiscard]] std::vector<Ends> spread() const
+    [[nodiscard]] std::vector<Side> spread() const
     {
         constexpr std::size_t most = 12;
-        const auto points = mapped(cuts_, [&](const Ends &ends) {
-            const auto point = ends.cut(plane_).point;
+        const auto points = mapped(cuts_, [&](const Side &side) {
+            const auto point = cut_of(side, plane_).point;
             return std::array{point[0].value(), point[1].value(), point[2].value()};
         });
         std::vector<double> gaps(cuts_.size(), std::numeric_limits<double>::infinity());
-        std::vector<Ends> found;
+        std::vector<Side> found;
         while (found.size() < std::min(most, cuts_.size())) {
             const auto farthest_one = static_cast<std::size_t>(std::max_element(gaps.begin(), gaps.end()) - gaps.begin());
             found.push_back(cuts_[farthest_one]);
@@ -371,23 +362,22 @@ private:
     }
 
     /// The whole points of an edge, its ends among them, next to where it is cut: two on either side.
-    [[nodiscard]] Path whole_points(const Ends &ends) const
+    [[nodiscard]] Path whole_points(const Side &side) const
     {
-        const Fraction way = ends.met(plane_);
-        const Wide parts = ends.parts(), last = parts * way.numerator / way.denominator;
-        const Vector step = reduced(ends.along());
+        const Fraction way = met(side, plane_);
+        const Wide parts = parts_of(side.way()), last = parts * way.numerator / way.denominator;
         Path points;
         for (Wide place = std::max(Wide{0}, last - 1); place <= std::min(parts, last + 2); place++)
-            points.push_back(add(ends.start, times(step, place)));
+            points.push_back(add(side.start, times(reduced(side.way()), place)));
         return points;
     }
 
     /// The planes through whole points of three cut edges that lie apart, each once, looking the way of the plane but not parallel to it.
     [[nodiscard]] std::vector<Plane> candidates() const
     {
-        const auto points = mapped(spread(), [&](const Ends &ends) { return whole_points(ends); });
+        const auto points = mapped(spread(), [&](const Side &side) { return whole_points(side); });
         std::vector<Plane> found;
-        std::set<std::pair<Vector, Wide>> seen;
+        std::set<Plane> seen;
         for (std::size_t i = 0; i < points.size(); i++)
             for (std::size_t j = i + 1; j < points.size(); j++)
                 for (std::size_t k = j + 1; k < points.size(); k++)
@@ -395,13 +385,12 @@ private:
         return found;
     }
 
-    void through_each(const Path &firsts, const Path &seconds, const Path &thirds, std::set<std::pair<Vector, Wide>> &seen,
-                      std::vector<Plane> &found) const
+    void through_each(const Path &firsts, const Path &seconds, const Path &thirds, std::set<Plane> &seen, std::vector<Plane> &found) const
     {
         for (const Vector &first : firsts)
             for (const Vector &second : seconds)
                 for (const Vector &third : thirds)
-                    if (const std::optional<Plane> plane = through(first, second, third); plane && seen.insert({plane->across, plane->offset}).second)
+                    if (const std::optional<Plane> plane = through(first, second, third); plane && seen.insert(*plane).second)
                         found.push_back(*plane);
     }
 
@@ -413,9 +402,7 @@ private:
         if (way == 0 || are_parallel(normal, plane_.across))
             return std::nullopt;
         normal = way > 0 ? normal : negative(normal);
-        const Wide offset = -dot(normal, first);
-        const Wide divisor = greatest_divisor(greatest_divisor(normal[0], normal[1]), greatest_divisor(normal[2], offset));
-        const Plane plane{{normal[0] / divisor, normal[1] / divisor, normal[2] / divisor}, offset / divisor};
+        const Plane plane = Plane::through(first, reduced(normal));
         return longest(plane.across) <= farthest && magnitude(plane.offset) <= farthest_offset ? std::optional(plane) : std::nullopt;
     }
 
@@ -423,9 +410,9 @@ private:
     [[nodiscard]] bool is_whole(const Plane &plane) const
     {
         bool is_above = false, is_below = false;
-        for (const Ends &ends : edges_) {
-            const Wide first = plane.height(ends.start), last = plane.height(ends.end);
-            if (sign(first) * sign(last) < 0 && !on_way(ends.start, ends.along(), first, first - last))
+        for (const Side &side : edges_) {
+            const Wide first = plane.height(side.start), last = plane.height(side.end);
+            if (sign(first) * sign(last) < 0 && !divided(side, first, last).whole())
                 return false;
             is_above = is_above || first > 0 || last > 0;
             is_below = is_below || first < 0 || last < 0;
@@ -437,19 +424,19 @@ private:
     [[nodiscard]] bool is_cuttable(const Plane &plane) const
     {
         go_on();
-        return all(faces_, [&](const std::vector<Path> &loops) { return is_drawn(loops, plane); });
+        return all(faces_, [&](const std::vector<Cycle> &loops) { return is_drawn(loops, plane); });
     }
 
     /// The square of how far the plane moves the cut along an edge at most; none where it is parallel to one.
     [[nodiscard]] std::optional<SquareMoved> square_moved(const Plane &plane) const
     {
         SquareMoved most(Fraction(), 0);
-        for (const Ends &ends : cuts_) {
-            if (plane.height(ends.start) == plane.height(ends.end))
+        for (const Side &side : cuts_) {
+            if (plane.height(side.start) == plane.height(side.end))
                 return std::nullopt;
-            const Fraction old = ends.met(plane_), now = ends.met(plane);
+            const Fraction old = met(side, plane_), now = met(side, plane);
             const Fraction way = Fraction::of(now.numerator * old.denominator - old.numerator * now.denominator, old.denominator * now.denominator);
-            if (const SquareMoved moved(way, dot(ends.along(), ends.along())); moved.compare(most) > 0)
+            if (const SquareMoved moved(way, dot(side.way(), side.way())); moved.compare(most) > 0)
                 most = moved;
         }
         return most;
@@ -462,8 +449,8 @@ private:
     }
 
     Plane plane_;
-    std::vector<std::vector<Path>> faces_; ///< their loops
-    std::vector<Ends> edges_, cuts_;
+    std::vector<std::vector<Cycle>> faces_; ///< their loops
+    std::vector<Side> edges_, cuts_;
 };
 
 /// The least number by which points must be multiplied to be whole: 0 where it passes 10^36.
@@ -483,14 +470,14 @@ inline Wide least_factor(const std::vector<EdgeCut> &cuts)
 
 inline OffLattice made(const Bench &bench, Solid solid, const gwb_cut_plane &row, std::size_t most)
 {
-    machining::require_solid(bench, solid);
+    require_solid(bench, solid);
     const Plane plane = Plane::of(row);
     const std::array<Wide, 4> parts = {row.a, row.b, row.c, row.d};
     for (std::uint32_t at = 0; at < 4; at++)
         if (magnitude(parts[at]) > (at < 3 ? Wide{farthest} : farthest_offset))
-            throw machining::refused(GWB_WHY_PLANE_RANGE, at + 1);
+            throw refused(GWB_WHY_PLANE_RANGE, at + 1);
     const NearPlanes near(bench, solid, plane);
-    OffLattice found{solid, row, mapped(near.cuts(), [&](const Ends &ends) { return ends.cut(plane); }), 1, true, {}};
+    OffLattice found{solid, row, mapped(near.cuts(), [&](const Side &side) { return cut_of(side, plane); }), 1, true, {}};
     const Wide factor = found.factor = least_factor(found.cuts);
     if (factor == 1)
         return found;

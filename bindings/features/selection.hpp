@@ -106,8 +106,7 @@ inline std::vector<Edge> edges(const Bench &bench, const gwb_edge_query &query)
     const std::set<Edge> all = candidates(bench, query);
     return filtered(std::vector<Edge>(all.begin(), all.end()), [&](Edge edge) {
         go_on();
-        const EdgeRow row = bench.edge(edge);
-        const Vector way = subtract(vector(bench.vertex(row.to)), vector(bench.vertex(row.from)));
+        const Vector way = side_at(bench, plus(edge)).way();
         if (query.along != nullptr && (is_zero(way) || !are_parallel(way, vector(*query.along))))
             return false;
         return query.length == nullptr || is_as_long(way, whole(*query.length, 1));

@@ -12,13 +12,6 @@ using Path = std::vector<Vector>;
 
 inline Failure impossible(Misfit why, std::uint32_t value) { return {Problem::impossible, static_cast<std::uint32_t>(why), value}; }
 inline Failure refused(gwb_why why, std::uint32_t value) { return {Problem::refused, static_cast<std::uint32_t>(why), value}; }
-/// What is whole at a face. Not possible where it isn't: OffLattice.
-inline Vector whole(Face face, const std::optional<Vector> &found)
-{
-    if (!found)
-        throw impossible(Misfit::off_lattice, face.number());
-    return *found;
-}
 /// The number of a place in a list, from 1 on.
 inline std::uint32_t place(std::size_t at) { return static_cast<std::uint32_t>(at) + 1; }
 
@@ -33,7 +26,19 @@ struct ScaledPoint {
     /// Between this one and another.
     [[nodiscard]] ScaledPoint between(const ScaledPoint &other) const { return {add(at, other.at), scale + other.scale}; }
     /// The point, where it is whole.
-    [[nodiscard]] std::optional<Vector> whole() const { return on_way({}, at, 1, scale); }
+    [[nodiscard]] std::optional<Vector> whole() const
+    {
+        if (any(at, [&](Wide part) { return part % scale != 0; }))
+            return std::nullopt;
+        return Vector{at[0] / scale, at[1] / scale, at[2] / scale};
+    }
+    /// The same of a point at a face. Not possible: OffLattice.
+    [[nodiscard]] Vector whole_at(Face face) const
+    {
+        if (const std::optional<Vector> found = whole())
+            return *found;
+        throw impossible(Misfit::off_lattice, face.number());
+    }
     /// Negative where it comes before another one, by x, then y, then z.
     [[nodiscard]] int compare(const ScaledPoint &other) const
     {
@@ -44,6 +49,12 @@ struct ScaledPoint {
     }
     friend bool operator<(const ScaledPoint &a, const ScaledPoint &b) { return a.compare(b) < 0; }
 };
+
+/// The point that lies so far along a way as a fraction says.
+constexpr ScaledPoint on_way(const Vector &start, const Vector &way, Wide numerator, Wide denominator)
+{
+    return {add(times(start, denominator), times(way, numerator)), denominator};
+}
 
 /// A directed side, with the region on its left: its ends, and the half-edge that it is, or is a part of, or none.
 struct Side {
@@ -92,8 +103,7 @@ inline Box box_of(const Side &side) { return Box::between(side.start, side.end);
 /// Where a side crosses a plane, or a line, that lies so far from its ends, on one side of it and on the other; where it starts, if it lies in it.
 inline ScaledPoint divided(const Side &side, Wide before, Wide after)
 {
-    const Wide scale = std::max(Wide{1}, magnitude(before - after));
-    return {add(times(side.start, scale), times(side.way(), magnitude(before))), scale};
+    return on_way(side.start, side.way(), magnitude(before), std::max(Wide{1}, magnitude(before - after)));
 }
 
 using Cycle = std::vector<Side>;

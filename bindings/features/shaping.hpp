@@ -107,7 +107,7 @@ inline Vector on_side(Face face, const Vector &corner, const Vector &end, const 
         return add(corner, step);
     if (square > rise)
         throw impossible(Misfit::outline_outside, face.number());
-    return whole(face, on_way(corner, side, square, rise));
+    return on_way(corner, side, square, rise).whole_at(face);
 }
 
 /// The point where the lines meet that lie so far from both sides of a corner as their steps.
@@ -116,17 +116,14 @@ inline Vector beside_both(Face face, const Vector &corner, const Vector &step, c
     const Wide square = dot(step, step), sum = square + dot(step, other);
     if (sum == 0)
         throw impossible(Misfit::outline_outside, face.number());
-    return whole(face, on_way(corner, add(step, other), square, sum));
+    return on_way(corner, add(step, other), square, sum).whole_at(face);
 }
-
-inline Vector start_of(const Bench &bench, HalfEdge half) { return vector(bench.vertex(bench.start_of(half))); }
 
 /// The way from a half-edge into its face, across it and so long.
 inline Vector inwards(const Bench &bench, HalfEdge half, std::int64_t length)
 {
     const Face face = bench.face_of(half);
-    const Vector side = subtract(start_of(bench, half.twin()), start_of(bench, half));
-    return steps_along(face, reduced(cross(plane_of(bench, face).across, side)), length);
+    return steps_along(face, reduced(cross(plane_of(bench, face).across, side_at(bench, half).way())), length);
 }
 
 /// The points where the line at a distance from a half-edge, in its face, meets the sides before and after it; of those that have such a line too
@@ -240,7 +237,7 @@ inline bool bends_outwards(const Bench &bench, HalfEdge half)
     if (are_parallel(across, beyond))
         throw impossible(Misfit::flat_edge, half.edge().number());
     // (what is across both normals runs along the edge, so one part of it tells which way)
-    const auto [first, second] = flat_axes(subtract(start_of(bench, half.twin()), start_of(bench, half)));
+    const auto [first, second] = flat_axes(side_at(bench, half).way());
     return compare_products(across[first], beyond[second], across[second], beyond[first]) > 0;
 }
 
