@@ -1477,26 +1477,9 @@ public:
         return Policy::template failed<void>("load", kind == GWB_REFUSED ? refused : failure(kind));
     }
 
-    /// What a call of gwb_features.h gives (gwb_features.hpp): `made` makes it of what was written, and takes no memory.
+    /// What a call of gwb_features.h gives (gwb_features.hpp): `made` makes it of what was written. Where that takes memory that is refused, what was made
+    /// is taken back.
     template <class Call, class Made> auto feature(const char *command, Call call, Made made) -> Returned<decltype(made())>
-    {
-        using Of = decltype(made());
-        if (state_ == nullptr)
-            return Policy::template failed<Of>(command, {Problem::closed});
-        gwb_refusal why{};
-        state_->begin_whole();
-        const gwb_kind kind = call(held(), &why);
-        if (kind != GWB_OK)
-            return Policy::template failed<Of>(command, feature_failure(kind, why));
-        state_->end_whole();
-        if constexpr (std::is_void_v<Of>)
-            return Returned<void>();
-        else
-            return made();
-    }
-
-    /// The same, where `made` takes memory: as steps that are taken back where it is refused.
-    template <class Call, class Made> auto listed_feature(const char *command, Call call, Made made) -> Returned<decltype(made())>
     {
         using Of = decltype(made());
         const Steps steps(held());
@@ -1507,10 +1490,15 @@ public:
         const gwb_kind kind = call(held(), &why);
         if (kind != GWB_OK)
             return Policy::template failed<Of>(command, feature_failure(kind, why));
-        Returned<Of> found = made();
-        steps.keep();
-        state_->end_whole();
-        return found;
+        const auto keep = [&] { steps.keep(), state_->end_whole(); };
+        if constexpr (std::is_void_v<Of>) {
+            keep();
+            return Returned<void>();
+        } else {
+            Returned<Of> found = made();
+            keep();
+            return found;
+        }
     }
 
     [[nodiscard]] Failure feature_failure(gwb_kind kind, const gwb_refusal &why) const

@@ -26,11 +26,19 @@ template <class Row, class Write> std::vector<Row> rows(Write write)
     return found;
 }
 
+/// The numbers of things, and things of their numbers.
+template <class Kind> std::vector<std::uint32_t> numbers(Items<Kind> things)
+{
+    std::vector<std::uint32_t> found(things.size());
+    std::transform(things.begin(), things.end(), found.begin(), [](Kind thing) { return thing.number(); });
+    return found;
+}
+template <class Kind> std::vector<Kind> things(const std::vector<std::uint32_t> &numbers) { return std::vector<Kind>(numbers.begin(), numbers.end()); }
+
 /// A list of what the last feature made: faces; numbers, each with another one.
 inline std::vector<Face> faces(const gwb *g, gwb_list which)
 {
-    const auto found = rows<std::uint32_t>([&](std::uint32_t *to, std::size_t room) { return gwb_made(g, which, to, room); });
-    return std::vector<Face>(found.begin(), found.end());
+    return things<Face>(rows<std::uint32_t>([&](std::uint32_t *to, std::size_t room) { return gwb_made(g, which, to, room); }));
 }
 inline std::vector<std::array<std::uint32_t, 2>> pairs(const gwb *g, gwb_list which)
 {
@@ -50,10 +58,12 @@ public:
     }
 
     /// The part that is of this one: none of another one.
-    [[nodiscard]] Face of(Face face) const { return find(face); }
-    [[nodiscard]] Loop of(Loop loop) const { return find(loop); }
-    [[nodiscard]] Edge of(Edge edge) const { return find(edge); }
-    [[nodiscard]] Vertex of(Vertex vertex) const { return find(vertex); }
+    template <gwb_entity Kind> [[nodiscard]] Id<Kind> of(Id<Kind> old) const
+    {
+        const auto &pairs = pairs_[Kind];
+        const auto found = std::lower_bound(pairs.begin(), pairs.end(), std::array<std::uint32_t, 2>{old.number(), 0});
+        return found != pairs.end() && (*found)[0] == old.number() ? Id<Kind>((*found)[1]) : Id<Kind>();
+    }
     /// The half-edge from the vertex of this one to that of its other end.
     [[nodiscard]] HalfEdge of(HalfEdge half_edge) const
     {
@@ -62,13 +72,6 @@ public:
     }
 
 protected:
-    template <class Kind> [[nodiscard]] Kind find(Kind old) const
-    {
-        const auto &pairs = pairs_[Kind::kind];
-        const auto found = std::lower_bound(pairs.begin(), pairs.end(), std::array<std::uint32_t, 2>{old.number(), 0});
-        return found != pairs.end() && (*found)[0] == old.number() ? Kind((*found)[1]) : Kind();
-    }
-
     std::vector<std::vector<std::array<std::uint32_t, 2>>> pairs_; ///< for each kind old numbers, rising, each with the new one
 };
 
@@ -84,7 +87,7 @@ public:
 class Renumbered : public Parts {
 public:
     using Parts::of, Parts::Parts;
-    [[nodiscard]] Solid of(Solid solid) const { return find(solid); }
+    [[nodiscard]] Solid of(Solid solid) const { return Parts::of(solid); }
     /// The same the other way, for what follows an undo: the new numbers rise as the old ones.
     [[nodiscard]] Renumbered back() const
     {
@@ -98,41 +101,10 @@ public:
 
 namespace features {
 
-/// Gives a call of gwb_features.h with these arguments. `make` makes what it gives of what was written, and takes no memory.
+/// Gives a call of gwb_features.h with these arguments. `make` makes what it gives of what was written.
 template <class Policy, class Call, class Make, class... All> auto give(Commands<Policy> &bench, const char *command, Make make, Call call, All... arguments)
 {
     return bench.feature(command, [&](gwb *g, gwb_refusal *why) { return call(g, arguments..., why); }, make);
-}
-/// The same, where `make` takes memory.
-template <class Policy, class Call, class Make, class... All>
-auto give_listed(Commands<Policy> &bench, const char *command, Make make, Call call, All... arguments)
-{
-    return bench.listed_feature(command, [&](gwb *g, gwb_refusal *why) { return call(g, arguments..., why); }, make);
-}
-
-/// Room for so many numbers that a feature writes, of which none needs memory once it was made.
-template <class Kind> class Room {
-public:
-    explicit Room(std::size_t count) : numbers_(count + 1), made_(count) {} // (so that it has an address)
-    [[nodiscard]] std::uint32_t *to() { return numbers_.data(); }
-    /// What was written.
-    [[nodiscard]] std::vector<Kind> take()
-    {
-        std::transform(numbers_.begin(), numbers_.end() - 1, made_.begin(), [](std::uint32_t number) { return Kind(number); });
-        return std::move(made_);
-    }
-
-private:
-    std::vector<std::uint32_t> numbers_;
-    std::vector<Kind> made_;
-};
-
-/// The numbers of things, and room for one more, so that they have an address.
-template <class Kind> std::vector<std::uint32_t> numbers(Items<Kind> things)
-{
-    std::vector<std::uint32_t> found(things.size() + 1);
-    std::transform(things.begin(), things.end(), found.begin(), [](Kind thing) { return thing.number(); });
-    return found;
 }
 
 /// The number of a new solid, where none is given for it.
@@ -143,8 +115,8 @@ template <class Policy, class Call, class... All>
 Answer<Policy, std::vector<Solid>> row(Commands<Policy> &bench, const char *command, Call call, Solid solid, std::uint32_t count, All... arguments)
 {
     constexpr std::uint32_t most_solids = 1'000'000; // more are refused before any is written
-    Room<Solid> made(count > 0 && count <= most_solids ? count - 1 : 0);
-    return give(bench, command, [&] { return made.take(); }, call, solid.number(), count, arguments..., made.to());
+    std::vector<std::uint32_t> made(count > 0 && count <= most_solids ? count - 1 : 0);
+    return give(bench, command, [&] { return things<Solid>(made); }, call, solid.number(), count, arguments..., made.data());
 }
 
 /// A pocket or a boss.
@@ -152,9 +124,9 @@ template <class Policy, class Call>
 Answer<Policy, Pocket> raise(Commands<Policy> &bench, const char *command, Call call, Face face, Items<Point> points, std::int64_t length)
 {
     gwb_outline_made made{};
-    Room<Face> sides(points.size());
-    return give(bench, command, [&] { return Pocket{Face(made.face), Loop(made.loop), sides.take()}; }, call, face.number(), points.data(),
-                points.size(), length, &made, sides.to());
+    std::vector<std::uint32_t> sides(points.size());
+    return give(bench, command, [&] { return Pocket{Face(made.face), Loop(made.loop), things<Face>(sides)}; }, call, face.number(), points.data(),
+                points.size(), length, &made, sides.data());
 }
 
 /// A notch, slot, groove or shoulder.
@@ -162,7 +134,7 @@ template <class Policy, class Call, class... All>
 Answer<Policy, Notch> notch(Commands<Policy> &bench, const char *command, Call call, Face face, All... arguments)
 {
     const auto made = [&] { return Notch{faces(bench.handle(), GWB_MADE_FLOOR), faces(bench.handle(), GWB_MADE_WALLS)}; };
-    return give_listed(bench, command, made, call, face.number(), arguments...);
+    return give(bench, command, made, call, face.number(), arguments...);
 }
 
 /// A split or a cut; where no number is given for the solid above, it takes the next one.
@@ -175,7 +147,7 @@ Answer<Policy, Split> split(Commands<Policy> &bench, const char *command, Call c
         parts.upper_caps = faces(bench.handle(), GWB_MADE_UPPER_CAPS);
         return parts;
     };
-    return give_listed(bench, command, made, call, solid.number(), &plane, upper.number());
+    return give(bench, command, made, call, solid.number(), &plane, upper.number());
 }
 
 } // namespace features
@@ -190,7 +162,7 @@ template <class Policy> Answer<Policy, void> kill_solid(Commands<Policy> &bench,
 template <class Policy> Answer<Policy, Copy> copy_solid(Commands<Policy> &bench, Solid solid, const Motion &motion = {})
 {
     std::uint32_t made = 0;
-    return features::give_listed(bench, "copy_solid", [&] { return Copy(bench.handle(), Solid(made)); }, gwb_copy_solid, solid.number(), &motion.row(),
+    return features::give(bench, "copy_solid", [&] { return Copy(bench.handle(), Solid(made)); }, gwb_copy_solid, solid.number(), &motion.row(),
                                  &made);
 }
 
@@ -224,7 +196,7 @@ template <class Policy> Answer<Policy, void> scale(Commands<Policy> &bench, std:
 /// All numbers become as low as they can be, in their order: where none is left for what comes. Notes follow by renumbered().
 template <class Policy> Answer<Policy, Renumbered> renumber(Commands<Policy> &bench)
 {
-    return features::give_listed(bench, "renumber", [&] { return Renumbered(bench.handle()); }, gwb_renumber);
+    return features::give(bench, "renumber", [&] { return Renumbered(bench.handle()); }, gwb_renumber);
 }
 
 /// The solids become the first, glued along the faces that match. NoCall where one stands twice, or there are none.
@@ -249,7 +221,7 @@ template <class Policy> Answer<Policy, Split> cut(Commands<Policy> &bench, Solid
 /// What lies above the plane goes: the faces that close what is left. Refused as cut.
 template <class Policy> Answer<Policy, std::vector<Face>> trim(Commands<Policy> &bench, Solid solid, const gwb_cut_plane &plane)
 {
-    return features::give_listed(bench, "trim", [&] { return features::faces(bench.handle(), GWB_MADE_LOWER_CAPS); }, gwb_trim, solid.number(), &plane);
+    return features::give(bench, "trim", [&] { return features::faces(bench.handle(), GWB_MADE_LOWER_CAPS); }, gwb_trim, solid.number(), &plane);
 }
 
 /// Faces that became one with others, or several, each with one that it went into.
@@ -266,16 +238,16 @@ template <class Policy> Answer<Policy, Merged> unite(Commands<Policy> &bench, It
             merged.emplace_back(face, into);
         return merged;
     };
-    return features::give_listed(bench, "union", made, gwb_union, numbers.data(), solids.size());
+    return features::give(bench, "union", made, gwb_union, numbers.data(), solids.size());
 }
 
 /// A new solid: the outline through the points, moved along the vector.
 template <class Policy> Answer<Policy, Profile> profile(Commands<Policy> &bench, Solid solid, Items<Point> points, Point along)
 {
     gwb_profile_made made{};
-    features::Room<Face> sides(points.size());
-    return features::give(bench, "profile", [&] { return Profile{solid, Face(made.far), Face(made.base), sides.take()}; }, gwb_profile,
-                          solid.number(), points.data(), points.size(), &along, &made, sides.to());
+    std::vector<std::uint32_t> sides(points.size());
+    return features::give(bench, "profile", [&] { return Profile{solid, Face(made.far), Face(made.base), features::things<Face>(sides)}; }, gwb_profile,
+                          solid.number(), points.data(), points.size(), &along, &made, sides.data());
 }
 template <class Policy> Answer<Policy, Profile> profile(Commands<Policy> &bench, Items<Point> points, Point along)
 {
@@ -302,10 +274,9 @@ Answer<Policy, Polyhedron> polyhedron(Commands<Policy> &bench, Items<Point> poin
 template <class Policy> Answer<Policy, Ring> ring(Commands<Policy> &bench, Face face, Items<Point> points)
 {
     gwb_outline_made made{};
-    features::Room<Edge> edges(points.size());
-    features::Room<Vertex> vertices(points.size());
-    return features::give(bench, "ring", [&] { return Ring{Face(made.face), Loop(made.loop), edges.take(), vertices.take()}; }, gwb_ring,
-                          face.number(), points.data(), points.size(), &made, edges.to(), vertices.to());
+    std::vector<std::uint32_t> edges(points.size()), vertices(points.size());
+    const auto drawn = [&] { return Ring{Face(made.face), Loop(made.loop), features::things<Edge>(edges), features::things<Vertex>(vertices)}; };
+    return features::give(bench, "ring", drawn, gwb_ring, face.number(), points.data(), points.size(), &made, edges.data(), vertices.data());
 }
 
 /// A pocket so deep behind the outline in the face.
@@ -324,10 +295,9 @@ template <class Policy> Answer<Policy, Pocket> boss(Commands<Policy> &bench, Fac
 template <class Policy> Answer<Policy, Hole> hole(Commands<Policy> &bench, Face face, Items<Point> points)
 {
     gwb_outline_made made{};
-    features::Room<Face> sides(points.size());
-    std::vector<Point> corners(points.begin(), points.end());
-    return features::give(bench, "hole", [&] { return Hole{Face(made.face), Loop(made.loop), sides.take(), std::move(corners)}; }, gwb_hole,
-                          face.number(), points.data(), points.size(), &made, sides.to());
+    std::vector<std::uint32_t> sides(points.size());
+    const auto bored = [&] { return Hole{Face(made.face), Loop(made.loop), features::things<Face>(sides), {points.begin(), points.end()}}; };
+    return features::give(bench, "hole", bored, gwb_hole, face.number(), points.data(), points.size(), &made, sides.data());
 }
 
 /// A hole with a polygon of so many sides around the center, on whole numbers nearest to the circle of the radius: through, where the depth is 0, or so deep.
@@ -336,13 +306,10 @@ Answer<Policy, Hole> drill(Commands<Policy> &bench, Face face, Point center, std
 {
     constexpr std::uint32_t most_sides = 1'000'000;
     gwb_outline_made made{};
-    std::vector<Point> points(sides <= most_sides ? sides + 1 : 1); // (so that it has an address)
-    features::Room<Face> walls(points.size() - 1);
-    const auto drilled = [&] {
-        points.pop_back();
-        return Hole{Face(made.face), Loop(made.loop), walls.take(), std::move(points)};
-    };
-    return features::give(bench, "drill", drilled, gwb_drill, face.number(), &center, radius, sides, depth, &made, walls.to(), points.data());
+    std::vector<Point> points(sides <= most_sides ? sides : 0); // more are refused before any is written
+    std::vector<std::uint32_t> walls(points.size());
+    const auto drilled = [&] { return Hole{Face(made.face), Loop(made.loop), features::things<Face>(walls), points}; };
+    return features::give(bench, "drill", drilled, gwb_drill, face.number(), &center, radius, sides, depth, &made, walls.data(), points.data());
 }
 
 /// A pocket whose outline may reach the edges of the face.
@@ -381,8 +348,9 @@ template <class Policy> Answer<Policy, Face> chamfer(Commands<Policy> &bench, Ed
 template <class Policy> Answer<Policy, std::vector<Face>> chamfer_edges(Commands<Policy> &bench, Items<Edge> edges, std::int64_t width)
 {
     const std::vector<std::uint32_t> numbers = features::numbers(edges);
-    features::Room<Face> slopes(edges.size());
-    return features::give(bench, "chamfer_edges", [&] { return slopes.take(); }, gwb_chamfer_edges, numbers.data(), edges.size(), width, slopes.to());
+    std::vector<std::uint32_t> slopes(edges.size());
+    const auto made = [&] { return features::things<Face>(slopes); };
+    return features::give(bench, "chamfer_edges", made, gwb_chamfer_edges, numbers.data(), edges.size(), width, slopes.data());
 }
 
 using CutPlane = gwb_cut_plane;
@@ -423,7 +391,7 @@ Answer<Policy, std::vector<Kind>> found(const Commands<Policy> &bench, const cha
     if (kind != GWB_OK)
         return Policy::template failed<std::vector<Kind>>(reader, bench.feature_failure(kind, why));
     numbers.resize(count);
-    return std::vector<Kind>(numbers.begin(), numbers.end());
+    return things<Kind>(numbers);
 }
 
 } // namespace features
