@@ -147,12 +147,8 @@ public:
     /// Takes in a ring of a face that is new, in the face's plane.
     void put(Face face, Loop loop, const Cycle &cycle)
     {
-        const Box box = box_of(cycle);
-        boxes_.put(box, loop.number());
+        boxes_.put(box_of(cycle), loop.number());
         loops_.insert_or_assign(loop, std::pair(face, cycle));
-        if (!around_)
-            around_ = box;
-        around_->take(box);
     }
 
     /// A face is gone, or lies elsewhere, and so do these loops.
@@ -175,16 +171,6 @@ public:
         return {planes_.at(face), mapped(loops, [&](Loop loop) { return cycle(loop); })};
     }
     [[nodiscard]] const Cycle &cycle(Loop loop) const { return loops_.at(loop).second; }
-
-    /// A box around the part of a ray that lies in the box around the solid.
-    [[nodiscard]] Box box_of_ray(const Vector &start, const Vector &way) const
-    {
-        Vector end = start;
-        for (std::size_t axis = 0; axis < 3; axis++)
-            if (way[axis] != 0)
-                end[axis] = (way[axis] > 0 ? around_->high : around_->low)[axis];
-        return Box::between(start, end);
-    }
 
     /// The loops that meet a box, by faces.
     [[nodiscard]] std::map<Face, std::vector<Loop>> near(const Box &box) const
@@ -211,7 +197,6 @@ private:
     std::unordered_map<Loop, std::pair<Face, Cycle>> loops_;
     std::map<Face, Plane> planes_;
     BoxIndex boxes_;
-    std::optional<Box> around_;
 };
 
 /// What is kept with a session: what is known of the solids of its model, and what the last feature made.
@@ -349,22 +334,20 @@ inline std::pair<Face, Vector> opposite(const Surface &surface, Face face, const
         throw impossible(Misfit::off_lattice, face.number());
     const Vector back = negative(across);
     Face nearest;
-    Wide height = 0, slope = 0; // how far it lies: the first divided by the second
-    for (const auto &[other, loops] : surface.near(surface.box_of_ray(start, back))) {
+    ScaledPoint way{{}, 0}; // to the nearest one
+    for (const auto &[other, loops] : surface.near(Box::between(start, add(start, times(back, 2 * farthest))))) {
         const Plane *plane = other != face ? surface.plane(other) : nullptr;
         if (plane == nullptr || surface.shape(other, loops).hit({start}, back) == Place::outside)
             continue;
-        const Wide own_height = magnitude(plane->height(start)), own_slope = magnitude(dot(plane->across, back));
-        if (nearest == Face() || compare_products(own_height, slope, height, own_slope) < 0)
-            std::tie(nearest, height, slope) = std::tuple(other, own_height, own_slope);
+        const ScaledPoint own = on_way({}, {1, 0, 0}, magnitude(plane->height(start)), magnitude(dot(plane->across, back)));
+        if (nearest == Face() || own < way)
+            std::tie(nearest, way) = std::tuple(other, own);
     }
     if (nearest == Face())
         throw impossible(Misfit::no_opposite, face.number());
     if (!are_parallel(surface.plane(nearest)->across, back))
         throw impossible(Misfit::not_parallel, nearest.number());
-    if (height % slope != 0)
-        throw impossible(Misfit::off_lattice, nearest.number());
-    return {nearest, times(back, height / slope)};
+    return {nearest, on_way({}, back, way.at[0], way.scale).whole_at(nearest)};
 }
 
 // ---- what is drawn and moved

@@ -74,43 +74,41 @@ inline std::vector<Face> faces(const Bench &bench, const gwb_face_query &query)
     return found;
 }
 
-/// The edges between two faces of a solid, or of any. Refused: NoFace.
-inline std::set<Edge> edges_between(const Bench &bench, Face one, Face other, Solid solid)
-{
-    const Solid first = solid_of(bench, one), second = solid_of(bench, other);
-    std::set<Edge> found;
-    if (solid == Solid() || (first == solid && second == solid))
-        for (const gwb_half_edge_row &row : bench.half_edge_rows(one))
-            if (bench.face_of(HalfEdge(row.half_edge).twin()) == other)
-                found.insert(HalfEdge(row.half_edge).edge());
-    return found;
-}
-
-/// The edges among which others are sought. Refused: NoFace, NoSolid.
-inline std::set<Edge> candidates(const Bench &bench, const gwb_edge_query &query)
+/// The half-edges of the edges among which others are sought. Refused: NoFace, NoSolid.
+inline std::vector<gwb_half_edge_row> candidates(const Bench &bench, const gwb_edge_query &query)
 {
     const Solid solid(query.solid);
     const bool are_between = query.between[0] != 0;
-    const std::set<Edge> between = are_between ? edges_between(bench, Face(query.between[0]), Face(query.between[1]), solid) : std::set<Edge>();
+    for (std::uint32_t face : query.between)
+        if (are_between)
+            (void)solid_of(bench, Face(face));
     if (solid != Solid())
         require_solid(bench, solid);
     if (are_between)
-        return between;
-    const auto all = bench.numbers<Edge>();
-    return solid != Solid() ? edges_of(bench, solid) : std::set<Edge>(all.begin(), all.end());
+        return bench.half_edge_rows(Face(query.between[0]));
+    return solid != Solid() ? bench.half_edge_rows(solid) : bench.half_edge_rows();
+}
+
+/// Whether an edge fits a query, by a half-edge of its first face.
+inline bool fits(const Bench &bench, HalfEdge half, const gwb_edge_query &query)
+{
+    const Vector way = side_at(bench, half).way();
+    return (query.between[0] == 0 || bench.face_of(half.twin()) == Face(query.between[1])) &&
+           (query.solid == 0 || solid_of(bench, bench.face_of(half)) == Solid(query.solid)) &&
+           (query.along == nullptr || (!is_zero(way) && are_parallel(way, vector(*query.along)))) &&
+           (query.length == nullptr || is_as_long(way, whole(*query.length, 1)));
 }
 
 /// The edges for which all holds that is asked, rising. Refused: NoFace, NoSolid.
 inline std::vector<Edge> edges(const Bench &bench, const gwb_edge_query &query)
 {
-    const std::set<Edge> all = candidates(bench, query);
-    return filtered(std::vector<Edge>(all.begin(), all.end()), [&](Edge edge) {
+    std::set<Edge> found;
+    for (const gwb_half_edge_row &row : candidates(bench, query)) {
         go_on();
-        const Vector way = side_at(bench, plus(edge)).way();
-        if (query.along != nullptr && (is_zero(way) || !are_parallel(way, vector(*query.along))))
-            return false;
-        return query.length == nullptr || is_as_long(way, whole(*query.length, 1));
-    });
+        if (fits(bench, HalfEdge(row.half_edge), query))
+            found.insert(HalfEdge(row.half_edge).edge());
+    }
+    return {found.begin(), found.end()};
 }
 
 } // namespace gwb_session::selection
