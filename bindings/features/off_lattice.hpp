@@ -122,9 +122,7 @@ inline EdgeCut cut_of(const Side &side, const Plane &plane)
 struct Congruence {
     Wide remainder = 0, modulus = 1;
 
-    friend bool operator<(const Congruence &a, const Congruence &b) { return std::tie(a.modulus, a.remainder) < std::tie(b.modulus, b.remainder); }
     [[nodiscard]] static Wide rest(Wide number, Wide modulus) { return (number % modulus + modulus) % modulus; }
-    [[nodiscard]] bool has(Wide number) const { return rest(number - remainder, modulus) == 0; }
     /// The greatest of the numbers that is at most the wanted one.
     [[nodiscard]] Wide at_most(Wide wanted) const { return wanted - rest(wanted - remainder, modulus); }
 
@@ -191,24 +189,21 @@ inline std::vector<Band> bands_of(const std::vector<Span> &spans, const Fraction
     return bands;
 }
 
-/// The whole offset of the band nearest a given one that all edges which are cut there ask for.
-inline std::optional<Wide> nearest_in(const Band &band, const Fraction &offset, const std::set<Congruence> &asked)
+/// The whole offsets beside a given one, below it and above, as near as the band allows, that all edges which are cut in the band may ask for.
+inline std::vector<Wide> asked_in(const Band &band, const Fraction &offset, const std::vector<Span> &spans)
 {
     constexpr Wide wide_enough = Wide{1} << 62; // so that a band has two such numbers at most
-    std::optional<Congruence> common = Congruence();
-    for (auto it = asked.begin(); it != asked.end() && common && common->modulus <= wide_enough; ++it)
-        common = common->and_also(*it);
-    if (!common)
-        return std::nullopt;
+    Congruence common;
+    for (const Span &span : spans)
+        if (span.crosses(band) && common.modulus <= wide_enough) {
+            const std::optional<Congruence> both = common.and_also(span.whole);
+            if (!both)
+                return {};
+            common = *both;
+        }
     const Wide whole = (offset.numerator - Congruence::rest(offset.numerator, offset.denominator)) / offset.denominator;
-    const Wide below = common->at_most(std::min(band.high, std::max(band.low - 1, whole)));
-    std::optional<Wide> found;
-    for (Wide beside : {below, below + common->modulus}) {
-        const bool is_asked = all(asked, [&](const Congruence &one) { return one.has(beside); });
-        if (band.low <= beside && beside <= band.high && is_asked && (!found || gap(beside, offset) < gap(*found, offset)))
-            found = beside;
-    }
-    return found;
+    const Wide below = common.at_most(std::min(band.high, std::max(band.low - 1, whole)));
+    return filtered(std::vector{below, below + common.modulus}, [&](Wide beside) { return band.low <= beside && beside <= band.high; });
 }
 
 /// How often a loop passes through a plane, given on which side each of its corners lies; none where it only touches it somewhere.
@@ -297,13 +292,9 @@ public:
             go_on();
             if (best && band.gap(offset) >= gap(*best, offset))
                 break;
-            std::set<Congruence> asked;
-            for (const Span &span : spans)
-                if (span.crosses(band))
-                    asked.insert(span.whole);
-            const std::optional<Wide> found = nearest_in(band, offset, asked);
-            if (found && (!best || gap(*found, offset) < gap(*best, offset)) && is_cuttable({normal, *found}))
-                best = found;
+            for (Wide beside : asked_in(band, offset, spans))
+                if ((!best || gap(beside, offset) < gap(*best, offset)) && is_whole({normal, beside}) && is_cuttable({normal, beside}))
+                    best = beside;
         }
         return best ? std::optional(near({normal, *best}, *square_moved({normal, *best}), true)) : std::nullopt;
     }
