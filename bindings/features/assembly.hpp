@@ -216,7 +216,8 @@ public:
         pair_whole();
         if (!pair_along_lines())
             return std::nullopt;
-        straighten();
+        for (Placed &placed : sides_)
+            placed.goes_on = divides(placed);
         Made made;
         made.model.solid = solid;
         name_vertices(made.model);
@@ -230,14 +231,27 @@ private:
     struct Placed {
         Side side;
         const Sheet *region; ///< none of the rest
-        Placed *after = nullptr, *before = nullptr, *mate = nullptr;
-        Placed *into = nullptr;       ///< of which it became part
-        std::vector<Side> parts = {}; ///< where it is longer than one side
+        Placed *after = nullptr, *mate = nullptr;
+        bool goes_on = false; ///< straight from the one before it, as one edge
         Vertex start = {};
         HalfEdge half = {};
 
-        [[nodiscard]] std::vector<Side> all_parts() const { return parts.empty() ? std::vector<Side>{side} : parts; }
         [[nodiscard]] bool runs_back(const Vector &way) const { return dot(way, side.way()) < 0; }
+        /// The sides from this one on that are one edge.
+        [[nodiscard]] std::vector<const Placed *> run() const
+        {
+            std::vector<const Placed *> found = {this};
+            while (found.back()->after->goes_on)
+                found.push_back(found.back()->after);
+            return found;
+        }
+        /// All of that edge, with the first old half-edge of its parts.
+        [[nodiscard]] Side whole() const
+        {
+            const auto parts = run();
+            const auto old = std::find_if(parts.begin(), parts.end(), [](const Placed *part) { return part->side.is_old(); });
+            return {side.start, parts.back()->side.end, old != parts.end() ? (*old)->side.half : HalfEdge()};
+        }
     };
     using Row = std::vector<Placed *>;
 
@@ -348,19 +362,6 @@ private:
     }
 
     /// A vertex that only divides an edge goes, unless it was there for no other reason before.
-    void straighten()
-    {
-        for (Placed &placed : sides_)
-            placed.after->before = &placed;
-        for (Placed &placed : sides_)
-            if (placed.into == nullptr && divides(placed)) {
-                Placed &onward = *placed.mate->after, &first = *placed.before, &other = *onward.before;
-                lengthen(first, placed);
-                lengthen(other, onward);
-                mate(&first, &other);
-            }
-    }
-
     [[nodiscard]] bool divides(const Placed &placed) const
     {
         const Placed &onward = *placed.mate->after;
@@ -370,22 +371,10 @@ private:
         return are_parallel(one, other) && dot(one, other) < 0;
     }
 
-    /// The second side becomes part of the first one.
-    static void lengthen(Placed &kept, Placed &gone)
-    {
-        if (kept.parts.empty())
-            kept.parts = {kept.side};
-        append(kept.parts, gone.all_parts());
-        kept.side = {kept.side.start, gone.side.end, kept.side.is_old() ? kept.side.half : gone.side.half};
-        kept.after = gone.after;
-        kept.after->before = &kept;
-        gone.into = &kept;
-    }
-
     void name_vertices(Model &made)
     {
         for (Placed &first : sides_)
-            if (first.into == nullptr && first.start == Vertex()) {
+            if (!first.goes_on && first.start == Vertex()) {
                 Row fan = {&first}; // the sides that leave the vertex
                 for (Placed *side = first.mate->after; side != &first; side = side->mate->after)
                     fan.push_back(side);
@@ -415,8 +404,8 @@ private:
     {
         for (bool is_whole : {true, false})
             for (Placed &placed : sides_)
-                if (placed.into == nullptr && placed.half == HalfEdge() && (!is_whole || held_.is_whole(placed.side)))
-                    name_edge(made, placed, *placed.mate);
+                if (!placed.goes_on && placed.half == HalfEdge() && (!is_whole || held_.is_whole(placed.whole())))
+                    name_edge(made, placed, *placed.run().back()->mate);
     }
 
     /// A new edge starts at the vertex of the lesser number.
@@ -434,8 +423,8 @@ private:
     /// The old half-edges that the edge of a side is made of, as it runs: those that it is all of first.
     [[nodiscard]] std::vector<HalfEdge> old_halves(const Placed &own, const Placed &mate) const
     {
-        std::vector<Side> parts = own.all_parts();
-        append(parts, mapped(mate.all_parts(), [](const Side &side) { return side.turned(); }));
+        std::vector<Side> parts = mapped(own.run(), [](const Placed *part) { return part->side; });
+        append(parts, mapped(mate.run(), [](const Placed *part) { return part->side.turned(); }));
         std::vector<HalfEdge> halves, others;
         for (const Side &side : parts)
             if (side.is_old())
@@ -445,23 +434,31 @@ private:
         return halves;
     }
 
+    /// The first sides of the edges of a loop, from the edge on that a side is part of.
+    static std::vector<const Placed *> edges_from(const Placed *start)
+    {
+        std::vector<const Placed *> found;
+        for (const Placed *at = start->after;; at = at->after) {
+            if (!at->goes_on)
+                found.push_back(at);
+            if (at == start)
+                break;
+        }
+        std::rotate(found.begin(), found.end() - 1, found.end());
+        return found;
+    }
+
     void name_face(Made &made, const Sheet &region, const Row &starts)
     {
         std::vector<Loop> row;
         for (const Placed *start : starts) {
-            while (start->into != nullptr) // it may have gone into the one before it
-                start = start->into;
+            const std::vector<const Placed *> edges = edges_from(start);
             std::vector<Loop> wanted;
-            std::vector<HalfEdge> halves;
-            const Placed *at = start;
-            do {
-                if (at->side.is_old())
-                    wanted.push_back(held_.loop_of.at(at->side.half));
-                halves.push_back(at->half);
-                at = at->after;
-            } while (at != start);
+            for (const Placed *edge : edges)
+                if (const Side whole = edge->whole(); whole.is_old())
+                    wanted.push_back(held_.loop_of.at(whole.half));
             row.push_back(names_.loops.one(wanted));
-            made.model.loops[row.back()] = from_least(halves);
+            made.model.loops[row.back()] = from_least(mapped(edges, [](const Placed *edge) { return edge->half; }));
         }
         std::sort(row.begin() + 1, row.end());
         made.of_regions.push_back(names_.faces.one(region.owners));
