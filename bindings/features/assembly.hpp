@@ -287,7 +287,7 @@ private:
             if (placed.mate == nullptr) {
                 if (placed.region == nullptr) // the rest's are whole, and so are their mates
                     return false;
-                const Vector along = reduced(placed.side.way()), way = std::max(along, negative(along));
+                const Vector way = line_of(placed.side.way());
                 lines[{way, cross(placed.side.start, way)}].push_back(&placed);
             }
         return all(lines, [&](const auto &line) { return pair_on_line(line.first.first, line.second); });
@@ -367,8 +367,7 @@ private:
         const Placed &onward = *placed.mate->after;
         if (&onward == &placed || onward.mate->after != &placed || held_.is_fixed(placed.side.start))
             return false;
-        const Vector one = placed.side.way(), other = onward.side.way();
-        return are_parallel(one, other) && dot(one, other) < 0;
+        return reduced(placed.side.way()) == negative(reduced(onward.side.way()));
     }
 
     void name_vertices(Model &made)

@@ -99,12 +99,6 @@ constexpr Vector cross(const Vector &a, const Vector &b)
 constexpr bool is_zero(const Vector &a) { return a[0] == 0 && a[1] == 0 && a[2] == 0; }
 constexpr Wide longest(const Vector &a) { return std::max({magnitude(a[0]), magnitude(a[1]), magnitude(a[2])}); }
 constexpr bool is_in_range(const Vector &a) { return longest(a) <= farthest; }
-/// Whether two vectors lie on one line, however long they are.
-inline bool are_parallel(const Vector &a, const Vector &b)
-{
-    return compare_products(a[1], b[2], a[2], b[1]) == 0 && compare_products(a[2], b[0], a[0], b[2]) == 0 &&
-           compare_products(a[0], b[1], a[1], b[0]) == 0;
-}
 /// In how many parts whole points divide a vector: 0 where it has no length.
 constexpr Wide parts_of(const Vector &a) { return greatest_divisor(greatest_divisor(a[0], a[1]), a[2]); }
 /// The shortest whole vector in the direction of one.
@@ -113,6 +107,9 @@ constexpr Vector reduced(const Vector &a)
     const Wide parts = std::max(Wide{1}, parts_of(a));
     return {a[0] / parts, a[1] / parts, a[2] / parts};
 }
+/// The same, or the other way, whichever is the greater one: one for all vectors along a line.
+inline Vector line_of(const Vector &a) { return std::max(reduced(a), negative(reduced(a))); }
+inline bool are_parallel(const Vector &a, const Vector &b) { return line_of(a) == line_of(b); }
 
 /// The plane of the points whose height is 0; above it heights are greater.
 struct Plane {
@@ -133,26 +130,15 @@ struct Plane {
     friend bool operator<(const Plane &a, const Plane &b) { return std::tie(a.across, a.offset) < std::tie(b.across, b.offset); }
 };
 
-/// Points, so much further on.
-inline std::vector<Vector> moved(std::vector<Vector> points, const Vector &way)
-{
-    for (Vector &at : points)
-        at = add(at, way);
-    return points;
-}
-
 /// The axis along which a vector is longest.
-constexpr std::size_t widest(const Vector &a)
+inline std::size_t widest(const Vector &a)
 {
-    std::size_t found = 0;
-    for (std::size_t axis = 1; axis < 3; axis++)
-        if (magnitude(a[axis]) > magnitude(a[found]))
-            found = axis;
-    return found;
+    const auto found = std::max_element(a.begin(), a.end(), [](Wide one, Wide other) { return magnitude(one) < magnitude(other); });
+    return static_cast<std::size_t>(found - a.begin());
 }
 
 /// The axes in which a plane with this normal is seen from its front, undistorted enough to be exact.
-constexpr Axes flat_axes(const Vector &normal)
+inline Axes flat_axes(const Vector &normal)
 {
     const std::size_t away = widest(normal), first = (away + 1) % 3, second = (away + 2) % 3;
     return normal[away] > 0 ? Axes{first, second} : Axes{second, first};
@@ -197,34 +183,44 @@ template <class Item> Box box_of(const std::vector<Item> &items)
 /// Numbers by boxes. Each lies in a grid whose cells are longer than its box, by a power of two, in the cell of the box's lowest corner.
 class BoxIndex {
 public:
-    void put(const Box &box, std::size_t number) { entries(box).push_back({box, number}); }
+    void put(const Box &box, std::size_t number) { entries(box).emplace_back(box, number); }
 
     /// A number that was put with this box goes.
     void take_away(const Box &box, std::size_t number)
     {
-        auto &held = entries(box);
-        held.erase(std::find_if(held.begin(), held.end(), [&](const Entry &entry) { return entry.number == number; }));
+        Entries &held = entries(box);
+        held.erase(std::find_if(held.begin(), held.end(), [&](const auto &entry) { return entry.second == number; }));
     }
 
-    /// The numbers of the boxes that meet one, rising.
+    /// The numbers of the boxes that meet one, rising. Looked at are the cells beside it; all cells where that are fewer.
     [[nodiscard]] std::vector<std::size_t> meeting(const Box &box) const
     {
         std::vector<std::size_t> found;
-        for (const auto &[size, grid] : grids_)
-            look(grid, subtract(cell(box.low, size), {1, 1, 1}), cell(box.high, size), box, found);
+        const auto take = [&](Grid::const_iterator at, Grid::const_iterator end) {
+            for (; at != end; ++at)
+                for (const auto &[other, number] : at->second)
+                    if (other.meets(box))
+                        found.push_back(number);
+        };
+        for (const auto &[size, grid] : grids_) {
+            const Vector first = subtract(cell(box.low, size), {1, 1, 1}), last = cell(box.high, size);
+            if ((last[0] - first[0] + 1) * (last[1] - first[1] + 1) > static_cast<Wide>(grid.size()))
+                take(grid.begin(), grid.end());
+            else
+                for (Wide x = first[0]; x <= last[0]; x++)
+                    for (Wide y = first[1]; y <= last[1]; y++)
+                        take(grid.lower_bound({x, y, first[2]}), grid.upper_bound({x, y, last[2]}));
+        }
         std::sort(found.begin(), found.end());
         return found;
     }
 
 private:
-    struct Entry {
-        Box box;
-        std::size_t number;
-    };
-    using Grid = std::map<Vector, std::vector<Entry>>;
+    using Entries = std::vector<std::pair<Box, std::size_t>>;
+    using Grid = std::map<Vector, Entries>;
 
     /// Those of the cell in which a box lies.
-    std::vector<Entry> &entries(const Box &box)
+    Entries &entries(const Box &box)
     {
         int size = 0;
         while (longest(subtract(box.high, box.low)) >> size != 0)
@@ -233,24 +229,6 @@ private:
     }
 
     static Vector cell(const Vector &at, int size) { return {at[0] >> size, at[1] >> size, at[2] >> size}; }
-
-    /// Looks at the cells from one to another; at all of them where that are fewer.
-    static void look(const Grid &grid, const Vector &first, const Vector &last, const Box &box, std::vector<std::size_t> &found)
-    {
-        if ((last[0] - first[0] + 1) * (last[1] - first[1] + 1) > static_cast<Wide>(grid.size()))
-            return take(grid.begin(), grid.end(), box, found);
-        for (Wide x = first[0]; x <= last[0]; x++)
-            for (Wide y = first[1]; y <= last[1]; y++)
-                take(grid.lower_bound({x, y, first[2]}), grid.upper_bound({x, y, last[2]}), box, found);
-    }
-
-    static void take(Grid::const_iterator at, Grid::const_iterator end, const Box &box, std::vector<std::size_t> &found)
-    {
-        for (; at != end; ++at)
-            for (const Entry &entry : at->second)
-                if (entry.box.meets(box))
-                    found.push_back(entry.number);
-    }
 
     std::map<int, Grid> grids_;
 };

@@ -108,6 +108,11 @@ inline ScaledPoint divided(const Side &side, Wide before, Wide after)
 
 using Cycle = std::vector<Side>;
 
+/// Points, so much further on.
+inline Path moved(const Path &path, const Vector &way)
+{
+    return mapped(path, [&](const Vector &at) { return add(at, way); });
+}
 /// The cycle through points, and the points that a cycle goes through.
 inline Cycle cycle_of(const Path &path)
 {
