@@ -88,11 +88,10 @@ template <class Kind> std::map<Kind, Kind> ranked(const Bench &bench)
 
 // ---- models
 
-/// A solid as a model. Refused as kvfs, where there is none.
-inline Model read(Bench &bench, Solid solid)
+/// A solid as a model. Refused: NoSolid.
+inline Model read(const Bench &bench, Solid solid)
 {
-    if (bench.faces(solid).empty())
-        bench.kvfs(solid);
+    require_solid(bench, solid);
     return Model::whole(bench, solid);
 }
 

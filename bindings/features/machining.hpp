@@ -254,15 +254,6 @@ inline Solid solid_of(const Bench &bench, Face face)
     return row->solid;
 }
 
-/// The edges of a solid, rising.
-inline std::set<Edge> edges_of(const Bench &bench, Solid solid)
-{
-    std::set<Edge> found;
-    for (const gwb_half_edge_row &row : bench.half_edge_rows(solid))
-        found.insert(HalfEdge(row.half_edge).edge());
-    return found;
-}
-
 /// The plane of a face. Refused: NoFace, NotFlat.
 inline Plane plane_of(const Bench &bench, Face face)
 {

@@ -4,7 +4,7 @@
 /// It takes time by the edges of the solid for each of some 14,000 planes at most, of which nearly all are given up at their first edge.
 #ifndef GWB_FEATURES_OFF_LATTICE_HPP
 #define GWB_FEATURES_OFF_LATTICE_HPP
-#include "machining.hpp"
+#include "selection.hpp"
 #include <cmath>
 #include <limits>
 #include <numeric>
@@ -264,8 +264,7 @@ public:
             go_on();
             faces_.push_back(cycles_at(bench, face));
         }
-        for (Edge edge : edges_of(bench, solid))
-            edges_.push_back(side_at(bench, plus(edge)));
+        edges_ = mapped(selection::edges(bench, {solid.number(), {}, nullptr, nullptr}), [&](Edge edge) { return side_at(bench, plus(edge)); });
         const auto others = std::stable_partition(edges_.begin(), edges_.end(), [&](const Side &side) { return is_cut(side, plane); });
         cuts_.assign(edges_.begin(), others);
     }

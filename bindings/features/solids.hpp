@@ -105,11 +105,11 @@ public:
 
     void take(Solid solid)
     {
-        const std::vector<gwb_half_edge_row> rows = bench_.half_edge_rows(solid);
+        const auto rows = filtered(bench_.half_edge_rows(solid), [](const gwb_half_edge_row &row) { return !HalfEdge(row.half_edge).is_second(); });
         for (Face face : bench_.faces(solid))
             for (Loop ring : bench_.rings(face))
                 ring_out(ring);
-        edges_out(faces_out(rows));
+        edges_out(mapped(rows, [](const gwb_half_edge_row &row) { return HalfEdge(row.half_edge).edge(); }));
         const auto faces = bench_.faces(solid); // of one vertex each
         for (Face face : faces)
             if (const Face first = *faces.begin(); face != first)
@@ -128,26 +128,15 @@ private:
         bench_.mfkrh(ring, spare_faces_.take());
     }
 
-    /// Edges between two faces go, and one of the faces with each: those that are left.
-    std::vector<Edge> faces_out(const std::vector<gwb_half_edge_row> &rows)
-    {
-        std::vector<Edge> left;
-        for (const gwb_half_edge_row &row : rows) {
-            const HalfEdge half(row.half_edge);
-            if (half.is_second())
-                continue;
-            go_on();
-            if (is_between_faces(half.edge()))
-                bench_.kef(half);
-            else
-                left.push_back(half.edge());
-        }
-        return left;
-    }
-
-    /// The others go: those with a leaf at one end, and then those that open handles, with what has a leaf after each.
+    /// Edges between two faces go, and one of the faces with each; then those with a leaf at one end, and then those that open handles, with what has
+    /// a leaf after each.
     void edges_out(const std::vector<Edge> &edges)
     {
+        for (Edge edge : edges) {
+            go_on();
+            if (is_between_faces(edge))
+                bench_.kef(plus(edge));
+        }
         for (Edge edge : edges)
             for (HalfEdge half : {plus(edge), minus(edge)})
                 twig_out(half);
