@@ -135,23 +135,7 @@ inline Split split(Bench &bench, Solid solid, const Plane &plane, Solid above)
     return made;
 }
 
-/// Cuts a solid by split. What lies above may not be wanted.
-inline Split cut_at_once(Bench &bench, Solid solid, const Plane &plane, const Path &corners, Solid above, bool is_wanted)
-{
-    const Model before = corners.empty() ? Model() : Model::whole(bench, solid);
-    Split caps = split(bench, solid, plane, above);
-    if (!corners.empty()) {
-        const Model lower = Model::whole(bench, solid), upper = is_wanted ? Model::whole(bench, above) : Model();
-        require_apart(before, corners, {&lower, &upper});
-    }
-    if (!is_wanted) {
-        caps.upper_caps.clear();
-        take_away(bench, above);
-    }
-    return caps;
-}
-
-/// Cuts a solid face by face, alike.
+/// Cuts a solid face by face. What lies above may not be wanted.
 inline Split cut_by_faces(Bench &bench, Solid solid, const Plane &plane, const Path &corners, Solid above, bool is_wanted)
 {
     const Held held(bench, Model::whole(bench, solid));
@@ -177,13 +161,21 @@ inline Split cut_by_faces(Bench &bench, Solid solid, const Plane &plane, const P
 inline Split cut(Bench &bench, Solid solid, const Plane &plane, Solid above, bool is_wanted)
 {
     const Path corners = corners_in(bench, solid, plane);
-    try {
-        return cut_at_once(bench, solid, plane, corners, above, is_wanted);
-    } catch (const Failure &failure) {
-        if (!is_coped_with(failure))
-            throw;
+    const Model before = corners.empty() ? Model() : Model::whole(bench, solid);
+    Result<Split> caps = tried([&] { return split(bench, solid, plane, above); });
+    if (!caps && !is_coped_with(caps.error()))
+        throw caps.error();
+    if (!caps)
+        return cut_by_faces(bench, solid, plane, corners, above, is_wanted);
+    if (!corners.empty()) {
+        const Model lower = Model::whole(bench, solid), upper = is_wanted ? Model::whole(bench, above) : Model();
+        require_apart(before, corners, {&lower, &upper});
     }
-    return cut_by_faces(bench, solid, plane, corners, above, is_wanted);
+    if (!is_wanted) {
+        caps->upper_caps.clear();
+        take_away(bench, above);
+    }
+    return *caps;
 }
 
 } // namespace gwb_session::cuts
