@@ -13,20 +13,12 @@ namespace gwb_session::changing {
 using namespace sheets;
 
 /// An Euler operator, with all its numbers.
-struct Operator {
-    std::function<void(Bench &)> give;
-    std::optional<std::pair<Loop, Face>> moved = {}; ///< a ring that goes to another face, and that face
-
-    static Operator ring_in(Loop ring, Face face)
-    {
-        return {[=](Bench &bench) { bench.ring_in(ring, face); }, std::pair(ring, face)};
-    }
-};
+using Operator = std::function<void(Bench &)>;
 
 /// The call of a workbench with these arguments.
 template <class... Taken, class... Given> Operator operator_of(void (Bench::*call)(Taken...), Given... arguments)
 {
-    return {[=](Bench &bench) { (bench.*call)(arguments...); }};
+    return [=](Bench &bench) { (bench.*call)(arguments...); };
 }
 
 /// Thrown where the faces that differ aren't of the kind.

@@ -22,7 +22,7 @@ struct Part {
 inline Part part_near(const Bench &bench, const Surface &surface, Solid solid, const Box &box, bool all_rings)
 {
     Part found{{solid, {}, {}, {}, {}, {}}, {}};
-    for (const auto &row : surface.near(box)) {
+    for (const auto &row : surface.near(bench, box)) {
         const Face face = row.first;
         const std::vector<Loop> &near = row.second;
         const Loop outer = bench.face(face).outer_loop;
@@ -145,7 +145,7 @@ inline std::optional<std::vector<Operator>> moves(const Bench &bench, const Surf
         if (around == became.end())
             return std::nullopt;
         if (around->first != face)
-            found.push_back(Operator::ring_in(ring, around->first));
+            found.push_back(changing::operator_of(&Bench::ring_in, ring, around->first));
     }
     return found;
 }
@@ -169,22 +169,19 @@ inline std::optional<std::vector<Operator>> operators_for(const Bench &bench, co
 }
 
 /// Takes in that a part became another one.
-inline void follow(Surface &surface, const Model &part, const Model &made, const std::vector<Operator> &operators)
+inline void follow(Surface &surface, const Model &part, const Model &made)
 {
     for (const auto &[face, loops] : part.faces)
         surface.forget(face, loops);
     for (const auto &[face, loops] : made.faces)
         surface.put(face, loops, made.cycles(face));
-    for (const Operator &made_by : operators)
-        if (made_by.moved)
-            surface.move(made_by.moved->first, made_by.moved->second);
 }
 
 inline void give(Bench &bench, const std::vector<Operator> &operators)
 {
-    for (const Operator &one : operators) {
+    for (const Operator &give_one : operators) {
         go_on();
-        one.give(bench);
+        give_one(bench);
     }
 }
 
@@ -209,7 +206,7 @@ Combined make_near(Bench &bench, Solid solid, const std::vector<Sheet> &added, c
             return found;
         }
         give(bench, *operators);
-        known.follow(bench, solid, [&](Surface &of) { follow(of, part.model, found.made.model, *operators); });
+        known.follow(bench, solid, [&](Surface &of) { follow(of, part.model, found.made.model); });
         return found;
     }
 }

@@ -130,9 +130,7 @@ inline Split split(Bench &bench, Solid solid, const Plane &plane, Solid above)
     const Face before = bench.greatest<Face>();
     const gwb_cut_plane row = plane.row();
     bench.split(solid, row.a, row.b, row.c, row.d, above);
-    Split made{above, faces_in(bench, solid, before, plane), {}};
-    made.upper_caps = faces_in(bench, above, before, plane);
-    return made;
+    return Split{above, faces_in(bench, solid, before, plane), faces_in(bench, above, before, plane)};
 }
 
 /// Cuts a solid face by face. What lies above may not be wanted.
@@ -152,9 +150,7 @@ inline Split cut_by_faces(Bench &bench, Solid solid, const Plane &plane, const P
         make_anew(bench, lower.made.model);
     if (is_wanted)
         bench.load(upper.made.model.listing());
-    Split made{above, lower.marked(0, SIZE_MAX), {}};
-    made.upper_caps = upper.marked(0, SIZE_MAX);
-    return made;
+    return Split{above, lower.marked(0, SIZE_MAX), upper.marked(0, SIZE_MAX)};
 }
 
 /// What lies above a plane becomes another solid, or goes where it isn't wanted.

@@ -139,16 +139,16 @@ public:
     void put(Face face, const std::vector<Loop> &loops, const std::vector<Cycle> &cycles)
     {
         for (std::size_t at = 0; at < loops.size(); at++)
-            put(face, loops[at], cycles[at]);
+            put(loops[at], cycles[at]);
         if (const std::optional<Plane> plane = flat_plane(joined(cycles)))
             planes_.emplace(face, *plane);
     }
 
     /// Takes in a ring of a face that is new, in the face's plane.
-    void put(Face face, Loop loop, const Cycle &cycle)
+    void put(Loop loop, const Cycle &cycle)
     {
         boxes_.put(box_of(cycle), loop.number());
-        loops_.insert_or_assign(loop, std::pair(face, cycle));
+        loops_.insert_or_assign(loop, cycle);
     }
 
     /// A face is gone, or lies elsewhere, and so do these loops.
@@ -160,8 +160,6 @@ public:
             loops_.erase(loop);
         }
     }
-    /// A ring is one of another face.
-    void move(Loop ring, Face face) { loops_.at(ring).first = face; }
 
     /// The plane of a face, where that is plain and flat.
     [[nodiscard]] const Plane *plane(Face face) const { return look_up(planes_, face); }
@@ -170,31 +168,31 @@ public:
     {
         return {planes_.at(face), mapped(loops, [&](Loop loop) { return cycle(loop); })};
     }
-    [[nodiscard]] const Cycle &cycle(Loop loop) const { return loops_.at(loop).second; }
+    [[nodiscard]] const Cycle &cycle(Loop loop) const { return loops_.at(loop); }
 
     /// The loops that meet a box, by faces.
-    [[nodiscard]] std::map<Face, std::vector<Loop>> near(const Box &box) const
+    [[nodiscard]] std::map<Face, std::vector<Loop>> near(const Bench &bench, const Box &box) const
     {
         std::map<Face, std::vector<Loop>> found;
         for (std::size_t number : boxes_.meeting(box)) {
             const Loop loop(static_cast<std::uint32_t>(number));
-            found[loops_.at(loop).first].push_back(loop);
+            found[bench.face_of(loop)].push_back(loop);
         }
         return found;
     }
 
     /// The points of an outline strictly inside a plain flat face, turned so that they run as a ring does; the first stays the first.
-    [[nodiscard]] Path ring_path(Face face, const Path &path) const
+    [[nodiscard]] Path ring_path(const Bench &bench, Face face, const Path &path) const
     {
         const Plane &plane = planes_.at(face);
         require_in(plane, path);
         const Vector across = simple_normal(path);
-        shape(face, near(box_of(path))[face]).require_inside(face, path);
+        shape(face, near(bench, box_of(path))[face]).require_inside(face, path);
         return dot(across, plane.across) < 0 ? path : turned(path);
     }
 
 private:
-    std::unordered_map<Loop, std::pair<Face, Cycle>> loops_;
+    std::unordered_map<Loop, Cycle> loops_;
     std::map<Face, Plane> planes_;
     BoxIndex boxes_;
 };
@@ -306,7 +304,7 @@ private:
 };
 
 /// Refuses a feature that would meet or touch the solid elsewhere than in the face, or in the other one where it ends there.
-inline void require_room(const Surface &surface, const Prism &prism, Face face, Face other = Face())
+inline void require_room(const Bench &bench, const Surface &surface, const Prism &prism, Face face, Face other = Face())
 {
     const auto is_met = [&](const auto &beside) {
         const auto &[of, loops] = beside;
@@ -314,19 +312,19 @@ inline void require_room(const Surface &surface, const Prism &prism, Face face, 
         return any(loops, [&](Loop loop) { return any(surface.cycle(loop), meets); }) ||
                (of != face && of != other && surface.plane(of) != nullptr && prism.meets_face(surface.shape(of, loops)));
     };
-    if (any(surface.near(prism.box()), is_met))
+    if (any(surface.near(bench, prism.box()), is_met))
         throw impossible(Misfit::meets, face.number());
 }
 
 /// The face that a ray from a point of a face goes out through, which is parallel, and the way to it.
-inline std::pair<Face, Vector> opposite(const Surface &surface, Face face, const Vector &across, const Vector &start)
+inline std::pair<Face, Vector> opposite(const Bench &bench, const Surface &surface, Face face, const Vector &across, const Vector &start)
 {
     if (longest(across) > 2 * farthest)
         throw impossible(Misfit::off_lattice, face.number());
     const Vector back = negative(across);
     Face nearest;
     ScaledPoint way{{}, 0}; // to the nearest one
-    for (const auto &[other, loops] : surface.near(Box::between(start, add(start, times(back, 2 * farthest))))) {
+    for (const auto &[other, loops] : surface.near(bench, Box::between(start, add(start, times(back, 2 * farthest))))) {
         const Plane *plane = other != face ? surface.plane(other) : nullptr;
         if (plane == nullptr || surface.shape(other, loops).hit({start}, back) == Place::outside)
             continue;
@@ -406,7 +404,7 @@ struct Drawing {
 
     Drawing(const Bench &bench, Face face, Items<Point> points)
         : solid(solid_of(bench, face)), across(plane_of(bench, face).across), known(Surroundings::of(bench)), given(path_of(points)),
-          path(known.surface(bench, solid).ring_path(face, given))
+          path(known.surface(bench, solid).ring_path(bench, face, given))
     {
     }
     [[nodiscard]] bool is_turned() const { return path != given; }
@@ -417,7 +415,7 @@ inline Ring make_ring(Bench &bench, Face face, Items<Point> points)
     const Drawing drawn(bench, face, points);
     Ring made = draw(bench, face, drawn.path);
     drawn.known.follow(bench, drawn.solid, [&](Surface &surface) {
-        surface.put(face, made.loop, cycle_of(drawn.path));
+        surface.put(made.loop, cycle_of(drawn.path));
         surface.put(bench, made.face);
     });
     if (drawn.is_turned()) {
@@ -433,19 +431,19 @@ inline Pocket move_outline(Bench &bench, Face face, const Drawing &drawn, const 
     const Path far = moved(drawn.path, way);
     const Surface &surface = drawn.known.surface(bench, drawn.solid);
     if (other != Face())
-        (void)surface.ring_path(other, far);
-    require_room(surface, Prism(drawn.across, drawn.path, far, other != Face()), face, other);
+        (void)surface.ring_path(bench, other, far);
+    require_room(bench, surface, Prism(drawn.across, drawn.path, far, other != Face()), face, other);
     const Ring ring = draw(bench, face, drawn.path);
     const std::vector<Face> sides = sides_of_sweep(bench, ring.face, way, ring.edges, false);
     const Loop far_ring = bench.face(ring.face).outer_loop;
     if (other != Face())
         bench.kfmrh(other, ring.face);
     drawn.known.follow(bench, drawn.solid, [&](Surface &of) {
-        of.put(face, ring.loop, cycle_of(drawn.path));
+        of.put(ring.loop, cycle_of(drawn.path));
         for (Face side : sides)
             of.put(bench, side);
         if (other != Face())
-            of.put(other, far_ring, cycle_of(far));
+            of.put(far_ring, cycle_of(far));
         else
             of.put(bench, ring.face);
     });
@@ -470,7 +468,7 @@ inline Pocket make_boss(Bench &bench, Face face, Items<Point> points, std::int64
 inline Pocket make_hole(Bench &bench, Face face, Items<Point> points)
 {
     const Drawing drawn(bench, face, points);
-    const auto [end, way] = opposite(drawn.known.surface(bench, drawn.solid), face, drawn.across, drawn.path[0]);
+    const auto [end, way] = opposite(bench, drawn.known.surface(bench, drawn.solid), face, drawn.across, drawn.path[0]);
     return move_outline(bench, face, drawn, way, end);
 }
 

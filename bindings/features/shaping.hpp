@@ -291,9 +291,8 @@ inline Combined change(Bench &bench, Face face, const Tool &tool, bool is_cut)
 inline Notch cut_out(Bench &bench, Face face, const Tool &tool)
 {
     const Combined made = change(bench, face, tool, true);
-    Notch notch{made.marked(tool.lids.size(), tool.floors.size()), {}};
-    notch.walls = made.marked(tool.lids.size() + tool.floors.size(), tool.walls.size());
-    return notch;
+    const std::size_t floors = tool.lids.size(), walls = floors + tool.floors.size();
+    return Notch{made.marked(floors, tool.floors.size()), made.marked(walls, tool.walls.size())};
 }
 
 /// A feature in a face by a tool that is made of the face's plane, points and sizes.

@@ -142,11 +142,7 @@ template <class Policy, class Call>
 Answer<Policy, Split> split(Commands<Policy> &bench, const char *command, Call call, Solid solid, const gwb_cut_plane &plane, std::optional<Solid> above)
 {
     const Solid upper = above ? *above : next_solid(bench);
-    const auto made = [&] {
-        Split parts{upper, faces(bench.handle(), GWB_MADE_LOWER_CAPS), {}};
-        parts.upper_caps = faces(bench.handle(), GWB_MADE_UPPER_CAPS);
-        return parts;
-    };
+    const auto made = [&] { return Split{upper, faces(bench.handle(), GWB_MADE_LOWER_CAPS), faces(bench.handle(), GWB_MADE_UPPER_CAPS)}; };
     return give(bench, command, made, call, solid.number(), &plane, upper.number());
 }
 
