@@ -21,13 +21,7 @@ struct Model {
     /// The cycles of a face, the outline first.
     [[nodiscard]] std::vector<Cycle> cycles(Face face) const
     {
-        std::vector<Cycle> found;
-        for (Loop loop : faces.at(face)) {
-            Cycle &cycle = found.emplace_back();
-            for (HalfEdge half : loops.at(loop))
-                cycle.push_back({at(half), at(half.twin()), half});
-        }
-        return found;
+        return mapped(faces.at(face), [&](Loop loop) { return mapped(loops.at(loop), [&](HalfEdge half) { return side(half); }); });
     }
     [[nodiscard]] Vertex start(HalfEdge half) const
     {
@@ -35,6 +29,7 @@ struct Model {
         return half.is_second() ? ends.second : ends.first;
     }
     [[nodiscard]] const Vector &at(HalfEdge half) const { return vertices.at(start(half)); }
+    [[nodiscard]] Side side(HalfEdge half) const { return {at(half), at(half.twin()), half}; }
 
     /// Takes in a loop of a workbench.
     void read(const Bench &bench, Face face, Loop loop)
@@ -128,64 +123,62 @@ inline void make_anew(Bench &bench, const Model &model)
 /// Faces of a solid, what of them was there by places, and the rest of the solid as a region that lies at their open edges.
 class Held {
 public:
-    Held(const Bench &bench, Model parts) : model(std::move(parts))
+    Held(const Bench &bench, Model parts) : model(std::move(parts)), bench_(bench)
     {
-        for (const auto &[loop, halves] : model.loops)
-            for (HalfEdge half : halves)
-                loop_of.emplace(half, loop);
-        put_rest(bench);
-        for (const auto &[vertex, at] : model.vertices) {
+        for (const auto &[vertex, at] : model.vertices)
             vertices_at.emplace(at, vertex);
-            if (is_fixed(bench, vertex))
-                fixed_.insert(at);
-        }
+        put_rest();
     }
 
+    /// The loop of a half-edge: none where that is one of the rest.
+    [[nodiscard]] Loop loop_of(HalfEdge half) const
+    {
+        const Loop loop = bench_.loop_of(half);
+        return model.loops.count(loop) != 0 ? loop : Loop();
+    }
     /// Whether the side is all of a half-edge.
     [[nodiscard]] bool is_whole(const Side &side) const
     {
         return side.is_old() && model.at(side.half) == side.start && model.at(side.half.twin()) == side.end;
     }
     /// Whether a vertex at the point stays: it has two edges, so that somebody wanted it there, or one that is of the rest alone.
-    [[nodiscard]] bool is_fixed(const Vector &point) const { return fixed_.count(point) != 0; }
+    [[nodiscard]] bool is_fixed(const Vector &point) const
+    {
+        const auto [first, last] = vertices_at.equal_range(point);
+        return std::any_of(first, last, [&](const auto &row) {
+            const auto halves = bench_.around(row.second);
+            return any(halves, [&](HalfEdge half) { return !is_held(half) && !is_held(half.twin()); }) || std::distance(halves.begin(), halves.end()) == 2;
+        });
+    }
 
     Model model;
-    std::unordered_map<HalfEdge, Loop> loop_of; ///< none of a half-edge of the rest
-    std::vector<Cycle> rest;                    ///< the half-edges of the rest at the open edges, in cycles
+    std::vector<Cycle> rest; ///< the half-edges of the rest at the open edges, in cycles
     std::multimap<Vector, Vertex> vertices_at;
 
 private:
-    [[nodiscard]] bool is_held(HalfEdge half) const { return loop_of.count(half) != 0; }
+    [[nodiscard]] bool is_held(HalfEdge half) const { return loop_of(half) != Loop(); }
 
     /// Each half-edge of the rest leads to the next one round the vertex at its end, where edges of the rest alone are missing.
-    void put_rest(const Bench &bench)
+    void put_rest()
     {
         std::set<HalfEdge> left;
-        for (const auto &[half, loop] : loop_of)
-            if (!is_held(half.twin()))
-                left.insert(half.twin());
+        for (const auto &[loop, halves] : model.loops)
+            for (HalfEdge half : halves)
+                if (!is_held(half.twin()))
+                    left.insert(half.twin());
         while (!left.empty()) {
             Cycle &cycle = rest.emplace_back();
             for (HalfEdge half = *left.begin(); left.erase(half) != 0;) {
                 go_on();
-                cycle.push_back({model.at(half), model.at(half.twin()), half});
-                half = bench.next(half);
+                cycle.push_back(model.side(half));
+                half = bench_.next(half);
                 while (!is_held(half.twin()))
-                    half = bench.next(half.twin());
+                    half = bench_.next(half.twin());
             }
         }
-        for (const Cycle &cycle : rest)
-            for (const Side &side : cycle)
-                loop_of.emplace(side.half, Loop());
     }
 
-    [[nodiscard]] bool is_fixed(const Bench &bench, Vertex vertex) const
-    {
-        const auto halves = bench.around(vertex);
-        return any(halves, [&](HalfEdge half) { return !is_held(half) && !is_held(half.twin()); }) || std::distance(halves.begin(), halves.end()) == 2;
-    }
-
-    std::set<Vector> fixed_;
+    const Bench &bench_;
 };
 
 // ---- a closed surface of regions
@@ -455,7 +448,7 @@ private:
             std::vector<Loop> wanted;
             for (const Placed *edge : edges)
                 if (const Side whole = edge->whole(); whole.is_old())
-                    wanted.push_back(held_.loop_of.at(whole.half));
+                    wanted.push_back(held_.loop_of(whole.half));
             row.push_back(names_.loops.one(wanted));
             made.model.loops[row.back()] = from_least(mapped(edges, [](const Placed *edge) { return edge->half; }));
         }
