@@ -62,8 +62,8 @@ public:
             go_on();
             compare_with_vertices(face);
             compare_with_edges(face);
+            compare_with_faces(face);
         }
-        compare_faces();
     }
 
     std::set<Finding> found;
@@ -121,7 +121,7 @@ private:
                 if (edge < other)
                     compare_edges(edge, row.side, other, edges_.rows.at(other).side);
             for (std::size_t vertex : vertices_.boxes.meeting(box_of(row.side)))
-                if (lies_between(row.side, vertices_.rows.at(vertex).side.start))
+                if (row.side.passes(vertices_.rows.at(vertex).side.start))
                     found.insert({Kind::vertex_on_edge, vertex, edge});
         }
     }
@@ -134,11 +134,6 @@ private:
             return;
         if (first.crosses(second, flat_axes(across)))
             found.insert({Kind::edges_cross, one, other});
-    }
-    static bool lies_between(const Side &side, const Vector &at)
-    {
-        const Vector along = side.way(), way = subtract(at, side.start);
-        return is_zero(cross(along, way)) && 0 < dot(along, way) && dot(along, way) < dot(along, along);
     }
 
     void compare_with_vertices(const Sheet &face)
@@ -163,22 +158,19 @@ private:
         }
     }
 
-    /// Faces of one plane where one has a point within the other; edges that cross or run along faces are found by then.
-    void compare_faces()
+    /// Faces of one plane of which one has a point within the other; edges that cross or run along faces are found besides.
+    void compare_with_faces(const Sheet &one)
     {
-        for (const Sheet &one : faces_) {
-            go_on();
-            const std::vector<std::size_t> beside = filtered(boxes_.meeting(one.box), [&](std::size_t at) {
-                const Sheet &other = faces_[at];
-                return other.owners != one.owners && are_parallel(one.plane.across, other.plane.across) && one.height({other.sides[0].start}) == 0;
-            });
-            const std::optional<ScaledPoint> inner = beside.empty() ? std::nullopt : one.inner_point();
-            for (std::size_t at : beside)
-                if (inner && faces_[at].locate(*inner) == Place::inside) {
-                    const auto [first, second] = std::minmax(one.owners[0], faces_[at].owners[0]);
-                    found.insert({Kind::faces_overlap, first.number(), second.number()});
-                }
-        }
+        const std::vector<std::size_t> beside = filtered(boxes_.meeting(one.box), [&](std::size_t at) {
+            const Sheet &other = faces_[at];
+            return other.owners != one.owners && are_parallel(one.plane.across, other.plane.across) && one.height({other.sides[0].start}) == 0;
+        });
+        const std::optional<ScaledPoint> inner = beside.empty() ? std::nullopt : one.inner_point();
+        for (std::size_t at : beside)
+            if (inner && faces_[at].locate(*inner) == Place::inside) {
+                const auto [first, second] = std::minmax(one.owners[0], faces_[at].owners[0]);
+                found.insert({Kind::faces_overlap, first.number(), second.number()});
+            }
     }
 
     const Model &model_;

@@ -18,16 +18,12 @@ inline bool is_motion(const gwb_motion &motion)
     });
 }
 
-/// Where a motion takes a point that lies so many times as far out.
-inline Vector image(const Vector &at, const Motion &motion, Wide factor)
+/// Where a motion takes a point.
+inline Vector image(const Vector &at, const Motion &motion)
 {
     const auto &[axes, by] = motion.row();
-    Vector found = vector(by);
-    for (std::size_t place = 0; place < 3; place++) {
-        const std::int32_t axis = axes[place];
-        found[place] += factor * (axis < 0 ? -at[static_cast<std::size_t>(-axis - 1)] : at[static_cast<std::size_t>(axis - 1)]);
-    }
-    return found;
+    const auto part = [&](std::int32_t axis) { return axis < 0 ? -at[static_cast<std::size_t>(-axis - 1)] : at[static_cast<std::size_t>(axis - 1)]; };
+    return add({part(axes[0]), part(axes[1]), part(axes[2])}, vector(by));
 }
 
 /// A motion by a vector. One that is out of range stays so.
@@ -41,50 +37,37 @@ inline Motion moving(Vector by)
 
 // ---- numbers
 
-/// The numbers that parts get, by those that they have.
-struct Numbering {
-    std::map<Face, Face> faces;
-    std::map<Loop, Loop> loops;
-    std::map<Edge, Edge> edges;
-    std::map<Vertex, Vertex> vertices;
+/// The numbers that parts of each kind get, by those that they have.
+class Numbering {
+public:
+    template <gwb_entity Kind> [[nodiscard]] Id<Kind> of(Id<Kind> old) const { return Id<Kind>(made_[Kind].at(old.number())); }
+    [[nodiscard]] HalfEdge of(HalfEdge half) const { return half.is_second() ? minus(of(half.edge())) : plus(of(half.edge())); }
 
-    [[nodiscard]] HalfEdge of(HalfEdge half) const
+    /// Free numbers for the parts of a kind, asked for as the old ones rise.
+    template <class Kind, class Row> void take(const std::map<Kind, Row> &parts, FreeNumbers<Kind> &free)
     {
-        const Edge edge = edges.at(half.edge());
-        return half.is_second() ? minus(edge) : plus(edge);
+        for (const auto &[old, row] : parts)
+            made_[Kind::kind].emplace_hint(made_[Kind::kind].end(), old.number(), free.take().number());
+    }
+    /// All numbers in use as low as they can be, in their order.
+    void rank(const Bench &bench)
+    {
+        for (std::uint32_t kind = GWB_SOLID; kind < made_.size(); kind++)
+            for (std::uint32_t old = 0, made = 1; gwb_number_after(bench.handle(), kind, old, &old) == GWB_FOUND; made++)
+                made_[kind].emplace_hint(made_[kind].end(), old, made);
     }
     /// Writes down which numbers became which.
     void tell(Lists &lists) const
     {
-        tell(faces, lists[GWB_MADE_FACES]);
-        tell(loops, lists[GWB_MADE_LOOPS]);
-        tell(edges, lists[GWB_MADE_EDGES]);
-        tell(vertices, lists[GWB_MADE_VERTICES]);
+        constexpr std::array list_of = {GWB_MADE_SOLIDS, GWB_MADE_FACES, GWB_MADE_LOOPS, GWB_MADE_EDGES, GWB_MADE_VERTICES};
+        for (std::size_t kind = GWB_SOLID; kind < made_.size(); kind++)
+            for (auto [old, made] : made_[kind])
+                lists[list_of[kind]].insert(lists[list_of[kind]].end(), {old, made});
     }
-    template <class Kind> static void tell(const std::map<Kind, Kind> &numbers, std::vector<std::uint32_t> &list)
-    {
-        for (auto [old, made] : numbers)
-            list.insert(list.end(), {old.number(), made.number()});
-    }
+
+private:
+    std::array<std::map<std::uint32_t, std::uint32_t>, GWB_VERTEX + 1> made_;
 };
-
-/// Free numbers for the parts of a kind, asked for as the old ones rise, by those.
-template <class Kind, class Row> std::map<Kind, Kind> taken(const std::map<Kind, Row> &parts, FreeNumbers<Kind> &free)
-{
-    std::map<Kind, Kind> numbers;
-    for (const auto &[old, row] : parts)
-        numbers.emplace_hint(numbers.end(), old, free.take());
-    return numbers;
-}
-
-/// All numbers in use of a kind as low as they can be, in their order, by what they are.
-template <class Kind> std::map<Kind, Kind> ranked(const Bench &bench)
-{
-    std::map<Kind, Kind> ranks;
-    for (Kind old : bench.numbers<Kind>())
-        ranks.emplace_hint(ranks.end(), old, Kind(static_cast<std::uint32_t>(ranks.size() + 1)));
-    return ranks;
-}
 
 // ---- models
 
@@ -100,7 +83,7 @@ inline Model read(const Bench &bench, Solid solid)
 inline Model moved(Model model, const Motion &motion, Wide factor = 1)
 {
     for (auto &[vertex, at] : model.vertices)
-        if (at = image(at, motion, factor); !is_in_range(at))
+        if (at = image(times(at, factor), motion); !is_in_range(at))
             throw refused(GWB_WHY_POINT_RANGE, vertex.number());
     if (!motion.is_mirror())
         return model;
@@ -117,18 +100,18 @@ inline Model numbered(const Model &model, const Numbering &numbers, Solid solid)
     Model made{solid, {}, {}, {}, {}, {}};
     const auto put = [](auto &all, auto number, auto row) { all.emplace_hint(all.end(), number, std::move(row)); }; // (they rise, but in gaps)
     for (const auto &[face, loops] : model.faces) {
-        std::vector<Loop> row = mapped(loops, [&](Loop loop) { return numbers.loops.at(loop); });
+        std::vector<Loop> row = mapped(loops, [&](Loop loop) { return numbers.of(loop); });
         std::sort(row.begin() + 1, row.end());
-        put(made.faces, numbers.faces.at(face), std::move(row));
+        put(made.faces, numbers.of(face), std::move(row));
     }
     for (const auto &[loop, halves] : model.loops)
-        put(made.loops, numbers.loops.at(loop), from_least(mapped(halves, [&](HalfEdge half) { return numbers.of(half); })));
+        put(made.loops, numbers.of(loop), from_least(mapped(halves, [&](HalfEdge half) { return numbers.of(half); })));
     for (const auto &[loop, vertex] : model.lone)
-        put(made.lone, numbers.loops.at(loop), numbers.vertices.at(vertex));
+        put(made.lone, numbers.of(loop), numbers.of(vertex));
     for (const auto &[edge, ends] : model.edges)
-        put(made.edges, numbers.edges.at(edge), std::pair(numbers.vertices.at(ends.first), numbers.vertices.at(ends.second)));
+        put(made.edges, numbers.of(edge), std::pair(numbers.of(ends.first), numbers.of(ends.second)));
     for (const auto &[vertex, at] : model.vertices)
-        put(made.vertices, numbers.vertices.at(vertex), at);
+        put(made.vertices, numbers.of(vertex), at);
     return made;
 }
 
@@ -137,8 +120,9 @@ inline Solid make(Bench &bench, const Model &model, Lists &lists)
 {
     AllNames names(bench);
     const Solid solid = names.solids.take();
-    const Numbering numbers{taken(model.faces, names.faces), taken(model.loops, names.loops), taken(model.edges, names.edges),
-                            taken(model.vertices, names.vertices)};
+    Numbering numbers;
+    numbers.take(model.faces, names.faces), numbers.take(model.loops, names.loops);
+    numbers.take(model.edges, names.edges), numbers.take(model.vertices, names.vertices);
     names.require_enough();
     const Result<void> made = bench.attempt().load(numbered(model, numbers, solid).listing());
     if (made.error().is(GWB_WHY_NUMBER_RANGE)) { // what comes on the way and goes again has none
@@ -196,14 +180,13 @@ inline void scale_all(Bench &bench, std::int64_t factor)
 inline void renumber(Bench &bench, Lists &lists)
 {
     const std::vector<Model> models = all_read(bench);
-    const std::map<Solid, Solid> solids = ranked<Solid>(bench);
-    const Numbering numbers{ranked<Face>(bench), ranked<Loop>(bench), ranked<Edge>(bench), ranked<Vertex>(bench)};
-    Numbering::tell(solids, lists[GWB_MADE_SOLIDS]);
+    Numbering numbers;
+    numbers.rank(bench);
     numbers.tell(lists);
     for (const Model &model : models)
         take_away(bench, model.solid);
     for (const Model &model : models)
-        bench.load(numbered(model, numbers, solids.at(model.solid)).listing());
+        bench.load(numbered(model, numbers, numbers.of(model.solid)).listing());
 }
 
 } // namespace gwb_session::copies

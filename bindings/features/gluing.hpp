@@ -32,7 +32,7 @@ inline std::vector<Match> matches(const Bench &bench, Items<Solid> solids)
             go_on();
             if (!bench.rings(face).empty())
                 continue;
-            const Path path = from_least(points_of(machining::cycles_at(bench, face)[0]));
+            const Path path = from_least(mapped(machining::cycles_at(bench, face)[0], [](const machining::Side &side) { return side.start; }));
             for (const Side &side : seen[from_least(machining::backwards(path))])
                 if (side.solid != solid)
                     found.push_back({side, {solid, face}});

@@ -28,25 +28,21 @@ inline Path path_of(Items<Point> points)
     return path;
 }
 
-/// Whether two sides of an outline meet otherwise than neighbours do, at their common end.
-inline bool clash(const Side &side, const Side &other, bool are_neighbours, Axes axes)
-{
-    if (!are_neighbours)
-        return side.meets(other, axes);
-    const bool is_after = side.end == other.start;
-    return other.holds({is_after ? side.start : side.end}, axes) || side.holds({is_after ? other.end : other.start}, axes);
-}
-
-/// Refuses an outline that crosses or touches itself.
+/// Refuses an outline that crosses or touches itself: two sides meet otherwise than neighbours do, at their common end.
 inline void require_simple(const Cycle &sides, Axes axes)
 {
+    const auto clash = [&](const Side &side, const Side &other) {
+        if (side.end == other.start)
+            return other.holds({side.start}, axes) || side.holds({other.end}, axes);
+        if (other.end == side.start)
+            return other.holds({side.end}, axes) || side.holds({other.start}, axes);
+        return side.meets(other, axes);
+    };
     for (std::size_t at = 0; at < sides.size(); at++) {
         go_on();
-        for (std::size_t beyond = at + 1; beyond < sides.size(); beyond++) {
-            const bool are_neighbours = beyond - at == 1 || beyond - at == sides.size() - 1;
-            if (box_of(sides[at]).meets(box_of(sides[beyond])) && clash(sides[at], sides[beyond], are_neighbours, axes))
+        for (std::size_t beyond = at + 1; beyond < sides.size(); beyond++)
+            if (box_of(sides[at]).meets(box_of(sides[beyond])) && clash(sides[at], sides[beyond]))
                 throw impossible(Misfit::outline_crossed, place(at));
-        }
     }
 }
 

@@ -64,6 +64,8 @@ struct Side {
     [[nodiscard]] bool is_old() const { return half != HalfEdge(); }
     [[nodiscard]] Vector way() const { return subtract(end, start); }
     [[nodiscard]] Side turned() const { return {end, start, is_old() ? half.twin() : half}; }
+    /// Whether a point lies on it between its ends.
+    [[nodiscard]] bool passes(const Vector &at) const { return at != start && reduced(subtract(at, start)) == reduced(subtract(end, at)); }
     friend bool operator<(const Side &a, const Side &b) { return std::tie(a.start, a.end, a.half) < std::tie(b.start, b.end, b.half); }
     friend bool operator==(const Side &a, const Side &b) { return a.start == b.start && a.end == b.end && a.half == b.half; }
 
@@ -113,7 +115,7 @@ inline Path moved(const Path &path, const Vector &way)
 {
     return mapped(path, [&](const Vector &at) { return add(at, way); });
 }
-/// The cycle through points, and the points that a cycle goes through.
+/// The cycle through points.
 inline Cycle cycle_of(const Path &path)
 {
     Cycle cycle;
@@ -122,7 +124,6 @@ inline Cycle cycle_of(const Path &path)
         cycle.push_back({path[at], path[(at + 1) % path.size()]});
     return cycle;
 }
-inline Path points_of(const Cycle &cycle) { return mapped(cycle, [](const Side &side) { return side.start; }); }
 
 /// The sides of all of some cycles.
 inline std::vector<Side> joined(const std::vector<Cycle> &cycles)
