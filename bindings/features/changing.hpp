@@ -76,18 +76,13 @@ struct Pair {
     /// The half-edges that the outer loops of a face have in both.
     [[nodiscard]] std::set<HalfEdge> same_outline(Face face) const
     {
-        const std::set<HalfEdge> before = outline(old, face), after = outline(made, face);
-        std::set<HalfEdge> found;
-        std::set_intersection(before.begin(), before.end(), after.begin(), after.end(), std::inserter(found, found.end()));
-        return found;
-    }
-
-private:
-    static std::set<HalfEdge> outline(const Model &model, Face face)
-    {
-        const std::vector<Loop> *loops = look_up(model.faces, face);
-        const std::vector<HalfEdge> halves = loops != nullptr ? model.loops.at(loops->front()) : std::vector<HalfEdge>();
-        return std::set<HalfEdge>(halves.begin(), halves.end());
+        const std::vector<Loop> *before = look_up(old.faces, face), *after = look_up(made.faces, face);
+        if (before == nullptr || after == nullptr)
+            return {};
+        const std::vector<HalfEdge> &halves = made.loops.at(after->front());
+        const std::set<HalfEdge> all(halves.begin(), halves.end());
+        const auto same = filtered(old.loops.at(before->front()), [&](HalfEdge half) { return all.count(half) != 0; });
+        return {same.begin(), same.end()};
     }
 };
 
@@ -121,8 +116,6 @@ struct Common {
 struct Core {
     Face face;
     Loop loop;
-
-    friend bool operator==(const Core &a, const Core &b) { return a.face == b.face && a.loop == b.loop; }
 };
 
 /// Cores by their outlines, each from its least half-edge on.
@@ -137,17 +130,17 @@ public:
     enum class Way { takes, makes };
 
     /// Edges that stay aren't among those between the faces.
-    TakenDown(const Model &model, const std::set<Face> &same, const std::set<Edge> &stay, Way way, AllNames &names, const Pair &pair)
-        : model_(model), way_(way), names_(names), pair_(pair)
+    TakenDown(const Pair &pair, Way way, const std::set<Face> &same, const std::set<Edge> &stay, AllNames &names)
+        : model_(way == Way::takes ? pair.old : pair.made), way_(way), names_(names), pair_(pair)
     {
-        for (const auto &[face, loops] : model.faces)
+        for (const auto &[face, loops] : model_.faces)
             if (same.count(face) == 0) {
                 faces.push_back(face);
                 face_of_[loops[0]] = face;
                 for (Loop loop : loops)
                     put(loop);
             }
-        for (const auto &[edge, ends] : model.edges)
+        for (const auto &[edge, ends] : model_.edges)
             if (loop_of_.count(plus(edge)) != 0 && loop_of_.count(minus(edge)) != 0 && stay.count(edge) == 0)
                 inner_.insert(edge);
             else
@@ -423,7 +416,7 @@ inline std::vector<Operator> renamings(const Pair &pair, const Cores &old, const
     for (const auto &[outline, core] : old) {
         const Core *other = look_up(made, outline);
         require(other != nullptr);
-        if (core == *other)
+        if (core.face == other->face && core.loop == other->loop)
             continue;
         require(pair.fast.count(core.face) + pair.fast.count(other->face) == 0);
         if (is_wanted(core))
@@ -438,7 +431,7 @@ inline std::vector<Operator> renamings(const Pair &pair, const Cores &old, const
 /// The operators that turn a part into another one, where these edges stay.
 inline std::vector<Operator> operators_between(const Pair &pair, const Common &common, const std::set<Edge> &stay, AllNames &names)
 {
-    TakenDown takes(pair.old, common.faces, stay, TakenDown::Way::takes, names, pair), makes(pair.made, common.faces, stay, TakenDown::Way::makes, names, pair);
+    TakenDown takes(pair, TakenDown::Way::takes, common.faces, stay, names), makes(pair, TakenDown::Way::makes, common.faces, stay, names);
     const std::set<Loop> left = rings_left(pair, common, takes, makes);
     RingFaces ring_faces;
     takes.take(left, ring_faces);

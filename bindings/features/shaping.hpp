@@ -12,16 +12,8 @@ namespace gwb_session::shaping {
 using namespace combining;
 
 /// A part that is cut out, or put on, by its faces seen from outside: those that lie on the solid's, those opposite to these, and the others.
-struct Tool {
-    std::vector<Path> lids, floors, walls;
-
-    void add(const Tool &other)
-    {
-        append(lids, other.lids);
-        append(floors, other.floors);
-        append(walls, other.walls);
-    }
-};
+using Tool = std::array<std::vector<Path>, 3>;
+enum { lids, floors, walls };
 
 /// An end of an edge, and the points beside it in the two faces of the edge; where its slope meets others there, perhaps a point between.
 struct Corner {
@@ -34,10 +26,12 @@ struct Corner {
 inline Tool prism(const Path &outline, const Vector &way)
 {
     const Path path = dot(area_of(cycle_of(outline)), way) < 0 ? outline : backwards(outline);
-    Tool tool{{path}, {backwards(moved(path, way))}, {}};
+    Tool tool;
+    tool[lids] = {path};
+    tool[floors] = {backwards(moved(path, way))};
     for (std::size_t at = 0; at < path.size(); at++) {
         const Vector &before = path[(at + path.size() - 1) % path.size()];
-        tool.walls.push_back({path[at], before, add(before, way), add(path[at], way)});
+        tool[walls].push_back({path[at], before, add(before, way), add(path[at], way)});
     }
     return tool;
 }
@@ -51,14 +45,17 @@ inline Tool wedge(const Corner &start, const Corner &end)
     slope.insert(slope.end(), {end.second, start.second});
     if (start.between)
         slope.push_back(*start.between);
-    Tool made{{{start.point, end.point, end.first, start.first}}, {slope}, {{start.second, end.second, end.point, start.point}}};
+    Tool made;
+    made[lids] = {{start.point, end.point, end.first, start.first}};
+    made[floors] = {slope};
+    made[walls] = {{start.second, end.second, end.point, start.point}};
     if (!start.is_shared)
-        made.walls.push_back({start.point, start.first, start.second});
+        made[walls].push_back({start.point, start.first, start.second});
     if (!end.is_shared)
-        made.walls.push_back({end.point, end.second, end.first});
+        made[walls].push_back({end.point, end.second, end.first});
     if (dot(area_of(cycle_of(slope)), subtract(start.first, start.point)) <= 0)
-        for (std::vector<Path> *part : {&made.lids, &made.floors, &made.walls})
-            *part = mapped(*part, backwards<Vector>);
+        for (std::vector<Path> &part : made)
+            part = mapped(part, backwards<Vector>);
     return made;
 }
 
@@ -93,8 +90,8 @@ inline Tool groove_tool(Face face, const Plane &plane, const Path &ends, std::in
     const Vector side = side_of_strip(face, plane, ends, width), way = steps_along(face, plane.across, -depth);
     const auto corner = [&](const Vector &at) { return Corner{add(at, way), subtract(at, side), add(at, side)}; };
     Tool made = wedge(corner(ends[0]), corner(ends[1])); // whose slope lies in the face
-    made.walls.insert(made.walls.begin(), made.lids.front());
-    made.lids = std::exchange(made.floors, {});
+    made[walls].insert(made[walls].begin(), made[lids].front());
+    made[lids] = std::exchange(made[floors], {});
     return made;
 }
 
@@ -152,17 +149,16 @@ inline Tool shoulder_tool(const Bench &bench, HalfEdge half, std::int64_t width,
 
 // ---- slopes
 
-/// An end of an edge that becomes a slope, and the way that the edge runs.
+/// An end of an edge that becomes a slope: the start of a half-edge.
 struct End {
     Corner *corner;
     HalfEdge half;
-    Vector way;
 };
 
 /// The point where three slopes meet.
 inline Vector common_point(const Bench &bench, const std::vector<End> &ends, const Failure &apart)
 {
-    const auto across = [](const End &end) { return reduced(cross(end.way, subtract(end.corner->second, end.corner->first))); };
+    const auto across = [&](const End &end) { return reduced(cross(side_at(bench, end.half).way(), subtract(end.corner->second, end.corner->first))); };
     const Corner &one = *ends[0].corner, &other = *ends[1].corner;
     const Vector &start = one.first == other.first || one.first == other.second ? one.first : one.second;
     Vector line = cross(across(ends[0]), across(ends[1]));
@@ -216,17 +212,19 @@ inline Tool chamfer_tool(const Bench &bench, const std::vector<Edge> &edges, std
         const HalfEdge half = plus(edges[at]), twin = half.twin();
         const auto near = setbacks(bench, half, first, lined);
         const auto far = setbacks(bench, twin, second, lined);
-        const Vector start = start_of(bench, half), end = start_of(bench, twin);
-        corners[at] = {Corner{start, near[0], far[1]}, Corner{end, near[1], far[0]}};
-        ends[bench.start_of(half)].push_back({&corners[at][0], half, subtract(end, start)});
-        ends[bench.start_of(twin)].push_back({&corners[at][1], twin, subtract(end, start)});
+        corners[at] = {Corner{start_of(bench, half), near[0], far[1]}, Corner{start_of(bench, twin), near[1], far[0]}};
+        ends[bench.start_of(half)].push_back({&corners[at][0], half});
+        ends[bench.start_of(twin)].push_back({&corners[at][1], twin});
     }
     for (const auto &[vertex, here] : ends)
         if (here.size() > 1)
             join_slopes(bench, vertex, here);
     Tool tool;
-    for (const auto &[start, end] : corners)
-        tool.add(wedge(start, end));
+    for (const auto &[start, end] : corners) {
+        const Tool one = wedge(start, end);
+        for (std::size_t part : {lids, floors, walls})
+            append(tool[part], one[part]);
+    }
     return tool;
 }
 
@@ -246,9 +244,9 @@ inline bool bends_outwards(const Bench &bench, HalfEdge half)
 /// The faces of a tool as sheets: the lids, the floors, and then the walls; seen from outside, or from inside where they cut.
 inline std::vector<Sheet> sheets_of(const Tool &tool, bool are_cut)
 {
-    std::vector<Path> paths = tool.lids;
-    append(paths, tool.floors);
-    append(paths, tool.walls);
+    std::vector<Path> paths;
+    for (const std::vector<Path> &part : tool)
+        append(paths, part);
     if (!all(paths, [](const Path &path) { return all(path, is_in_range); }))
         throw refused(GWB_WHY_POINT_RANGE, 0);
     std::vector<Sheet> sheets;
@@ -277,12 +275,12 @@ inline Combined change(Bench &bench, Face face, const Tool &tool, bool is_cut)
     const Result<std::vector<Sheet>> added = tried([&] { return sheets_of(tool, is_cut); });
     const Failure meets = impossible(Misfit::meets, face.number());
     if (!added) // (slopes that lie as far on both sides of their edges are flat, but where there is no room they are twisted)
-        throw tool.lids.size() > 1 && added.error().is(GWB_WHY_NOT_FLAT) ? meets : added.error();
+        throw tool[lids].size() > 1 && added.error().is(GWB_WHY_NOT_FLAT) ? meets : added.error();
     const Solid solid = bench.face(face).solid;
-    if (tool.lids.size() > 1 && meets_itself(bench, solid, *added))
+    if (tool[lids].size() > 1 && meets_itself(bench, solid, *added))
         throw meets;
     return make_near(bench, solid, *added, Model(), meets, [&](const Combined &found, const std::vector<Sheet> &) {
-        if (!found.marked(0, tool.lids.size()).empty())
+        if (!found.marked(0, tool[lids].size()).empty())
             throw impossible(Misfit::outline_outside, face.number());
     });
 }
@@ -291,8 +289,8 @@ inline Combined change(Bench &bench, Face face, const Tool &tool, bool is_cut)
 inline Notch cut_out(Bench &bench, Face face, const Tool &tool)
 {
     const Combined made = change(bench, face, tool, true);
-    const std::size_t floors = tool.lids.size(), walls = floors + tool.floors.size();
-    return Notch{made.marked(floors, tool.floors.size()), made.marked(walls, tool.walls.size())};
+    const std::size_t first = tool[lids].size(), count = tool[floors].size();
+    return Notch{made.marked(first, count), made.marked(first + count, tool[walls].size())};
 }
 
 /// A feature in a face by a tool that is made of the face's plane, points and sizes.
