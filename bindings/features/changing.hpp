@@ -68,10 +68,28 @@ private:
     std::unordered_map<HalfEdge, HalfEdge> after_, before_;
 };
 
+/// The numbers of those that are the same in both maps, of which a test holds.
+template <class Kind, class Row, class Test> std::set<Kind> alike(const std::map<Kind, Row> &old, const std::map<Kind, Row> &made, Test test)
+{
+    std::set<Kind> found;
+    for (const auto &[number, row] : old)
+        if (const Row *other = look_up(made, number); other != nullptr && *other == row && test(row))
+            found.insert(found.end(), number);
+    return found;
+}
+
 /// A solid's part as it is and as it is to be.
 struct Pair {
     const Model &old, &made;
     const std::set<Face> fast = {}; ///< faces that both have, which don't go on the way either
+
+    // what both have in common, with all that bounds it, down to the points
+    const std::set<Vertex> vertices = alike(old.vertices, made.vertices, [](const Vector &) { return true; });
+    const std::set<Edge> edges = alike(old.edges, made.edges, [&](const auto &ends) { return vertices.count(ends.first) + vertices.count(ends.second) == 2; });
+    const std::set<Loop> loops =
+        alike(old.loops, made.loops, [&](const auto &row) { return all(row, [&](HalfEdge half) { return edges.count(half.edge()) != 0; }); });
+    const std::set<Face> faces =
+        alike(old.faces, made.faces, [&](const auto &row) { return all(row, [&](Loop loop) { return loops.count(loop) != 0; }); });
 
     /// The half-edges that the outer loops of a face have in both.
     [[nodiscard]] std::set<HalfEdge> same_outline(Face face) const
@@ -83,32 +101,6 @@ struct Pair {
         const std::set<HalfEdge> all(halves.begin(), halves.end());
         const auto same = filtered(old.loops.at(before->front()), [&](HalfEdge half) { return all.count(half) != 0; });
         return {same.begin(), same.end()};
-    }
-};
-
-/// The numbers of those that are the same in both maps, of which a test holds.
-template <class Kind, class Row, class Test> std::set<Kind> alike(const std::map<Kind, Row> &old, const std::map<Kind, Row> &made, Test test)
-{
-    std::set<Kind> found;
-    for (const auto &[number, row] : old)
-        if (const Row *other = look_up(made, number); other != nullptr && *other == row && test(row))
-            found.insert(found.end(), number);
-    return found;
-}
-
-/// What two models have in common: with all that bounds it, down to the points.
-struct Common {
-    std::set<Vertex> vertices;
-    std::set<Edge> edges;
-    std::set<Loop> loops;
-    std::set<Face> faces;
-
-    Common(const Model &old, const Model &made)
-        : vertices(alike(old.vertices, made.vertices, [](const Vector &) { return true; })),
-          edges(alike(old.edges, made.edges, [&](const auto &ends) { return vertices.count(ends.first) + vertices.count(ends.second) == 2; })),
-          loops(alike(old.loops, made.loops, [&](const auto &row) { return all(row, [&](HalfEdge half) { return edges.count(half.edge()) != 0; }); })),
-          faces(alike(old.faces, made.faces, [&](const auto &row) { return all(row, [&](Loop loop) { return loops.count(loop) != 0; }); }))
-    {
     }
 };
 
@@ -130,11 +122,11 @@ public:
     enum class Way { takes, makes };
 
     /// Edges that stay aren't among those between the faces.
-    TakenDown(const Pair &pair, Way way, const std::set<Face> &same, const std::set<Edge> &stay, AllNames &names)
+    TakenDown(const Pair &pair, Way way, const std::set<Edge> &stay, AllNames &names)
         : model_(way == Way::takes ? pair.old : pair.made), way_(way), names_(names), pair_(pair)
     {
         for (const auto &[face, loops] : model_.faces)
-            if (same.count(face) == 0) {
+            if (pair.faces.count(face) == 0) {
                 faces.push_back(face);
                 face_of_[loops[0]] = face;
                 for (Loop loop : loops)
@@ -380,9 +372,9 @@ private:
 };
 
 /// The rings that both have, in one face, which keeps its outline: they stay where they are.
-inline std::set<Loop> rings_left(const Pair &pair, const Common &common, const TakenDown &old, const TakenDown &made)
+inline std::set<Loop> rings_left(const Pair &pair, const TakenDown &old, const TakenDown &made)
 {
-    const auto stays = [&](Loop loop) { return common.loops.count(loop) != 0 && old.is_left(loop) && made.is_left(loop); };
+    const auto stays = [&](Loop loop) { return pair.loops.count(loop) != 0 && old.is_left(loop) && made.is_left(loop); };
     std::set<Loop> found;
     for (Face face : old.faces) {
         const std::vector<Loop> &loops = pair.old.faces.at(face), *other = look_up(pair.made.faces, face);
@@ -429,10 +421,10 @@ inline std::vector<Operator> renamings(const Pair &pair, const Cores &old, const
 }
 
 /// The operators that turn a part into another one, where these edges stay.
-inline std::vector<Operator> operators_between(const Pair &pair, const Common &common, const std::set<Edge> &stay, AllNames &names)
+inline std::vector<Operator> operators_between(const Pair &pair, const std::set<Edge> &stay, AllNames &names)
 {
-    TakenDown takes(pair, TakenDown::Way::takes, common.faces, stay, names), makes(pair, TakenDown::Way::makes, common.faces, stay, names);
-    const std::set<Loop> left = rings_left(pair, common, takes, makes);
+    TakenDown takes(pair, TakenDown::Way::takes, stay, names), makes(pair, TakenDown::Way::makes, stay, names);
+    const std::set<Loop> left = rings_left(pair, takes, makes);
     RingFaces ring_faces;
     takes.take(left, ring_faces);
     makes.take(left, ring_faces);
@@ -445,10 +437,9 @@ inline std::vector<Operator> operators_between(const Pair &pair, const Common &c
 /// The same, where the edges stay that both have, else whatever edges stay; none where the faces that differ aren't of the kind.
 inline std::optional<std::vector<Operator>> operators_between(const Pair &pair, AllNames &names)
 {
-    const Common common(pair.old, pair.made);
-    for (const std::set<Edge> &stay : {common.edges, std::set<Edge>()})
+    for (const std::set<Edge> &stay : {pair.edges, std::set<Edge>()})
         try {
-            return operators_between(pair, common, stay, names);
+            return operators_between(pair, stay, names);
         } catch (const OtherKind &) {
         }
     return std::nullopt;
