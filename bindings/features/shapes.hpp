@@ -231,20 +231,6 @@ public:
             throw impossible(Misfit::outline_around_ring, face.number());
     }
 
-    /// Whether a part of a side in the plane lies within.
-    [[nodiscard]] bool has_part(const Side &whole) const
-    {
-        std::vector<ScaledPoint> stops = {{whole.start}, {whole.end}};
-        for (const Side &side : sides) {
-            const Wide before = side.area_beside(whole.start, axes_), after = side.area_beside(whole.end, axes_);
-            if (sign(before) * sign(after) < 0)
-                stops.push_back(divided(whole, before, after));
-            else if (whole.holds({side.start}, axes_))
-                stops.push_back({side.start});
-        }
-        return !parts_within(std::move(stops)).empty();
-    }
-
     /// A point within: the middle of a triangle of corners.
     [[nodiscard]] std::optional<ScaledPoint> inner_point() const
     {
@@ -259,7 +245,30 @@ public:
         return std::nullopt;
     }
 
-    /// Where a plane, on both of whose sides it lies, runs within it.
+    /// Whether both run along one line within, some of the way.
+    [[nodiscard]] bool passes_through(const Shape &other) const
+    {
+        return !are_parallel(plane.across, other.plane.across) && overlap(cut_by(other.plane), [&] { return other.cut_by(plane); });
+    }
+    /// Whether a part of a side in the plane lies within.
+    [[nodiscard]] bool has_part(const Side &side) const
+    {
+        Vector up{};
+        up[widest(plane.across)] = 1;
+        const auto whole = std::minmax({ScaledPoint{side.start}, ScaledPoint{side.end}});
+        return overlap(cut_by(Plane::through(side.start, cross(up, side.way()))), [&] { return std::vector{Span(whole)}; });
+    }
+
+    /// Where a ray meets it from behind.
+    [[nodiscard]] Place hit(const ScaledPoint &start, const Vector &ray) const
+    {
+        const Wide below = height(start), slope = dot(plane.across, ray);
+        if (sign(below) * sign(slope) >= 0)
+            return Place::outside;
+        return locate({add(times(start.at, magnitude(slope)), times(ray, magnitude(below))), start.scale * magnitude(slope)});
+    }
+
+    /// The parts of a line within, along which a plane runs on both of whose sides it lies.
     using Span = std::pair<ScaledPoint, ScaledPoint>;
     [[nodiscard]] std::vector<Span> cut_by(const Plane &other) const
     {
@@ -272,39 +281,22 @@ public:
             if (before == 0 || sign(before) * sign(after) < 0)
                 stops.push_back(divided(side, before, after));
         }
-        return is_below && is_above ? parts_within(std::move(stops)) : std::vector<Span>();
-    }
-
-    /// Whether both run along one line within, some of the way.
-    [[nodiscard]] bool passes_through(const Shape &other) const
-    {
-        if (are_parallel(plane.across, other.plane.across))
-            return false;
-        const std::vector<Span> own = cut_by(other.plane), beyond = own.empty() ? own : other.cut_by(plane);
-        return any(own, [&](const Span &one) {
-            return any(beyond, [&](const Span &two) { return one.first < two.second && two.first < one.second; });
-        });
-    }
-
-    /// Where a ray meets it from behind.
-    [[nodiscard]] Place hit(const ScaledPoint &start, const Vector &ray) const
-    {
-        const Wide below = height(start), slope = dot(plane.across, ray);
-        if (sign(below) * sign(slope) >= 0)
-            return Place::outside;
-        return locate({add(times(start.at, magnitude(slope)), times(ray, magnitude(below))), start.scale * magnitude(slope)});
-    }
-
-private:
-    /// The parts between points of one line, each from one of them to the next, that lie within.
-    [[nodiscard]] std::vector<Span> parts_within(std::vector<ScaledPoint> stops) const
-    {
         std::sort(stops.begin(), stops.end());
         std::vector<Span> found;
-        for (std::size_t at = 1; at < stops.size(); at++)
+        for (std::size_t at = 1; is_below && is_above && at < stops.size(); at++)
             if (stops[at - 1] < stops[at] && locate(stops[at - 1].between(stops[at])) == Place::inside)
                 found.emplace_back(stops[at - 1], stops[at]);
         return found;
+    }
+
+private:
+    /// Whether parts of a line have some of it in common with others.
+    template <class Others> static bool overlap(const std::vector<Span> &parts, Others others)
+    {
+        const std::vector<Span> beyond = parts.empty() ? parts : others();
+        return any(parts, [&](const Span &one) {
+            return any(beyond, [&](const Span &two) { return one.first < two.second && two.first < one.second; });
+        });
     }
 
     Axes axes_;
