@@ -38,16 +38,15 @@ struct Model {
         faces[face].push_back(loop);
         if (const std::optional<Vertex> vertex = bench.lone_vertex(loop)) {
             lone[loop] = *vertex;
-            read(bench, *vertex);
+            vertices[*vertex] = vector(bench.vertex(*vertex));
         }
-        for (HalfEdge half : loops[loop] = bench.half_edges(loop)) {
-            const auto [edge, is_new] = edges.try_emplace(half.edge());
-            if (is_new) {
+        for (HalfEdge half : loops[loop] = bench.half_edges(loop))
+            if (const auto [edge, is_new] = edges.try_emplace(half.edge()); is_new) {
                 const auto [from, to] = bench.edge(half.edge());
                 edge->second = {from, to};
+                for (Vertex end : {from, to})
+                    vertices[end] = vector(bench.vertex(end));
             }
-            read(bench, half.is_second() ? edge->second.second : edge->second.first);
-        }
     }
     /// All of a solid.
     static Model whole(const Bench &bench, Solid solid)
@@ -99,12 +98,6 @@ struct Model {
     }
 
 private:
-    void read(const Bench &bench, Vertex vertex)
-    {
-        if (const auto [place, is_new] = vertices.try_emplace(vertex); is_new)
-            place->second = vector(bench.vertex(vertex));
-    }
-
     /// Writes a word, and numbers after it.
     template <class... All> static void put(std::string &text, const char *word, std::int64_t number, All... numbers)
     {

@@ -28,9 +28,9 @@ struct Sheet : Shape {
 /// Whether one way comes before another in the turn clockwise from a third one, which itself comes last.
 inline bool comes_before(const Vector &from, const Vector &one, const Vector &other, Axes axes)
 {
-    const auto [x, y] = axes;
-    const auto turned = [x = x, y = y](const Vector &a, const Vector &b) { return compare_products(a[x], b[y], a[y], b[x]); };
-    const auto quarter = [&, x = x, y = y](const Vector &way) { // below a half turn, a half, above it, a whole
+    const std::size_t x = axes[0], y = axes[1];
+    const auto turned = [&](const Vector &a, const Vector &b) { return compare_products(a[x], b[y], a[y], b[x]); };
+    const auto quarter = [&](const Vector &way) { // below a half turn, a half, above it, a whole
         const int side = turned(from, way);
         return side != 0 ? side + 1 : from[x] * way[x] + from[y] * way[y] > 0 ? 3 : 1;
     };
@@ -51,14 +51,13 @@ public:
     /// The regions, the outline of each and then its holes, the largest first; where they touch in a point they stay apart.
     [[nodiscard]] std::vector<std::vector<Cycle>> regions() const
     {
-        std::vector<std::pair<Wide, Cycle>> outer;
+        std::set<std::pair<Wide, Cycle>> outer;
         std::vector<Cycle> holes;
         for (const Cycle &cycle : cycles())
             if (const Wide area = dot(area_of(cycle), across_); area > 0)
-                outer.emplace_back(-area, cycle);
+                outer.emplace(-area, cycle);
             else
                 holes.push_back(cycle);
-        std::sort(outer.begin(), outer.end());
         std::vector<std::vector<Cycle>> found;
         for (const auto &[area, cycle] : outer)
             found.push_back({cycle});

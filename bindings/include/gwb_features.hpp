@@ -112,7 +112,7 @@ template <class Policy> Solid next_solid(Commands<Policy> &bench) { return bench
 
 /// A row of solids, so many with the one that they are of: those that are new.
 template <class Policy, class Call, class... All>
-Answer<Policy, std::vector<Solid>> row(Commands<Policy> &bench, const char *command, Call call, Solid solid, std::uint32_t count, All... arguments)
+auto row(Commands<Policy> &bench, const char *command, Call call, Solid solid, std::uint32_t count, All... arguments)
 {
     constexpr std::uint32_t most_solids = 1'000'000; // more are refused before any is written
     std::vector<std::uint32_t> made(count > 0 && count <= most_solids ? count - 1 : 0);
@@ -121,7 +121,7 @@ Answer<Policy, std::vector<Solid>> row(Commands<Policy> &bench, const char *comm
 
 /// A pocket or a boss.
 template <class Policy, class Call>
-Answer<Policy, Pocket> raise(Commands<Policy> &bench, const char *command, Call call, Face face, Items<Point> points, std::int64_t length)
+auto raise(Commands<Policy> &bench, const char *command, Call call, Face face, Items<Point> points, std::int64_t length)
 {
     gwb_outline_made made{};
     std::vector<std::uint32_t> sides(points.size());
@@ -130,8 +130,7 @@ Answer<Policy, Pocket> raise(Commands<Policy> &bench, const char *command, Call 
 }
 
 /// A notch, slot, groove or shoulder.
-template <class Policy, class Call, class... All>
-Answer<Policy, Notch> notch(Commands<Policy> &bench, const char *command, Call call, Face face, All... arguments)
+template <class Policy, class Call, class... All> auto notch(Commands<Policy> &bench, const char *command, Call call, Face face, All... arguments)
 {
     const auto made = [&] { return Notch{faces(bench.handle(), GWB_MADE_FLOOR), faces(bench.handle(), GWB_MADE_WALLS)}; };
     return give(bench, command, made, call, face.number(), arguments...);

@@ -11,12 +11,7 @@ class Motion {
 public:
     Motion() = default;
     explicit Motion(const gwb_motion &row) : row_(row) {}
-    static Motion move(Point by)
-    {
-        Motion motion;
-        motion.row_.by = by;
-        return motion;
-    }
+    static Motion move(Point by) { return Motion(gwb_motion{{1, 2, 3}, by}); }
     /// By so many quarters about the axis through the origin (0 x, 1 y, 2 z): counterclockwise as seen from where it points.
     static Motion quarter_turns(unsigned axis, unsigned times = 1)
     {
