@@ -323,16 +323,10 @@ private:
             if (placed->runs_back(way) == following->runs_back(way))
                 return false;
             if (placed->runs_back(way))
-                mate(placed, following);
+                placed->mate = following, following->mate = placed;
         }
         return true;
     }
-    static void mate(Placed *one, Placed *other)
-    {
-        one->mate = other;
-        other->mate = one;
-    }
-
     /// Sorts sides of one line by the turn of their faces about it, counterclockwise as seen from where the way points: so do their normals, those of
     /// sides that run back turned round. They lie across the way, so that they are looked at along an axis.
     static void sort_round(Row &sides, const Vector &way)
@@ -384,25 +378,21 @@ private:
         return found;
     }
 
-    /// Sides that are all of an old one come first.
+    /// Sides that are all of an old one come first. A new edge starts at the vertex of the lesser number.
     void name_edges(Model &made)
     {
         for (bool is_whole : {true, false})
-            for (Placed &placed : sides_)
-                if (!placed.goes_on && placed.half == HalfEdge() && (!is_whole || held_.is_whole(placed.whole())))
-                    name_edge(made, placed, *placed.run().back()->mate);
-    }
-
-    /// A new edge starts at the vertex of the lesser number.
-    void name_edge(Model &made, Placed &own, Placed &mate)
-    {
-        const std::vector<HalfEdge> halves = old_halves(own, mate);
-        const Edge edge = names_.edges.one(mapped(halves, [](HalfEdge half) { return half.edge(); }));
-        const auto old = std::find_if(halves.begin(), halves.end(), [&](HalfEdge half) { return half.edge() == edge; });
-        const bool is_second = old != halves.end() ? old->is_second() : mate.start < own.start;
-        own.half = is_second ? minus(edge) : plus(edge);
-        mate.half = own.half.twin();
-        made.edges[edge] = is_second ? std::pair(mate.start, own.start) : std::pair(own.start, mate.start);
+            for (Placed &own : sides_)
+                if (!own.goes_on && own.half == HalfEdge() && (!is_whole || held_.is_whole(own.whole()))) {
+                    Placed &mate = *own.run().back()->mate;
+                    const std::vector<HalfEdge> halves = old_halves(own, mate);
+                    const Edge edge = names_.edges.one(mapped(halves, [](HalfEdge half) { return half.edge(); }));
+                    const auto old = std::find_if(halves.begin(), halves.end(), [&](HalfEdge half) { return half.edge() == edge; });
+                    const bool is_second = old != halves.end() ? old->is_second() : mate.start < own.start;
+                    own.half = is_second ? minus(edge) : plus(edge);
+                    mate.half = own.half.twin();
+                    made.edges[edge] = is_second ? std::pair(mate.start, own.start) : std::pair(own.start, mate.start);
+                }
     }
 
     /// The old half-edges that the edge of a side is made of, as it runs: those that it is all of first.

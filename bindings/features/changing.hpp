@@ -129,8 +129,11 @@ public:
             if (pair.faces.count(face) == 0) {
                 faces.push_back(face);
                 face_of_[loops[0]] = face;
-                for (Loop loop : loops)
-                    put(loop);
+                for (Loop loop : loops) {
+                    halves_.put(model_.loops.at(loop));
+                    for (HalfEdge half : model_.loops.at(loop))
+                        loop_of_[half] = loop;
+                }
             }
         for (const auto &[edge, ends] : model_.edges)
             if (loop_of_.count(plus(edge)) != 0 && loop_of_.count(minus(edge)) != 0 && stay.count(edge) == 0)
@@ -160,13 +163,6 @@ public:
     std::vector<Operator> operators;
 
 private:
-    void put(Loop loop)
-    {
-        halves_.put(model_.loops.at(loop));
-        for (HalfEdge half : model_.loops.at(loop))
-            loop_of_[half] = loop;
-    }
-
     void step(const Operator &takes, const Operator &makes) { operators.push_back(way_ == Way::takes ? takes : makes); }
     [[nodiscard]] Loop loop_at(HalfEdge half) { return loops_.name(loop_of_.at(half)); }
     [[nodiscard]] Face face_at(HalfEdge half) { return face_of_.at(loop_at(half)); }
@@ -221,20 +217,13 @@ private:
         const std::vector<HalfEdge> tree = tree_from(border.empty() ? std::vector<Vertex>{start(edges[0])} : mapped(border, start), edges, vertices);
         faces_out(edges, tree);
         std::for_each(tree.rbegin(), tree.rend(), [&](HalfEdge half) { leaf_off(half); });
-        const std::size_t outlines = border.empty() ? 1 : put_cores(border);
-        require(outlines == faces_);
-        if (border.empty())
-            roots_[loop_at(tree.front())] = start(plus(tree.front().edge()));
-    }
-
-    /// Each outline of a part is that of a face by now: how many there are.
-    std::size_t put_cores(const std::vector<HalfEdge> &border)
-    {
-        std::set<Loop> outlines;
+        std::set<Loop> outlines; // each is that of a face by now
         for (HalfEdge half : border)
             if (const Loop loop = loop_at(half); outlines.insert(loop).second)
                 cores[from_least(halves_.run(half, half))] = {face_of_.at(loop), loop};
-        return outlines.size();
+        require(std::max(outlines.size(), std::size_t{1}) == faces_);
+        if (border.empty())
+            roots_[loop_at(tree.front())] = start(plus(tree.front().edge()));
     }
 
     /// Half-edges that lead from the roots to all inner vertices, each after the one that leads to its start: first ones where it can be helped.

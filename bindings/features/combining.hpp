@@ -168,15 +168,6 @@ inline std::optional<std::vector<Operator>> operators_for(const Bench &bench, co
     return operators;
 }
 
-/// Takes in that a part became another one.
-inline void follow(Surface &surface, const Model &part, const Model &made)
-{
-    for (const auto &[face, loops] : part.faces)
-        surface.forget(face, loops);
-    for (const auto &[face, loops] : made.faces)
-        surface.put(face, loops, made.cycles(face));
-}
-
 inline void give(Bench &bench, const std::vector<Operator> &operators)
 {
     for (const Operator &give_one : operators) {
@@ -206,7 +197,12 @@ Combined make_near(Bench &bench, Solid solid, const std::vector<Sheet> &added, c
             return found;
         }
         give(bench, *operators);
-        known.follow(bench, solid, [&](Surface &of) { follow(of, part.model, found.made.model); });
+        known.follow(bench, solid, [&](Surface &of) {
+            for (const auto &[face, loops] : part.model.faces)
+                of.forget(face, loops);
+            for (const auto &[face, loops] : found.made.model.faces)
+                of.put(face, loops, found.made.model.cycles(face));
+        });
         return found;
     }
 }

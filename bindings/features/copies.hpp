@@ -151,9 +151,6 @@ template <class Place> std::vector<Solid> patterned(Bench &bench, Solid solid, s
     return row;
 }
 
-/// By so many times a vector.
-inline Motion steps(const gwb_point &step, std::uint32_t count) { return moving(times(vector(step), count)); }
-
 /// By so many quarters about the axis through a point. (If the point is far out of range, nothing stays in range.)
 inline Motion turn(std::uint32_t axis, std::uint32_t quarters, const gwb_point &about)
 {

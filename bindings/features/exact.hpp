@@ -98,6 +98,8 @@ constexpr Vector cross(const Vector &a, const Vector &b)
 }
 constexpr bool is_zero(const Vector &a) { return a[0] == 0 && a[1] == 0 && a[2] == 0; }
 constexpr Wide longest(const Vector &a) { return std::max({magnitude(a[0]), magnitude(a[1]), magnitude(a[2])}); }
+/// How long it is along the axes, one after another.
+constexpr Wide length_along_axes(const Vector &a) { return magnitude(a[0]) + magnitude(a[1]) + magnitude(a[2]); }
 constexpr bool is_in_range(const Vector &a) { return longest(a) <= farthest; }
 /// In how many parts whole points divide a vector: 0 where it has no length.
 constexpr Wide parts_of(const Vector &a) { return greatest_divisor(greatest_divisor(a[0], a[1]), a[2]); }

@@ -250,7 +250,7 @@ gwb_kind gwb_move_solid(gwb *g, uint32_t solid, const gwb_motion *motion, gwb_re
 
 gwb_kind gwb_pattern(gwb *g, uint32_t solid, uint32_t count, const gwb_point *step, uint32_t *solids, gwb_refusal *why)
 {
-    return row_of(g, solid, count, [&](uint32_t place) { return copies::steps(*step, place); }, solids, why);
+    return row_of(g, solid, count, [&](uint32_t place) { return copies::moving(exact::times(exact::vector(*step), place)); }, solids, why);
 }
 
 gwb_kind gwb_pattern_around(gwb *g, uint32_t solid, uint32_t count, uint32_t axis, uint32_t quarters, const gwb_point *about, uint32_t *solids,

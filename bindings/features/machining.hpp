@@ -96,19 +96,15 @@ inline Vector steps_along(Face face, const Vector &across, std::int64_t length)
 inline Vector start_of(const Bench &bench, HalfEdge half) { return vector(bench.vertex(bench.start_of(half))); }
 inline Side side_at(const Bench &bench, HalfEdge half) { return {start_of(bench, half), start_of(bench, half.twin()), half}; }
 
-/// The sides of a loop; the vertex of a lone one, as a side of no length.
-inline Cycle cycle_at(const Bench &bench, Loop loop)
-{
-    if (const std::optional<Vertex> vertex = bench.lone_vertex(loop))
-        return cycle_of({vector(bench.vertex(*vertex))});
-    return mapped(bench.half_edges(loop), [&](HalfEdge half) { return side_at(bench, half); });
-}
-/// Those of the loops of a face, the outer one first.
+/// The sides of the loops of a face, the outer one first; the vertex of a lone one, as a side of no length.
 inline std::vector<Cycle> cycles_at(const Bench &bench, Face face)
 {
     std::vector<Cycle> found;
     for (Loop loop : bench.loops_of(face))
-        found.push_back(cycle_at(bench, loop));
+        if (const std::optional<Vertex> vertex = bench.lone_vertex(loop))
+            found.push_back(cycle_of({vector(bench.vertex(*vertex))}));
+        else
+            found.push_back(mapped(bench.half_edges(loop), [&](HalfEdge half) { return side_at(bench, half); }));
     return found;
 }
 

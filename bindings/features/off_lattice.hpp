@@ -310,7 +310,7 @@ public:
         for (const Plane &plane : candidates()) {
             go_on();
             if (const std::optional<SquareMoved> square = is_whole(plane) ? square_moved(plane) : std::nullopt)
-                ranked.push_back({*square, size(plane), plane});
+                ranked.push_back({*square, length_along_axes(plane.across) + magnitude(plane.offset), plane});
         }
         std::stable_sort(ranked.begin(), ranked.end(), [](const Ranked &a, const Ranked &b) {
             const int nearer = a.square.compare(b.square);
@@ -324,11 +324,6 @@ public:
     }
 
 private:
-    static Wide size(const Plane &plane)
-    {
-        return magnitude(plane.across[0]) + magnitude(plane.across[1]) + magnitude(plane.across[2]) + magnitude(plane.offset);
-    }
-
     /// Some of the cuts, that lie apart: each is the farthest from those before it.
     [[nodiscard]] std::vector<Side> spread() const
     {

@@ -138,15 +138,6 @@ inline std::array<Vector, 2> setbacks(const Bench &bench, HalfEdge half, std::in
     return {met(before, half, before), met(after, half.twin(), after.twin())};
 }
 
-/// The prism under the strip of a face along one of its half-edges.
-inline Tool shoulder_tool(const Bench &bench, HalfEdge half, std::int64_t width, std::int64_t depth)
-{
-    const Face face = bench.face_of(half);
-    const auto ends = setbacks(bench, half, width);
-    const Vector way = steps_along(face, plane_of(bench, face).across, -depth);
-    return prism({start_of(bench, half), start_of(bench, half.twin()), ends[1], ends[0]}, way);
-}
-
 // ---- slopes
 
 /// An end of an edge that becomes a slope: the start of a half-edge.
@@ -228,17 +219,6 @@ inline Tool chamfer_tool(const Bench &bench, const std::vector<Edge> &edges, std
     return tool;
 }
 
-/// Whether the solid has less than half of the room around an edge; refused where its faces lie in one plane.
-inline bool bends_outwards(const Bench &bench, HalfEdge half)
-{
-    const Vector across = plane_of(bench, bench.face_of(half)).across, beyond = plane_of(bench, bench.face_of(half.twin())).across;
-    if (are_parallel(across, beyond))
-        throw impossible(Misfit::flat_edge, half.edge().number());
-    // (what is across both normals runs along the edge, so one part of it tells which way)
-    const auto [first, second] = flat_axes(side_at(bench, half).way());
-    return compare_products(across[first], beyond[second], across[second], beyond[first]) > 0;
-}
-
 // ---- what is changed
 
 /// The faces of a tool as sheets: the lids, the floors, and then the walls; seen from outside, or from inside where they cut.
@@ -260,15 +240,6 @@ inline std::vector<Sheet> sheets_of(const Tool &tool, bool are_cut)
     return sheets;
 }
 
-/// Whether the faces of a tool meet or touch each other elsewhere than at their sides.
-inline bool meets_itself(const Bench &bench, Solid solid, const std::vector<Sheet> &sheets)
-{
-    const Held nothing(bench, Model{solid, {}, {}, {}, {}, {}});
-    AllNames names(bench);
-    const std::optional<Made> made = Assembly(nothing, sheets, names).made(solid);
-    return !made || !Findings(made->model, box_of(sheets)).found.empty();
-}
-
 /// Cuts a tool out of the solid of a face, in which its first lid lies, or puts it on.
 inline Combined change(Bench &bench, Face face, const Tool &tool, bool is_cut)
 {
@@ -277,8 +248,13 @@ inline Combined change(Bench &bench, Face face, const Tool &tool, bool is_cut)
     if (!added) // (slopes that lie as far on both sides of their edges are flat, but where there is no room they are twisted)
         throw tool[lids].size() > 1 && added.error().is(GWB_WHY_NOT_FLAT) ? meets : added.error();
     const Solid solid = bench.face(face).solid;
-    if (tool[lids].size() > 1 && meets_itself(bench, solid, *added))
-        throw meets;
+    if (tool[lids].size() > 1) { // whose parts may meet or touch each other elsewhere than at their sides
+        const Held nothing(bench, Model{solid, {}, {}, {}, {}, {}});
+        AllNames names(bench);
+        const std::optional<Made> made = Assembly(nothing, *added, names).made(solid);
+        if (!made || !Findings(made->model, box_of(*added)).found.empty())
+            throw meets;
+    }
     return make_near(bench, solid, *added, Model(), meets, [&](const Combined &found, const std::vector<Sheet> &) {
         if (!found.marked(0, tool[lids].size()).empty())
             throw impossible(Misfit::outline_outside, face.number());
@@ -304,24 +280,33 @@ template <class MakeTool, class... Sizes> Notch cut_in_face(Bench &bench, Face f
 inline Notch cut_shoulder(Bench &bench, Face face, Edge edge, std::int64_t width, std::int64_t depth)
 {
     require_sizes({width, depth});
-    (void)plane_of(bench, face);
+    const Plane plane = plane_of(bench, face);
     const auto faces = bench.attempt().faces_of(edge);
     if (!faces)
         throw refused(GWB_WHY_NO_EDGE, edge.number());
     if ((*faces)[0] != face && (*faces)[1] != face)
         throw impossible(Misfit::not_of_face, edge.number());
-    return cut_out(bench, face, shoulder_tool(bench, (*faces)[0] == face ? plus(edge) : minus(edge), width, depth));
+    const HalfEdge half = (*faces)[0] == face ? plus(edge) : minus(edge);
+    const auto ends = setbacks(bench, half, width);
+    return cut_out(bench, face, prism({start_of(bench, half), start_of(bench, half.twin()), ends[1], ends[0]}, steps_along(face, plane.across, -depth)));
 }
 
-/// Whether edges of one solid all bend outwards, or none does. Not possible: NotAlike.
+/// Whether edges of one solid all bend outwards, where it has less than half of the room around them, or none does. Not possible: FlatEdge: the faces of
+/// one lie in a plane; NotAlike.
 inline bool all_bend_outwards(const Bench &bench, const std::vector<Edge> &edges)
 {
     std::optional<std::pair<Solid, bool>> first;
     for (Edge edge : edges) {
         if (!has(bench.attempt().edge(edge)))
             throw refused(GWB_WHY_NO_EDGE, edge.number());
-        const bool is_outer = bends_outwards(bench, plus(edge));
-        const std::pair<Solid, bool> own = {bench.face(bench.face_of(plus(edge))).solid, is_outer};
+        const Side side = side_at(bench, plus(edge));
+        const Face face = bench.face_of(side.half);
+        const Vector across = plane_of(bench, face).across, beyond = plane_of(bench, bench.face_of(side.half.twin())).across;
+        if (are_parallel(across, beyond))
+            throw impossible(Misfit::flat_edge, edge.number());
+        // (what is across both normals runs along the edge, so one part of it tells which way)
+        const auto [x, y] = flat_axes(side.way());
+        const std::pair<Solid, bool> own = {bench.face(face).solid, compare_products(across[x], beyond[y], across[y], beyond[x]) > 0};
         if (first.value_or(own) != own)
             throw impossible(Misfit::not_alike, edge.number());
         first = own;

@@ -153,7 +153,16 @@ public:
     /// between whole coordinates.
     std::vector<Sheet> regions()
     {
-        emit();
+        std::map<Ends, Piece> pieces = cut_pieces();
+        for (auto &[ends, piece] : pieces) {
+            piece.left = left_over(ends, piece.parts, true);
+            piece.right = left_over(ends, piece.parts, false);
+            join(piece);
+        }
+        for (const auto &[ends, piece] : pieces) { // each goes to the sheets that it bounds afterwards
+            keep(piece.left, piece.right, piece.parts, {ends.first, ends.second});
+            keep(piece.right, piece.left, piece.parts, {ends.second, ends.first});
+        }
         std::map<std::size_t, Places> members;
         for (std::size_t at = 0; at < sheets_.size(); at++)
             members[joined_.name(at)].push_back(at);
@@ -204,21 +213,6 @@ private:
         for (const Side &side : sides)
             ways.insert({side.start, side.end});
         return filtered(sides, [&](const Side &side) { return ways.count({side.end, side.start}) == 0; });
-    }
-
-    /// Each side, or part of one, goes to the sheets that it bounds afterwards.
-    void emit()
-    {
-        std::map<Ends, Piece> pieces = cut_pieces();
-        for (auto &[ends, piece] : pieces) {
-            piece.left = left_over(ends, piece.parts, true);
-            piece.right = left_over(ends, piece.parts, false);
-            join(piece);
-        }
-        for (const auto &[ends, piece] : pieces) {
-            keep(piece.left, piece.right, piece.parts, {ends.first, ends.second});
-            keep(piece.right, piece.left, piece.parts, {ends.second, ends.first});
-        }
     }
 
     /// The piece is a side of these sheets, which lie left of it as it runs, seen from where the plane's normal points; not of those that became one

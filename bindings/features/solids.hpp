@@ -110,10 +110,15 @@ public:
             for (Loop ring : bench_.rings(face))
                 ring_out(ring);
         edges_out(mapped(rows, [](const gwb_half_edge_row &row) { return HalfEdge(row.half_edge).edge(); }));
-        const auto faces = bench_.faces(solid); // of one vertex each
+        const auto faces = bench_.faces(solid); // of one vertex each, which go by way of the first
         for (Face face : faces)
-            if (const Face first = *faces.begin(); face != first)
-                part_out(first, face);
+            if (const Face first = *faces.begin(); face != first) {
+                const Loop stays = bench_.face(first).outer_loop, loop = bench_.face(face).outer_loop;
+                const Edge edge = FreeNumbers<Edge>(bench_).take();
+                bench_.kfmrh(first, face);
+                bench_.mekr(lone(stays), lone(loop), edge);
+                bench_.kev(plus(edge));
+            }
         bench_.kvfs(solid);
     }
 
@@ -141,8 +146,18 @@ private:
             for (HalfEdge half : {plus(edge), minus(edge)})
                 twig_out(half);
         for (Edge edge : edges)
-            if (is_there(edge))
-                edge_out(edge);
+            if (is_there(edge)) {
+                const std::array<HalfEdge, 2> before = {bench_.previous(plus(edge)), bench_.previous(minus(edge))};
+                if (is_between_faces(edge)) {
+                    bench_.kef(plus(edge));
+                } else { // what lies behind it is the loop of a spare face
+                    const Loop ring = spare_loops_.take();
+                    bench_.kemr(plus(edge), ring);
+                    ring_out(ring);
+                }
+                for (HalfEdge half : before)
+                    twig_out(half);
+            }
     }
 
     /// The edge of a half-edge goes where that ends at a leaf, and so on back.
@@ -154,31 +169,6 @@ private:
             bench_.kev(half);
             half = before;
         }
-    }
-
-    /// An edge without a leaf goes: where it has one loop on both sides, what lies behind it is the loop of a spare face.
-    void edge_out(Edge edge)
-    {
-        const std::array<HalfEdge, 2> before = {bench_.previous(plus(edge)), bench_.previous(minus(edge))};
-        if (is_between_faces(edge)) {
-            bench_.kef(plus(edge));
-        } else {
-            const Loop ring = spare_loops_.take();
-            bench_.kemr(plus(edge), ring);
-            ring_out(ring);
-        }
-        for (HalfEdge half : before)
-            twig_out(half);
-    }
-
-    /// A part that has come to a face of one vertex goes, by way of another one.
-    void part_out(Face first, Face face)
-    {
-        const Loop stays = bench_.face(first).outer_loop, loop = bench_.face(face).outer_loop;
-        const Edge edge = FreeNumbers<Edge>(bench_).take();
-        bench_.kfmrh(first, face);
-        bench_.mekr(lone(stays), lone(loop), edge);
-        bench_.kev(plus(edge));
     }
 
     Bench &bench_;

@@ -46,8 +46,7 @@ inline Wide size_of(const std::vector<Sheet> &regions)
 {
     Wide size = 0;
     for (const Sheet &region : regions)
-        for (Wide part : area_of(region.sides))
-            size += magnitude(part);
+        size += length_along_axes(area_of(region.sides));
     return size;
 }
 
