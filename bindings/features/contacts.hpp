@@ -56,7 +56,10 @@ public:
             if (is_near(cycles[0]))
                 take(face, filtered(cycles, is_near));
         }
-        compare_vertices();
+        std::map<Vector, std::size_t> first;
+        for (const auto &[vertex, row] : vertices_.rows)
+            if (const auto [old, is_new] = first.emplace(row.side.start, vertex); !is_new)
+                found.insert({Kind::equal_points, old->second, vertex});
         compare_edges();
         for (const Sheet &face : faces_) {
             go_on();
@@ -103,14 +106,6 @@ private:
             edges_.take(side.half.edge().number(), side.half.is_second() ? side.turned() : side, face);
         if (box_of(side.start).meets(box_))
             vertices_.take(model_.start(side.half).number(), {side.start, side.start}, face);
-    }
-
-    void compare_vertices()
-    {
-        std::map<Vector, std::size_t> first;
-        for (const auto &[vertex, row] : vertices_.rows)
-            if (const auto [old, is_new] = first.emplace(row.side.start, vertex); !is_new)
-                found.insert({Kind::equal_points, old->second, vertex});
     }
 
     void compare_edges()

@@ -166,13 +166,6 @@ inline std::vector<Model> all_read(const Bench &bench)
     return models;
 }
 
-/// All solids so many times as large, with the numbers that they have.
-inline void scale_all(Bench &bench, std::int64_t factor)
-{
-    for (const Model &model : all_read(bench))
-        make_anew(bench, moved(model, Motion(), factor));
-}
-
 /// All numbers become as low as they can be, in their order.
 inline void renumber(Bench &bench, Lists &lists)
 {

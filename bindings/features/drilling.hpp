@@ -71,7 +71,7 @@ inline Hole drill(Bench &bench, Face face, Point center, std::int64_t radius, st
     if (radius < 1 || sides < 3 || sides > most_sides || depth < 0)
         throw machining::refused(GWB_WHY_SIZE_RANGE, radius < 1 ? 1 : depth < 0 ? 3 : 2);
     std::vector<Point> points = polygon(bench, face, center, radius, sides);
-    Pocket made = depth == 0 ? machining::make_hole(bench, face, points) : machining::make_pocket(bench, face, points, depth);
+    Pocket made = depth == 0 ? machining::make_hole(bench, face, points) : machining::make_raised(bench, face, points, depth, false);
     return Hole{made.face, made.loop, std::move(made.sides), std::move(points)};
 }
 

@@ -27,20 +27,8 @@ namespace {
 
 /// How many calls of go_on come for one that asks the caller.
 constexpr unsigned asks_once_in = 32;
-thread_local const gwb *making = nullptr;
+thread_local const gwb *making = nullptr; ///< for which this thread makes something, whose caller may end it
 thread_local unsigned calls = 0;
-
-/// What a thread makes for a session, whose caller may end it: until the end of its scope.
-class Making {
-public:
-    explicit Making(const gwb &session) : before_(std::exchange(making, &session)) { calls = 0; }
-    Making(const Making &) = delete;
-    Making &operator=(const Making &) = delete;
-    ~Making() { making = before_; }
-
-private:
-    const gwb *before_;
-};
 
 } // namespace
 
@@ -83,17 +71,20 @@ template <class Call> gwb_kind guarded(const gwb *g, gwb_refusal *why, Call call
     if (!gwb_is_open(g))
         return GWB_CLOSED;
     const gwb session = *g; // which is not where it was, while something is made
-    const Making making(session);
+    const gwb *before = std::exchange(making, &session);
+    gwb_kind kind = GWB_OK;
+    calls = 0;
     try {
         call();
-        return GWB_OK;
     } catch (const Failure &failure) {
-        return told(failure, why);
+        kind = told(failure, why);
     } catch (const EndedByCaller &) {
-        return GWB_STOPPED;
+        kind = GWB_STOPPED;
     } catch (const std::bad_alloc &) {
-        return GWB_MEMORY;
+        kind = GWB_MEMORY;
     }
+    making = before;
+    return kind;
 }
 
 // ---- what was made, where the caller wants it
@@ -266,7 +257,8 @@ gwb_kind gwb_scale(gwb *g, int64_t factor, gwb_refusal *why)
 {
     return made(g, why, [&](Bench &bench, Lists &) {
         machining::require_sizes({factor});
-        copies::scale_all(bench, factor);
+        for (const sheets::Model &model : copies::all_read(bench))
+            sheets::make_anew(bench, copies::moved(model, Motion(), factor));
     });
 }
 
@@ -336,12 +328,12 @@ gwb_kind gwb_ring(gwb *g, uint32_t face, const gwb_point *points, size_t n, gwb_
 
 gwb_kind gwb_pocket(gwb *g, uint32_t face, const gwb_point *points, size_t n, int64_t depth, gwb_outline_made *out, uint32_t *sides, gwb_refusal *why)
 {
-    return made(g, why, [&](Bench &bench, Lists &) { put(machining::make_pocket(bench, Face(face), {points, n}, depth), out, sides); });
+    return made(g, why, [&](Bench &bench, Lists &) { put(machining::make_raised(bench, Face(face), {points, n}, depth, false), out, sides); });
 }
 
 gwb_kind gwb_boss(gwb *g, uint32_t face, const gwb_point *points, size_t n, int64_t height, gwb_outline_made *out, uint32_t *sides, gwb_refusal *why)
 {
-    return made(g, why, [&](Bench &bench, Lists &) { put(machining::make_boss(bench, Face(face), {points, n}, height), out, sides); });
+    return made(g, why, [&](Bench &bench, Lists &) { put(machining::make_raised(bench, Face(face), {points, n}, height, true), out, sides); });
 }
 
 gwb_kind gwb_hole(gwb *g, uint32_t face, const gwb_point *points, size_t n, gwb_outline_made *out, uint32_t *sides, gwb_refusal *why)

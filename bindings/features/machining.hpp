@@ -443,7 +443,7 @@ inline Pocket move_outline(Bench &bench, Face face, const Drawing &drawn, const 
 }
 
 /// The same by a length: up for a boss, down for a pocket. Where points would lie out of range a boss is refused, and a pocket would meet the far side.
-inline Pocket move_so_far(Bench &bench, Face face, Items<Point> points, std::int64_t length, bool is_boss)
+inline Pocket make_raised(Bench &bench, Face face, Items<Point> points, std::int64_t length, bool is_boss)
 {
     require_sizes({length});
     const Drawing drawn(bench, face, points);
@@ -452,9 +452,6 @@ inline Pocket move_so_far(Bench &bench, Face face, Items<Point> points, std::int
         throw is_boss ? refused(GWB_WHY_POINT_RANGE, 0) : impossible(Misfit::meets, face.number());
     return move_outline(bench, face, drawn, way);
 }
-
-inline Pocket make_pocket(Bench &bench, Face face, Items<Point> points, std::int64_t depth) { return move_so_far(bench, face, points, depth, false); }
-inline Pocket make_boss(Bench &bench, Face face, Items<Point> points, std::int64_t height) { return move_so_far(bench, face, points, height, true); }
 
 /// A hole: the face is the one that it ends in.
 inline Pocket make_hole(Bench &bench, Face face, Items<Point> points)

@@ -153,9 +153,6 @@ struct Band {
     }
 };
 
-/// How far a number lies beside a fraction, alike.
-inline Wide gap(Wide number, const Fraction &offset) { return Band{number, number}.gap(offset); }
-
 /// The offsets at which planes of one normal meet the ends of an edge, and those at which they meet a whole point of it.
 struct Span {
     Wide low, high;
@@ -190,7 +187,7 @@ inline std::vector<Band> bands_of(const std::vector<Span> &spans, const Fraction
 }
 
 /// The whole offsets beside a given one, below it and above, as near as the band allows, that all edges which are cut in the band may ask for.
-inline std::vector<Wide> asked_in(const Band &band, const Fraction &offset, const std::vector<Span> &spans)
+inline std::vector<Band> asked_in(const Band &band, const Fraction &offset, const std::vector<Span> &spans)
 {
     constexpr Wide wide_enough = Wide{1} << 62; // so that a band has two such numbers at most
     Congruence common;
@@ -202,8 +199,8 @@ inline std::vector<Wide> asked_in(const Band &band, const Fraction &offset, cons
             common = *both;
         }
     const Wide whole = (offset.numerator - Congruence::rest(offset.numerator, offset.denominator)) / offset.denominator;
-    const Wide below = common.at_most(std::min(band.high, std::max(band.low - 1, whole)));
-    return filtered(std::vector{below, below + common.modulus}, [&](Wide beside) { return band.low <= beside && beside <= band.high; });
+    const Wide below = common.at_most(std::min(band.high, std::max(band.low - 1, whole))), above = below + common.modulus;
+    return filtered(std::vector<Band>{{below, below}, {above, above}}, [&](const Band &one) { return band.low <= one.low && one.high <= band.high; });
 }
 
 /// How often a loop passes through a plane, given on which side each of its corners lies; none where it only touches it somewhere.
@@ -286,16 +283,16 @@ public:
         const Vector normal = reduced(plane_.across);
         const Fraction offset = Fraction::of(plane_.offset, parts_of(plane_.across));
         const auto spans = mapped(edges_, [&](const Side &side) { return span_of(normal, side); });
-        std::optional<Wide> best;
+        std::optional<Band> best;
         for (const Band &band : bands_of(spans, offset)) {
             go_on();
-            if (best && band.gap(offset) >= gap(*best, offset))
+            if (best && band.gap(offset) >= best->gap(offset))
                 break;
-            for (Wide beside : asked_in(band, offset, spans))
-                if ((!best || gap(beside, offset) < gap(*best, offset)) && is_whole({normal, beside}) && is_cuttable({normal, beside}))
-                    best = beside;
+            for (const Band &one : asked_in(band, offset, spans))
+                if ((!best || one.gap(offset) < best->gap(offset)) && is_whole({normal, one.low}) && is_cuttable({normal, one.low}))
+                    best = one;
         }
-        return best ? std::optional(near({normal, *best}, *square_moved({normal, *best}), true)) : std::nullopt;
+        return best ? std::optional(near({normal, best->low}, *square_moved({normal, best->low}), true)) : std::nullopt;
     }
 
     /// The nearest of those through whole points of three cut edges, nearest first; at most so many.
