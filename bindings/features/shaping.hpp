@@ -17,9 +17,8 @@ enum { lids, floors, walls };
 
 /// An end of an edge, and the points beside it in the two faces of the edge; where its slope meets others there, perhaps a point between.
 struct Corner {
-    Vector point, first, second;
+    Vector point, first, second, between = second;
     bool is_shared = false;
-    std::optional<Vector> between = {};
 };
 
 /// The prism under an outline, as deep as the vector says.
@@ -39,12 +38,7 @@ inline Tool prism(const Path &outline, const Vector &way)
 /// The wedge along an edge: its lid is the side at the first points, its floor the slope opposite to the edge.
 inline Tool wedge(const Corner &start, const Corner &end)
 {
-    Path slope = {start.first, end.first};
-    if (end.between)
-        slope.push_back(*end.between);
-    slope.insert(slope.end(), {end.second, start.second});
-    if (start.between)
-        slope.push_back(*start.between);
+    const Path slope = {start.first, end.first, end.between, end.second, start.second, start.between};
     Tool made;
     made[lids] = {{start.point, end.point, end.first, start.first}};
     made[floors] = {slope};
@@ -95,27 +89,6 @@ inline Tool groove_tool(Face face, const Plane &plane, const Path &ends, std::in
     return made;
 }
 
-/// The point on the way from a corner to the end of the side there, as far in as the step is; where the side runs the other way, square.
-inline Vector on_side(Face face, const Vector &corner, const Vector &end, const Vector &step)
-{
-    const Vector side = subtract(end, corner);
-    const Wide rise = dot(step, side), square = dot(step, step);
-    if (rise <= 0)
-        return add(corner, step);
-    if (square > rise)
-        throw impossible(Misfit::outline_outside, face.number());
-    return on_way(corner, side, square, rise).whole_at(face);
-}
-
-/// The point where the lines meet that lie so far from both sides of a corner as their steps.
-inline Vector beside_both(Face face, const Vector &corner, const Vector &step, const Vector &other)
-{
-    const Wide square = dot(step, step), sum = square + dot(step, other);
-    if (sum == 0)
-        throw impossible(Misfit::outline_outside, face.number());
-    return on_way(corner, add(step, other), square, sum).whole_at(face);
-}
-
 /// The way from a half-edge into its face, across it and so long.
 inline Vector inwards(const Bench &bench, HalfEdge half, std::int64_t length)
 {
@@ -123,16 +96,21 @@ inline Vector inwards(const Bench &bench, HalfEdge half, std::int64_t length)
     return steps_along(face, reduced(cross(plane_of(bench, face).across, side_at(bench, half).way())), length);
 }
 
-/// The points where the line at a distance from a half-edge, in its face, meets the sides before and after it; of those that have such a line too
-/// the line.
+/// The points where the line at a distance from a half-edge, in its face, meets the sides before and after it, square where these run the other way; of
+/// those that have such a line too the line.
 inline std::array<Vector, 2> setbacks(const Bench &bench, HalfEdge half, std::int64_t width, const std::set<Edge> &lined = {})
 {
     const Face face = bench.face_of(half);
     const Vector step = inwards(bench, half, width);
     const auto met = [&](HalfEdge side, HalfEdge corner, HalfEdge far) {
-        if (lined.count(side.edge()) == 0)
-            return on_side(face, start_of(bench, corner), start_of(bench, far), step);
-        return beside_both(face, start_of(bench, corner), step, inwards(bench, side, width));
+        const bool has_line = lined.count(side.edge()) != 0;
+        const Vector at = start_of(bench, corner), way = has_line ? add(step, inwards(bench, side, width)) : subtract(start_of(bench, far), at);
+        const Wide rise = dot(step, way), square = dot(step, step);
+        if (!has_line && rise <= 0)
+            return add(at, step);
+        if (has_line ? rise == 0 : square > rise)
+            throw impossible(Misfit::outline_outside, face.number());
+        return on_way(at, way, square, rise).whole_at(face);
     };
     const HalfEdge before = bench.previous(half), after = bench.next(half);
     return {met(before, half, before), met(after, half.twin(), after.twin())};
@@ -152,22 +130,14 @@ inline Vector common_point(const Bench &bench, const std::vector<End> &ends, con
     const auto across = [&](const End &end) { return reduced(cross(side_at(bench, end.half).way(), subtract(end.corner->second, end.corner->first))); };
     const Corner &one = *ends[0].corner, &other = *ends[1].corner;
     const Vector &start = one.first == other.first || one.first == other.second ? one.first : one.second;
-    Vector line = cross(across(ends[0]), across(ends[1]));
-    if (is_zero(line))
-        throw apart;
-    line = reduced(line);
-    const Vector third = across(ends[2]);
+    const Vector line = reduced(cross(across(ends[0]), across(ends[1]))), third = across(ends[2]);
     const Wide rise = dot(third, subtract(ends[2].corner->first, start));
-    const Face face = bench.face_of(ends[0].half);
-    if (rise == 0)
+    const bool is_steep = longest(line) > 4 * Wide{farthest}; // so far from the start lies no point in range
+    const Wide slope = is_steep ? 1 : dot(third, line);
+    if (is_zero(line) || rise == 0 || slope == 0)
         throw apart;
-    if (longest(line) > 4 * Wide{farthest}) // as far from the start as no point in range
-        throw impossible(Misfit::off_lattice, face.number());
-    const Wide slope = dot(third, line);
-    if (slope == 0)
-        throw apart;
-    if (rise % slope != 0)
-        throw impossible(Misfit::off_lattice, face.number());
+    if (is_steep || rise % slope != 0)
+        throw impossible(Misfit::off_lattice, bench.face_of(ends[0].half).number());
     if (magnitude(rise / slope) > 4 * Wide{farthest})
         throw refused(GWB_WHY_POINT_RANGE, 0);
     return add(start, times(line, rise / slope));
@@ -232,7 +202,7 @@ inline std::vector<Sheet> sheets_of(const Tool &tool, bool are_cut)
     std::vector<Sheet> sheets;
     for (const Path &seen : paths) {
         const Path path = are_cut ? backwards(seen) : seen;
-        const Cycle cycle = filtered(cycle_of(path), [](const Side &side) { return side.start != side.end; }); // (a strip may end in a point)
+        const Cycle cycle = filtered(cycle_of(path), [](const Side &side) { return side.start != side.end; }); // (points may stand for others too)
         sheets.push_back({Shape({cycle}), {Face()}, {sheets.size()}});
         if (!sheets.back().is_flat())
             throw refused(GWB_WHY_NOT_FLAT, 0);
