@@ -117,11 +117,10 @@ inline bool is_coped_with(const Failure &failure)
 /// The faces of a solid above a number that lie in a plane.
 inline std::vector<Face> faces_in(const Bench &bench, Solid solid, Face above, const Plane &plane)
 {
-    std::vector<Face> found;
-    for (Face face : bench.faces(solid))
-        if (face > above && lie_in(joined(cycles_at(bench, face)), plane))
-            found.push_back(face);
-    return found;
+    const auto faces = bench.faces(solid);
+    return filtered(std::vector<Face>(faces.begin(), faces.end()), [&](Face face) {
+        return face > above && lie_in(joined(cycles_at(bench, face)), plane);
+    });
 }
 
 /// The command split, and the caps.

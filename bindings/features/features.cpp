@@ -112,38 +112,34 @@ void list(const Split &made, Lists &lists)
 
 // ---- what is made
 
-/// Makes something as one command.
-template <class Make> void make_at_once(gwb *g, Make make)
-{
-    const struct beside &of = *beside_of(g);
-    machining::Surroundings &known = machining::Surroundings::at(*beside_of(g));
-    const std::uint64_t before = of.changes;
-    const bool was_known = known.changes == before;
-    for (auto &list : known.lists)
-        list.clear();
-    try {
-        Borrowed session(g);
-        const Borrowed::Steps commands(session.handle());
-        if (!commands.are_begun())
-            throw Failure{commands.kind() == GWB_MEMORY ? Problem::memory : Problem::closed};
-        make(session, known.lists);
-        commands.keep();
-    } catch (const Failure &) {
-        if (was_known && known.changes == before) // it is again what it was
-            known.changes = of.changes;
-        throw;
-    }
-}
-
-/// The same, in the heap of the session. What makes something is given the session, and the lists for what it tells by them. In the end, when nothing
-/// can be refused any more, it writes what the caller is told.
+/// Makes something as one command, in the heap of the session. What makes something is given the session, and the lists for what it tells by them. In the
+/// end, when nothing can be refused any more, it writes what the caller is told.
 template <class Make> gwb_kind made(gwb *g, gwb_refusal *why, Make make) noexcept
 {
     if (!gwb_is_open(g))
         return GWB_CLOSED;
-    const gwb_heap *before = gwb_use_heap(beside_of(g)->heap);
-    const gwb_kind kind = guarded(g, why, [&] { make_at_once(g, make); });
-    gwb_use_heap(before);
+    struct beside &of = *beside_of(g);
+    const gwb_heap *heap = gwb_use_heap(of.heap);
+    const gwb_kind kind = guarded(g, why, [&] {
+        machining::Surroundings &known = machining::Surroundings::at(of);
+        const std::uint64_t before = of.changes;
+        const bool was_known = known.changes == before;
+        for (auto &list : known.lists)
+            list.clear();
+        try {
+            Borrowed session(g);
+            const Borrowed::Steps commands(session.handle());
+            if (!commands.are_begun())
+                throw Failure{commands.kind() == GWB_MEMORY ? Problem::memory : Problem::closed};
+            make(session, known.lists);
+            commands.keep();
+        } catch (const Failure &) {
+            if (was_known && known.changes == before) // it is again what it was
+                known.changes = of.changes;
+            throw;
+        }
+    });
+    gwb_use_heap(heap);
     return kind;
 }
 

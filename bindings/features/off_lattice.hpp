@@ -103,8 +103,6 @@ private:
 /// The offset of a plane lies within this.
 constexpr Wide farthest_offset = 3 * Wide{farthest} * farthest;
 
-/// Whether a plane cuts a side between its ends.
-inline bool is_cut(const Side &side, const Plane &plane) { return sign(plane.height(side.start)) * sign(plane.height(side.end)) < 0; }
 /// How far along a side a plane meets it: 0 at its start, 1 at its end.
 inline Fraction met(const Side &side, const Plane &plane)
 {
@@ -203,14 +201,14 @@ inline std::vector<Band> asked_in(const Band &band, const Fraction &offset, cons
     return filtered(std::vector<Band>{{below, below}, {above, above}}, [&](const Band &one) { return band.low <= one.low && one.high <= band.high; });
 }
 
-/// How often a loop passes through a plane, given on which side each of its corners lies; none where it only touches it somewhere.
-inline std::optional<int> cut_places(const std::vector<int> &places)
+/// How often a loop passes through a plane, given on which side each of its corners lies; -1 where it only touches it somewhere.
+inline int cut_places(const std::vector<int> &places)
 {
     int count = 0;
     for (std::size_t at = 0; at < places.size(); at++) {
         const int before = places[(at + places.size() - 1) % places.size()], place = places[at], after = places[(at + 1) % places.size()];
         if (place == 0 && before * after >= 0)
-            return std::nullopt;
+            return -1;
         count += place == 0 || place * after < 0;
     }
     return count;
@@ -225,10 +223,9 @@ inline bool is_drawn(const std::vector<Cycle> &loops, const Plane &plane)
     if (*least >= 0 || *greatest <= 0)
         return true;
     const auto counts = mapped(loops, [&](const Cycle &loop) { return cut_places(mapped(loop, place)); });
-    if (counts[0] == 0 || any(counts, [](const auto &count) { return !count; }))
+    if (counts[0] == 0 || any(counts, [](int count) { return count < 0; }))
         return false;
-    const auto sum = std::accumulate(counts.begin(), counts.end(), 0, [](int before, const auto &count) { return before + *count; });
-    return sum == 2 || all(counts, [](const auto &count) { return *count != 0; });
+    return std::accumulate(counts.begin(), counts.end(), 0) == 2 || all(counts, [](int count) { return count != 0; });
 }
 
 /// The square of how far a cut moves: as a fraction where that fits, and as what is nearest.
@@ -262,7 +259,9 @@ public:
             faces_.push_back(cycles_at(bench, face));
         }
         edges_ = mapped(selection::edges(bench, {solid.number(), {}, nullptr, nullptr}), [&](Edge edge) { return side_at(bench, plus(edge)); });
-        const auto others = std::stable_partition(edges_.begin(), edges_.end(), [&](const Side &side) { return is_cut(side, plane); });
+        const auto others = std::stable_partition(edges_.begin(), edges_.end(), [&](const Side &side) {
+            return sign(plane.height(side.start)) * sign(plane.height(side.end)) < 0;
+        });
         cuts_.assign(edges_.begin(), others);
     }
 

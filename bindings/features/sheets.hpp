@@ -223,17 +223,12 @@ private:
             if (any(beyond, [&](std::size_t other) { return joined_.name(other) == joined_.name(place); }))
                 continue;
             Side run = sheets_[place].is_facing() ? piece : piece.turned();
-            run.half = old_half(place, parts, run);
+            // the old half-edge that it is a part of, as it runs: that of the sheet, or of another one, or none
+            const auto rank = [&](const Part &part) { return !part.side.is_old() ? 0 : part.place == place && part.side.start == run.start ? 2 : 1; };
+            const Side &old = std::max_element(parts.begin(), parts.end(), [&](const Part &a, const Part &b) { return rank(a) < rank(b); })->side;
+            run.half = old.start == run.start ? old.half : old.turned().half;
             kept_[place].push_back(run);
         }
-    }
-
-    /// The old half-edge that a piece is a part of, as it runs: that of the sheet, or of another one, or none.
-    static HalfEdge old_half(std::size_t place, const std::vector<Part> &parts, const Side &run)
-    {
-        const auto rank = [&](const Part &part) { return !part.side.is_old() ? 0 : part.place == place && part.side.start == run.start ? 2 : 1; };
-        const Side &found = std::max_element(parts.begin(), parts.end(), [&](const Part &a, const Part &b) { return rank(a) < rank(b); })->side;
-        return found.start == run.start ? found.half : found.turned().half;
     }
 
     /// A held and an added sheet that look one way on both sides of a piece become one.
