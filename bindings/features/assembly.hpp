@@ -18,6 +18,8 @@ struct Model {
     std::map<Edge, std::pair<Vertex, Vertex>> edges;
     std::map<Vertex, Vector> vertices;
 
+    explicit Model(Solid of = {}) : solid(of) {}
+
     /// The cycles of a face, the outline first.
     [[nodiscard]] std::vector<Cycle> cycles(Face face) const
     {
@@ -51,7 +53,7 @@ struct Model {
     /// All of a solid.
     static Model whole(const Bench &bench, Solid solid)
     {
-        Model found{solid, {}, {}, {}, {}, {}};
+        Model found(solid);
         for (Face face : bench.faces(solid))
             for (Loop loop : bench.loops_of(face))
                 found.read(bench, face, loop);
@@ -176,10 +178,32 @@ private:
 
 // ---- a closed surface of regions
 
-/// The model of a surface, and the face that each of its regions is.
-struct Made {
+/// Faces with their regions.
+using Regions = std::map<Face, const Sheet *>;
+
+/// The model of a surface, and its regions, which know their faces.
+struct Combined {
     Model model;
-    std::vector<Face> of_regions;
+    std::vector<Sheet> regions;
+
+    /// The faces that added sheets went into, rising, by the places of these among the added ones: so many from one on.
+    [[nodiscard]] std::vector<Face> marked(std::size_t from, std::size_t count) const
+    {
+        const auto is_marked = [&](std::size_t mark) { return from <= mark && mark - from < count; };
+        const auto found = filtered(regions, [&](const Sheet &region) { return any(region.marks, is_marked); });
+        std::vector<Face> faces = mapped(found, [](const Sheet &region) { return region.face; });
+        std::sort(faces.begin(), faces.end());
+        return faces;
+    }
+    /// What a face went into.
+    [[nodiscard]] Regions became(Face face) const
+    {
+        Regions found;
+        for (const Sheet &region : regions)
+            if (any(region.owners, [&](Face owner) { return owner == face; }))
+                found.emplace(region.face, &region);
+        return found;
+    }
 };
 
 /// A closed surface of regions put together: sides, what follows each in its loop, and the mate of each. What was there before keeps its numbers,
@@ -188,7 +212,7 @@ class Assembly {
 public:
     Assembly(const Held &held, const std::vector<Sheet> &regions, AllNames &names) : held_(held), regions_(regions), names_(names)
     {
-        for (const Sheet &region : regions) {
+        for (const Sheet &region : regions_) {
             go_on();
             starts_.push_back(mapped(region.cycles, [&](const Cycle &cycle) { return put(cycle, &region); }));
         }
@@ -197,20 +221,19 @@ public:
     }
 
     /// The model of a solid, without the rest; none where the surface isn't closed, or faces lie back to back at an edge.
-    std::optional<Made> made(Solid solid)
+    std::optional<Combined> made(Solid solid)
     {
         pair_whole();
         if (!pair_along_lines())
             return std::nullopt;
         for (Placed &placed : sides_)
             placed.goes_on = divides(placed);
-        Made made;
-        made.model.solid = solid;
-        name_vertices(made.model);
-        name_edges(made.model);
+        Model made(solid);
+        name_vertices(made);
+        name_edges(made);
         for (std::size_t region = 0; region < regions_.size(); region++)
             name_face(made, regions_[region], starts_[region]);
-        return made;
+        return Combined{made, regions_};
     }
 
 private:
@@ -423,7 +446,7 @@ private:
         return found;
     }
 
-    void name_face(Made &made, const Sheet &region, const Row &starts)
+    void name_face(Model &made, Sheet &region, const Row &starts)
     {
         std::vector<Loop> row;
         for (const Placed *start : starts) {
@@ -433,15 +456,15 @@ private:
                 if (const Side whole = edge->whole(); whole.is_old())
                     wanted.push_back(held_.loop_of(whole.half));
             row.push_back(names_.loops.one(wanted));
-            made.model.loops[row.back()] = from_least(mapped(edges, [](const Placed *edge) { return edge->half; }));
+            made.loops[row.back()] = from_least(mapped(edges, [](const Placed *edge) { return edge->half; }));
         }
         std::sort(row.begin() + 1, row.end());
-        made.of_regions.push_back(names_.faces.one(region.owners));
-        made.model.faces[made.of_regions.back()] = row;
+        region.face = names_.faces.one(region.owners);
+        made.faces[region.face] = row;
     }
 
     const Held &held_;
-    const std::vector<Sheet> &regions_;
+    std::vector<Sheet> regions_;
     AllNames &names_;
     std::deque<Placed> sides_; // which stay where they are
     std::vector<Row> starts_;

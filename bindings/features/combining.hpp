@@ -21,7 +21,7 @@ struct Part {
 /// not all are wanted.
 inline Part part_near(const Bench &bench, const Surface &surface, Solid solid, const Box &box, bool all_rings)
 {
-    Part found{{solid, {}, {}, {}, {}, {}}, {}};
+    Part found{Model(solid), {}};
     for (const auto &row : surface.near(bench, box)) {
         const Face face = row.first;
         const std::vector<Loop> &near = row.second;
@@ -64,36 +64,6 @@ inline std::vector<Sheet> sheets_of(const Model &model)
 
 // ---- what is made
 
-/// Faces with their regions.
-using Regions = std::map<Face, const Sheet *>;
-
-/// The regions that sheets came to, and the faces that they are.
-struct Combined {
-    std::vector<Sheet> regions;
-    Made made;
-
-    /// The faces that added sheets went into, rising, by the places of these among the added ones: so many from one on.
-    [[nodiscard]] std::vector<Face> marked(std::size_t from, std::size_t count) const
-    {
-        const auto is_marked = [&](std::size_t mark) { return from <= mark && mark - from < count; };
-        std::vector<Face> found;
-        for (std::size_t at = 0; at < regions.size(); at++)
-            if (any(regions[at].marks, is_marked))
-                found.push_back(made.of_regions[at]);
-        std::sort(found.begin(), found.end());
-        return found;
-    }
-    /// What a face went into.
-    [[nodiscard]] Regions became(Face face) const
-    {
-        Regions found;
-        for (std::size_t at = 0; at < regions.size(); at++)
-            if (std::find(regions[at].owners.begin(), regions[at].owners.end(), face) != regions[at].owners.end())
-                found.emplace(made.of_regions[at], &regions[at]);
-        return found;
-    }
-};
-
 /// Whether near a box models meet or touch themselves as none of those before did.
 inline bool touch_anew(std::initializer_list<const Model *> before, std::initializer_list<const Model *> after, const Box &box)
 {
@@ -118,15 +88,14 @@ Combined combined(const Bench &bench, const Model &part, const std::vector<Sheet
         throw regions.error().is(Misfit::off_lattice) ? regions.error() : why;
     if (regions->empty() && all(bench.faces(part.solid), [&](Face face) { return part.faces.count(face) != 0; }))
         throw impossible(Misfit::nothing_left, part.solid.number());
-    const Held held(bench, part.with({}, other));
-    std::optional<Made> made = Assembly(held, *regions, names).made(part.solid);
-    if (!made)
+    const Held held(bench, part.with(Model(), other));
+    const std::optional<Combined> found = Assembly(held, *regions, names).made(part.solid);
+    if (!found)
         throw why;
-    Combined found{std::move(*regions), std::move(*made)};
-    check(found, sheets);
-    if (touch_anew({&part, &other}, {&found.made.model}, box_of(added)) || comes_into(sheets, added))
+    check(*found, sheets);
+    if (touch_anew({&part, &other}, {&found->model}, box_of(added)) || comes_into(sheets, added))
         throw why;
-    return found;
+    return *found;
 }
 
 /// The operators that move rings of a face that weren't looked at to those faces that it went into in which they lie; none where all corners of one
@@ -157,7 +126,7 @@ inline std::optional<std::vector<Operator>> operators_for(const Bench &bench, co
 {
     if (any(part.fast, [&](Face face) { return combined.became(face).count(face) == 0; }))
         return std::nullopt;
-    auto operators = changing::operators_between(changing::Pair{part.model, combined.made.model, part.fast}, names);
+    auto operators = changing::operators_between(changing::Pair{part.model, combined.model, part.fast}, names);
     for (Face face : part.fast)
         if (const Regions became = combined.became(face); operators && became.size() > 1) {
             const auto moved = moves(bench, surface, face, part.model.faces.at(face), became);
@@ -193,15 +162,15 @@ Combined make_near(Bench &bench, Solid solid, const std::vector<Sheet> &added, c
         if (!other.faces.empty())
             take_away(bench, other.solid);
         if (!operators) {
-            make_anew(bench, Model::whole(bench, solid).with(part.model, found.made.model));
+            make_anew(bench, Model::whole(bench, solid).with(part.model, found.model));
             return found;
         }
         give(bench, *operators);
         known.follow(bench, solid, [&](Surface &of) {
             for (const auto &[face, loops] : part.model.faces)
                 of.forget(face, loops);
-            for (const auto &[face, loops] : found.made.model.faces)
-                of.put(face, loops, found.made.model.cycles(face));
+            for (const auto &[face, loops] : found.model.faces)
+                of.put(face, loops, found.model.cycles(face));
         });
         return found;
     }

@@ -97,7 +97,7 @@ inline Model moved(Model model, const Motion &motion, Wide factor = 1)
 /// The model with other numbers. Each edge runs as it did.
 inline Model numbered(const Model &model, const Numbering &numbers, Solid solid)
 {
-    Model made{solid, {}, {}, {}, {}, {}};
+    Model made(solid);
     const auto put = [](auto &all, auto number, auto row) { all.emplace_hint(all.end(), number, std::move(row)); }; // (they rise, but in gaps)
     for (const auto &[face, loops] : model.faces) {
         std::vector<Loop> row = mapped(loops, [&](Loop loop) { return numbers.of(loop); });

@@ -81,10 +81,10 @@ inline Combined part_below(const Held &held, const std::vector<Sheet> &sheets, c
     for (const std::vector<Cycle> &cycles : Traced(open_sides(left, plane), plane.across, meets).regions())
         caps.push_back({Shape(cycles), {Face()}, {caps.size()}});
     Result<std::vector<Sheet>> laid = tried([&] { return overlaid(left, caps); });
-    std::optional<Made> made = laid ? Assembly(held, *laid, names).made(solid) : std::nullopt;
+    const std::optional<Combined> made = laid ? Assembly(held, *laid, names).made(solid) : std::nullopt;
     if (!made)
         throw meets;
-    return Combined{std::move(*laid), std::move(*made)};
+    return *made;
 }
 
 // ---- what is cut
@@ -142,13 +142,13 @@ inline Split cut_by_faces(Bench &bench, Solid solid, const Plane &plane, const P
     Combined upper;
     if (is_wanted)
         upper = part_below(held, sheets, plane.turned(), above, names);
-    require_apart(held.model, corners, {&lower.made.model, &upper.made.model});
-    if (const auto operators = changing::operators_between({held.model, lower.made.model}, names))
+    require_apart(held.model, corners, {&lower.model, &upper.model});
+    if (const auto operators = changing::operators_between({held.model, lower.model}, names))
         give(bench, *operators);
     else
-        make_anew(bench, lower.made.model);
+        make_anew(bench, lower.model);
     if (is_wanted)
-        bench.load(upper.made.model.listing());
+        bench.load(upper.model.listing());
     return Split{above, lower.marked(0, SIZE_MAX), upper.marked(0, SIZE_MAX)};
 }
 

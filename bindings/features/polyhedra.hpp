@@ -10,7 +10,7 @@ using namespace sheets;
 /// A solid put together of faces, whose corners are told by their places among points.
 class Corners {
 public:
-    Corners(const Bench &bench, Solid solid, Items<Point> points) : names_(bench), model_{solid, {}, {}, {}, {}, {}}
+    Corners(const Bench &bench, Solid solid, Items<Point> points) : names_(bench), model_(solid)
     {
         for (const Point &at : points) {
             if (!is_in_range(vector(at)))

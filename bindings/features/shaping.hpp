@@ -219,9 +219,9 @@ inline Combined change(Bench &bench, Face face, const Tool &tool, bool is_cut)
         throw tool[lids].size() > 1 && added.error().is(GWB_WHY_NOT_FLAT) ? meets : added.error();
     const Solid solid = bench.face(face).solid;
     if (tool[lids].size() > 1) { // whose parts may meet or touch each other elsewhere than at their sides
-        const Held nothing(bench, Model{solid, {}, {}, {}, {}, {}});
+        const Held nothing(bench, Model(solid));
         AllNames names(bench);
-        const std::optional<Made> made = Assembly(nothing, *added, names).made(solid);
+        const std::optional<Combined> made = Assembly(nothing, *added, names).made(solid);
         if (!made || !Findings(made->model, box_of(*added)).found.empty())
             throw meets;
     }

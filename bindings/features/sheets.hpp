@@ -15,6 +15,7 @@ using namespace machining;
 struct Sheet : Shape {
     std::vector<Face> owners;
     std::vector<std::size_t> marks;
+    Face face = {}; ///< of a region, the one that it is
 
     [[nodiscard]] bool is_added() const { return !marks.empty(); }
     /// Whether it looks the way of its plane's normal.

@@ -14,10 +14,10 @@ public:
     void follow(const Bench &bench, const Combined &combined)
     {
         std::map<Face, std::set<Face>> now;
-        for (std::size_t at = 0; at < combined.regions.size(); at++)
-            for (Face owner : combined.regions[at].owners) {
+        for (const Sheet &region : combined.regions)
+            for (Face owner : region.owners) {
                 const std::set<Face> &known = sources_.try_emplace(owner, std::set<Face>{owner}).first->second;
-                now[combined.made.of_regions[at]].insert(known.begin(), known.end());
+                now[region.face].insert(known.begin(), known.end());
             }
         for (const auto &[face, sources] : std::exchange(sources_, now))
             if (has(bench.attempt().face(face))) // what isn't there went into others, or nothing is left of it
