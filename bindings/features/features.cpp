@@ -121,7 +121,9 @@ template <class Make> gwb_kind made(gwb *g, gwb_refusal *why, Make make) noexcep
     struct beside &of = *beside_of(g);
     const gwb_heap *heap = gwb_use_heap(of.heap);
     const gwb_kind kind = guarded(g, why, [&] {
-        machining::Surroundings &known = machining::Surroundings::at(of);
+        if (of.known == nullptr)
+            of.known = new machining::Surroundings();
+        auto &known = *static_cast<machining::Surroundings *>(of.known);
         const std::uint64_t before = of.changes;
         const bool was_known = known.changes == before;
         for (auto &list : known.lists)

@@ -202,14 +202,6 @@ public:
         return known;
     }
 
-    /// What is kept with a session, and is made where there is none.
-    static Surroundings &at(struct beside &session)
-    {
-        if (session.known == nullptr)
-            session.known = new Surroundings();
-        return *static_cast<Surroundings *>(session.known);
-    }
-
     /// The surface of a solid, which is read where it isn't known.
     const Surface &surface(const Bench &bench, Solid solid) { return surfaces_.try_emplace(solid, bench, solid).first->second; }
 

@@ -65,25 +65,14 @@ struct OffLattice {
             if (!cut.is_whole())
                 text += "# edge " + std::to_string(cut.edge.number()) + " is cut at " + cut.point[0].text() + " " + cut.point[1].text() + " " +
                         cut.point[2].text() + "\n";
-        return text + scaled(above) + nearby(above);
-    }
-
-private:
-    [[nodiscard]] std::string scaled(Solid above) const
-    {
-        const std::string times = "# times " + (factor != 0 ? Fraction::digits(factor) : "more than 10^36");
+        const std::string times = factor != 0 ? Fraction::digits(factor) : "more than 10^36";
         if (!fits)
-            return times + " all points are whole, but the model would lie past 1,000,000,000\n";
-        if (factor == 1)
-            return "";
-        const auto offset = static_cast<std::int64_t>(plane.d * factor);
-        return times + " (gwb-script --scale " + Fraction::digits(factor) + ") all points are whole:\n" +
-               split({plane.a, plane.b, plane.c, offset}, above);
-    }
-    [[nodiscard]] std::string nearby(Solid above) const
-    {
-        const bool has_parallel = !near.empty() && near.front().is_parallel;
-        std::string text = has_parallel || factor == 1 ? "" : "# no parallel plane cuts at whole points\n";
+            text += "# times " + times + " all points are whole, but the model would lie past 1,000,000,000\n";
+        else if (factor != 1)
+            text += "# times " + times + " (gwb-script --scale " + times + ") all points are whole:\n" +
+                    split({plane.a, plane.b, plane.c, static_cast<std::int64_t>(plane.d * factor)}, above);
+        if (factor != 1 && (near.empty() || !near.front().is_parallel))
+            text += "# no parallel plane cuts at whole points\n";
         for (const gwb_near_plane &beside : near) {
             const auto hundredths = static_cast<std::int64_t>(beside.moved * 100 + 0.5);
             text += std::string(beside.is_parallel ? "# parallel" : "# tilted") + ", the cut moves by at most " + std::to_string(hundredths / 100) + "." +
@@ -91,6 +80,8 @@ private:
         }
         return text;
     }
+
+private:
     [[nodiscard]] std::string split(const gwb_cut_plane &by, Solid above) const
     {
         std::string text = "split " + std::to_string(solid.number());

@@ -202,18 +202,14 @@ private:
             found.push_back(made);
             return;
         }
-        const Traced traced(places.size() > 2 ? without_seams(sides) : sides, made.plane.across, impossible(Misfit::meets, 0));
-        for (const std::vector<Cycle> &cycles : traced.regions())
+        if (places.size() > 2) { // without seams, which are there in both directions
+            std::set<Ends> ways;
+            for (const Side &side : sides)
+                ways.insert({side.start, side.end});
+            sides = filtered(sides, [&](const Side &side) { return ways.count({side.end, side.start}) == 0; });
+        }
+        for (const std::vector<Cycle> &cycles : Traced(sides, made.plane.across, impossible(Misfit::meets, 0)).regions())
             found.push_back({{made.plane, cycles}, made.owners, made.marks});
-    }
-
-    /// The sides without those that are there in both directions.
-    static std::vector<Side> without_seams(const std::vector<Side> &sides)
-    {
-        std::set<Ends> ways;
-        for (const Side &side : sides)
-            ways.insert({side.start, side.end});
-        return filtered(sides, [&](const Side &side) { return ways.count({side.end, side.start}) == 0; });
     }
 
     /// The piece is a side of these sheets, which lie left of it as it runs, seen from where the plane's normal points; not of those that became one
