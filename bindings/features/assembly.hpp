@@ -305,33 +305,27 @@ private:
     bool pair_on_line(const Vector &way, const Row &line)
     {
         go_on();
-        std::map<Wide, Vector> stops;
+        std::set<Vector> stops;
         for (const Placed *placed : line)
-            for (const Vector &end : {placed->side.start, placed->side.end})
-                stops.emplace(dot(way, end), end);
-        std::map<Wide, Row> parts; // by where they begin along the line
+            stops.insert({placed->side.start, placed->side.end});
+        std::map<Vector, Row> parts; // by where they begin along the line
         for (Placed *placed : line)
-            cut(placed, way, stops, parts);
+            cut(placed, stops, parts);
         return all(parts, [&](const auto &part) { return pair(part.second, way); });
     }
 
     /// A side becomes parts that end where sides of its line do.
-    void cut(Placed *placed, const Vector &way, const std::map<Wide, Vector> &stops, std::map<Wide, Row> &parts)
+    void cut(Placed *placed, const std::set<Vector> &stops, std::map<Vector, Row> &parts)
     {
         const Side side = placed->side;
-        const auto [low, high] = std::minmax({dot(way, side.start), dot(way, side.end)});
-        Path points;
-        for (auto stop = stops.find(low); stop != stops.end() && stop->first <= high; ++stop)
-            points.push_back(stop->second);
-        if (placed->runs_back(way))
+        Path points(stops.lower_bound(std::min(side.start, side.end)), stops.upper_bound(std::max(side.start, side.end)));
+        if (side.end < side.start)
             std::reverse(points.begin(), points.end());
         for (std::size_t at = 1; at < points.size(); at++) {
-            if (at > 1) {
-                Placed &next = sides_.emplace_back(Placed{side, placed->region, placed->after});
-                placed = placed->after = &next;
-            }
+            if (at > 1)
+                placed = placed->after = &sides_.emplace_back(Placed{side, placed->region, placed->after});
             placed->side = {points[at - 1], points[at], side.half};
-            parts[std::min(dot(way, points[at - 1]), dot(way, points[at]))].push_back(placed);
+            parts[std::min(points[at - 1], points[at])].push_back(placed);
         }
     }
 

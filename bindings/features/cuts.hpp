@@ -123,17 +123,20 @@ inline std::vector<Face> faces_in(const Bench &bench, Solid solid, Face above, c
     });
 }
 
-/// The command split, and the caps.
-inline Split split(Bench &bench, Solid solid, const Plane &plane, Solid above)
+/// The faces that close the part below a plane, and those that close the one above.
+using Caps = std::array<std::vector<Face>, 2>;
+
+/// The command split.
+inline Caps split(Bench &bench, Solid solid, const Plane &plane, Solid above)
 {
     const Face before = bench.greatest<Face>();
     const gwb_cut_plane row = plane.row();
     bench.split(solid, row.a, row.b, row.c, row.d, above);
-    return Split{above, faces_in(bench, solid, before, plane), faces_in(bench, above, before, plane)};
+    return {faces_in(bench, solid, before, plane), faces_in(bench, above, before, plane)};
 }
 
 /// Cuts a solid face by face. What lies above may not be wanted.
-inline Split cut_by_faces(Bench &bench, Solid solid, const Plane &plane, const Path &corners, Solid above, bool is_wanted)
+inline Caps cut_by_faces(Bench &bench, Solid solid, const Plane &plane, const Path &corners, Solid above, bool is_wanted)
 {
     const Held held(bench, Model::whole(bench, solid));
     const std::vector<Sheet> sheets = sheets_of(held.model);
@@ -149,15 +152,15 @@ inline Split cut_by_faces(Bench &bench, Solid solid, const Plane &plane, const P
         make_anew(bench, lower.model);
     if (is_wanted)
         bench.load(upper.model.listing());
-    return Split{above, lower.marked(0, SIZE_MAX), upper.marked(0, SIZE_MAX)};
+    return {lower.marked(0, SIZE_MAX), upper.marked(0, SIZE_MAX)};
 }
 
 /// What lies above a plane becomes another solid, or goes where it isn't wanted.
-inline Split cut(Bench &bench, Solid solid, const Plane &plane, Solid above, bool is_wanted)
+inline Caps cut(Bench &bench, Solid solid, const Plane &plane, Solid above, bool is_wanted)
 {
     const Path corners = corners_in(bench, solid, plane);
     const Model before = corners.empty() ? Model() : Model::whole(bench, solid);
-    Result<Split> caps = tried([&] { return split(bench, solid, plane, above); });
+    Result<Caps> caps = tried([&] { return split(bench, solid, plane, above); });
     if (!caps && !is_coped_with(caps.error()))
         throw caps.error();
     if (!caps)
@@ -167,7 +170,7 @@ inline Split cut(Bench &bench, Solid solid, const Plane &plane, Solid above, boo
         require_apart(before, corners, {&lower, &upper});
     }
     if (!is_wanted) {
-        caps->upper_caps.clear();
+        (*caps)[1].clear();
         take_away(bench, above);
     }
     return *caps;

@@ -98,16 +98,11 @@ void put(const Pocket &made, gwb_outline_made *to, std::uint32_t *sides)
     put(made.sides, sides);
 }
 
-/// What is told by lists, which take memory.
-void list(const Notch &made, Lists &lists)
+/// What is told by a list and the next one, which take memory.
+void list(gwb_list first, const std::array<std::vector<Face>, 2> &made, Lists &lists)
 {
-    lists[GWB_MADE_FLOOR] = mapped(made.floor, number_of);
-    lists[GWB_MADE_WALLS] = mapped(made.walls, number_of);
-}
-void list(const Split &made, Lists &lists)
-{
-    lists[GWB_MADE_LOWER_CAPS] = mapped(made.lower_caps, number_of);
-    lists[GWB_MADE_UPPER_CAPS] = mapped(made.upper_caps, number_of);
+    for (std::size_t at = 0; at < made.size(); at++)
+        lists[first + at] = mapped(made[at], number_of);
 }
 
 // ---- what is made
@@ -271,18 +266,22 @@ gwb_kind gwb_glue_all(gwb *g, const uint32_t *solids, size_t n, gwb_refusal *why
 
 gwb_kind gwb_split_solid(gwb *g, uint32_t solid, const gwb_cut_plane *plane, uint32_t above, gwb_refusal *why)
 {
-    return made(g, why, [&](Bench &bench, Lists &lists) { list(cuts::split(bench, Solid(solid), exact::Plane::of(*plane), Solid(above)), lists); });
+    return made(g, why, [&](Bench &bench, Lists &lists) {
+        list(GWB_MADE_LOWER_CAPS, cuts::split(bench, Solid(solid), exact::Plane::of(*plane), Solid(above)), lists);
+    });
 }
 
 gwb_kind gwb_cut(gwb *g, uint32_t solid, const gwb_cut_plane *plane, uint32_t above, gwb_refusal *why)
 {
-    return made(g, why, [&](Bench &bench, Lists &lists) { list(cuts::cut(bench, Solid(solid), exact::Plane::of(*plane), Solid(above), true), lists); });
+    return made(g, why, [&](Bench &bench, Lists &lists) {
+        list(GWB_MADE_LOWER_CAPS, cuts::cut(bench, Solid(solid), exact::Plane::of(*plane), Solid(above), true), lists);
+    });
 }
 
 gwb_kind gwb_trim(gwb *g, uint32_t solid, const gwb_cut_plane *plane, gwb_refusal *why)
 {
     return made(g, why, [&](Bench &bench, Lists &lists) {
-        list(cuts::cut(bench, Solid(solid), exact::Plane::of(*plane), bench.next_free<Solid>(), false), lists);
+        list(GWB_MADE_LOWER_CAPS, cuts::cut(bench, Solid(solid), exact::Plane::of(*plane), bench.next_free<Solid>(), false), lists);
     });
 }
 
@@ -290,7 +289,7 @@ gwb_kind gwb_union(gwb *g, const uint32_t *solids, size_t n, gwb_refusal *why)
 {
     if (n < 2 || !are_different(solids, n))
         return no_call(g);
-    return made(g, why, [&](Bench &bench, Lists &lists) { uniting::unite(bench, std::vector<Solid>(solids, solids + n)).tell(lists[GWB_MADE_INTO]); });
+    return made(g, why, [&](Bench &bench, Lists &lists) { uniting::tell(uniting::unite(bench, std::vector<Solid>(solids, solids + n)), lists[GWB_MADE_INTO]); });
 }
 
 gwb_kind gwb_profile(gwb *g, uint32_t solid, const gwb_point *points, size_t n, const gwb_point *along, gwb_profile_made *out, uint32_t *sides,
@@ -352,26 +351,26 @@ gwb_kind gwb_drill(gwb *g, uint32_t face, const gwb_point *center, int64_t radiu
 
 gwb_kind gwb_notch(gwb *g, uint32_t face, const gwb_point *points, size_t n, int64_t depth, gwb_refusal *why)
 {
-    return made(g, why, [&](Bench &bench, Lists &lists) { list(shaping::cut_in_face(bench, Face(face), {points, n}, shaping::notch_tool, depth), lists); });
+    return made(g, why, [&](Bench &bench, Lists &lists) { list(GWB_MADE_FLOOR, shaping::cut_in_face(bench, Face(face), {points, n}, shaping::notch_tool, depth), lists); });
 }
 
 gwb_kind gwb_slot(gwb *g, uint32_t face, const gwb_point *start, const gwb_point *end, int64_t width, int64_t depth, gwb_refusal *why)
 {
     return made(g, why, [&](Bench &bench, Lists &lists) {
-        list(shaping::cut_in_face(bench, Face(face), {*start, *end}, shaping::slot_tool, width, depth), lists);
+        list(GWB_MADE_FLOOR, shaping::cut_in_face(bench, Face(face), {*start, *end}, shaping::slot_tool, width, depth), lists);
     });
 }
 
 gwb_kind gwb_groove(gwb *g, uint32_t face, const gwb_point *start, const gwb_point *end, int64_t width, int64_t depth, gwb_refusal *why)
 {
     return made(g, why, [&](Bench &bench, Lists &lists) {
-        list(shaping::cut_in_face(bench, Face(face), {*start, *end}, shaping::groove_tool, width, depth), lists);
+        list(GWB_MADE_FLOOR, shaping::cut_in_face(bench, Face(face), {*start, *end}, shaping::groove_tool, width, depth), lists);
     });
 }
 
 gwb_kind gwb_shoulder(gwb *g, uint32_t face, uint32_t edge, int64_t width, int64_t depth, gwb_refusal *why)
 {
-    return made(g, why, [&](Bench &bench, Lists &lists) { list(shaping::cut_shoulder(bench, Face(face), Edge(edge), width, depth), lists); });
+    return made(g, why, [&](Bench &bench, Lists &lists) { list(GWB_MADE_FLOOR, shaping::cut_shoulder(bench, Face(face), Edge(edge), width, depth), lists); });
 }
 
 gwb_kind gwb_chamfer(gwb *g, uint32_t edge, int64_t width, int64_t other, uint32_t *face, gwb_refusal *why)

@@ -333,21 +333,17 @@ private:
         return found;
     }
 
-    /// The whole points of an edge, its ends among them, next to where it is cut: two on either side.
-    [[nodiscard]] Path whole_points(const Side &side) const
-    {
-        const Fraction way = met(side, plane_);
-        const Wide parts = parts_of(side.way()), last = parts * way.numerator / way.denominator;
-        Path points;
-        for (Wide place = std::max(Wide{0}, last - 1); place <= std::min(parts, last + 2); place++)
-            points.push_back(add(side.start, times(reduced(side.way()), place)));
-        return points;
-    }
-
     /// The planes through whole points of three cut edges that lie apart, each once, looking the way of the plane but not parallel to it.
     [[nodiscard]] std::vector<Plane> candidates() const
     {
-        const auto points = mapped(spread(), [&](const Side &side) { return whole_points(side); });
+        const auto points = mapped(spread(), [&](const Side &side) { // next to where it is cut two on either side, its ends among them
+            const Fraction way = met(side, plane_);
+            const Wide parts = parts_of(side.way()), last = parts * way.numerator / way.denominator;
+            Path beside;
+            for (Wide place = std::max(Wide{0}, last - 1); place <= std::min(parts, last + 2); place++)
+                beside.push_back(add(side.start, times(reduced(side.way()), place)));
+            return beside;
+        });
         std::vector<Plane> found;
         std::set<Plane> seen;
         for (std::size_t i = 0; i < points.size(); i++)

@@ -232,22 +232,22 @@ inline Combined change(Bench &bench, Face face, const Tool &tool, bool is_cut)
 }
 
 /// The same, with the floors and walls that the tool leaves.
-inline Notch cut_out(Bench &bench, Face face, const Tool &tool)
+inline std::array<std::vector<Face>, 2> cut_out(Bench &bench, Face face, const Tool &tool)
 {
     const Combined made = change(bench, face, tool, true);
     const std::size_t first = tool[lids].size(), count = tool[floors].size();
-    return Notch{made.marked(first, count), made.marked(first + count, tool[walls].size())};
+    return {made.marked(first, count), made.marked(first + count, tool[walls].size())};
 }
 
 /// A feature in a face by a tool that is made of the face's plane, points and sizes.
-template <class MakeTool, class... Sizes> Notch cut_in_face(Bench &bench, Face face, Items<Point> points, MakeTool make, Sizes... sizes)
+template <class MakeTool, class... Sizes> auto cut_in_face(Bench &bench, Face face, Items<Point> points, MakeTool make, Sizes... sizes)
 {
     require_sizes({sizes...});
     const Plane plane = plane_of(bench, face);
     return cut_out(bench, face, make(face, plane, path_of(points), sizes...));
 }
 
-inline Notch cut_shoulder(Bench &bench, Face face, Edge edge, std::int64_t width, std::int64_t depth)
+inline auto cut_shoulder(Bench &bench, Face face, Edge edge, std::int64_t width, std::int64_t depth)
 {
     require_sizes({width, depth});
     const Plane plane = plane_of(bench, face);

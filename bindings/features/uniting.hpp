@@ -8,38 +8,34 @@ namespace gwb_session::uniting {
 
 using namespace combining;
 
-/// Faces of solids, and those that they went into.
-class Became {
-public:
-    void follow(const Bench &bench, const Combined &combined)
-    {
-        std::map<Face, std::set<Face>> now;
-        for (const Sheet &region : combined.regions)
-            for (Face owner : region.owners) {
-                const std::set<Face> &known = sources_.try_emplace(owner, std::set<Face>{owner}).first->second;
-                now[region.face].insert(known.begin(), known.end());
-            }
-        for (const auto &[face, sources] : std::exchange(sources_, now))
-            if (has(bench.attempt().face(face))) // what isn't there went into others, or nothing is left of it
-                sources_.emplace(face, sources);
-    }
+/// Faces that there are, and those of all solids as they were that went into them.
+using Sources = std::map<Face, std::set<Face>>;
 
-    /// Each of those that became part of another one, or several, with what it went into.
-    void tell(std::vector<std::uint32_t> &list) const
-    {
-        std::map<Face, std::set<Face>> into;
-        for (const auto &[part, sources] : sources_)
-            for (Face face : sources)
-                into[face].insert(part);
-        for (const auto &[face, parts] : into)
-            for (Face part : parts)
-                if (part != face || parts.size() > 1 || sources_.at(part).size() > 1)
-                    list.insert(list.end(), {face.number(), part.number()});
-    }
+inline void follow(const Bench &bench, const Combined &combined, Sources &sources)
+{
+    Sources now;
+    for (const Sheet &region : combined.regions)
+        for (Face owner : region.owners) {
+            const std::set<Face> &known = sources.try_emplace(owner, std::set<Face>{owner}).first->second;
+            now[region.face].insert(known.begin(), known.end());
+        }
+    for (const auto &[face, known] : std::exchange(sources, now))
+        if (has(bench.attempt().face(face))) // what isn't there went into others, or nothing is left of it
+            sources.emplace(face, known);
+}
 
-private:
-    std::map<Face, std::set<Face>> sources_; ///< what there is now, and the faces of all solids as they were that went into it
-};
+/// Writes down each of those that became part of another one, or several, with what it went into.
+inline void tell(const Sources &sources, std::vector<std::uint32_t> &list)
+{
+    std::map<Face, std::set<Face>> into;
+    for (const auto &[part, known] : sources)
+        for (Face face : known)
+            into[face].insert(part);
+    for (const auto &[face, parts] : into)
+        for (Face part : parts)
+            if (part != face || parts.size() > 1 || sources.at(part).size() > 1)
+                list.insert(list.end(), {face.number(), part.number()});
+}
 
 /// A measure of areas, by which regions of one plane that look one way add up.
 inline Wide size_of(const std::vector<Sheet> &regions)
@@ -76,16 +72,16 @@ inline Combined add_first(Bench &bench, Solid solid, std::vector<Solid> &others)
     throw impossible(Misfit::no_contact, others.front().number());
 }
 
-/// Makes one solid of several, with the number of the first.
-inline Became unite(Bench &bench, const std::vector<Solid> &solids)
+/// Makes one solid of several, with the number of the first: its faces.
+inline Sources unite(Bench &bench, const std::vector<Solid> &solids)
 {
     for (Solid solid : solids)
         require_solid(bench, solid);
     std::vector<Solid> left(solids.begin() + 1, solids.end());
-    Became became;
+    Sources sources;
     while (!left.empty())
-        became.follow(bench, add_first(bench, solids[0], left));
-    return became;
+        follow(bench, add_first(bench, solids[0], left), sources);
+    return sources;
 }
 
 } // namespace gwb_session::uniting
