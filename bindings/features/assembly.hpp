@@ -50,9 +50,10 @@ struct Model {
                     vertices[end] = vector(bench.vertex(end));
             }
     }
-    /// All of a solid.
+    /// All of a solid. Refused: NoSolid.
     static Model whole(const Bench &bench, Solid solid)
     {
+        require_solid(bench, solid);
         Model found(solid);
         for (Face face : bench.faces(solid))
             for (Loop loop : bench.loops_of(face))

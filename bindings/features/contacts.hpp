@@ -92,20 +92,16 @@ private:
 
     void take(Face face, const std::vector<Cycle> &near)
     {
-        for (const Cycle &cycle : near)
-            for (const Side &side : cycle)
-                take(face, side);
+        for (const Side &side : joined(near)) {
+            if (box_of(side).meets(box_))
+                edges_.take(side.half.edge().number(), side.half.is_second() ? side.turned() : side, face);
+            if (box_of(side.start).meets(box_))
+                vertices_.take(model_.start(side.half).number(), {side.start, side.start}, face);
+        }
         if (const Sheet sheet{Shape(near), {face}, {}}; sheet.is_flat()) {
             boxes_.put(sheet.box, faces_.size());
             faces_.push_back(sheet);
         }
-    }
-    void take(Face face, const Side &side)
-    {
-        if (box_of(side).meets(box_))
-            edges_.take(side.half.edge().number(), side.half.is_second() ? side.turned() : side, face);
-        if (box_of(side.start).meets(box_))
-            vertices_.take(model_.start(side.half).number(), {side.start, side.start}, face);
     }
 
     void compare_edges()

@@ -71,13 +71,6 @@ private:
 
 // ---- models
 
-/// A solid as a model. Refused: NoSolid.
-inline Model read(const Bench &bench, Solid solid)
-{
-    require_solid(bench, solid);
-    return Model::whole(bench, solid);
-}
-
 /// The model elsewhere, so many times as large first. Loops of a mirror image run the other way, by the mates of their half-edges. Refused:
 /// PointRange, with the least vertex.
 inline Model moved(Model model, const Motion &motion, Wide factor = 1)
@@ -141,7 +134,7 @@ inline Solid make(Bench &bench, const Model &model, Lists &lists)
 /// So many solids, of which one is the first, each placed by its place after it: those that are new.
 template <class Place> std::vector<Solid> patterned(Bench &bench, Solid solid, std::uint32_t count, Place place, Lists &lists)
 {
-    const Model model = read(bench, solid);
+    const Model model = Model::whole(bench, solid);
     constexpr std::uint32_t most = 1'000'000;
     if (count > most)
         throw refused(GWB_WHY_NUMBERS_SPENT, GWB_SOLID + 1U);

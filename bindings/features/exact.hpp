@@ -56,16 +56,6 @@ inline int compare_products(Wide a, Wide b, Wide c, Wide d)
     return one * ((large > beside) - (large < beside));
 }
 
-/// The whole square root of a number that isn't negative, rounded down.
-constexpr Wide square_root(Wide number)
-{
-    Wide root = 0;
-    for (Wide bit = Wide{1} << 62; bit != 0; bit >>= 1)
-        if ((root + bit) * (root + bit) <= number)
-            root += bit;
-    return root;
-}
-
 /// A closed path from its least member on.
 template <class Path> Path from_least(Path path)
 {

@@ -98,13 +98,6 @@ void put(const Pocket &made, gwb_outline_made *to, std::uint32_t *sides)
     put(made.sides, sides);
 }
 
-/// What is told by a list and the next one, which take memory.
-void list(gwb_list first, const std::array<std::vector<Face>, 2> &made, Lists &lists)
-{
-    for (std::size_t at = 0; at < made.size(); at++)
-        lists[first + at] = mapped(made[at], number_of);
-}
-
 // ---- what is made
 
 /// Makes something as one command, in the heap of the session. What makes something is given the session, and the lists for what it tells by them. In the
@@ -138,6 +131,16 @@ template <class Make> gwb_kind made(gwb *g, gwb_refusal *why, Make make) noexcep
     });
     gwb_use_heap(heap);
     return kind;
+}
+
+/// The same of what makes faces that are told by a list and the next one.
+template <class Make> gwb_kind listed(gwb *g, gwb_list first, gwb_refusal *why, Make make)
+{
+    return made(g, why, [&](Bench &bench, Lists &lists) {
+        const std::array<std::vector<Face>, 2> found = make(bench);
+        for (std::size_t at = 0; at < found.size(); at++)
+            lists[first + at] = mapped(found[at], number_of);
+    });
 }
 
 /// What is answered to a call whose arguments make none.
@@ -219,7 +222,7 @@ gwb_kind gwb_kill_solid(gwb *g, uint32_t solid, gwb_refusal *why)
 gwb_kind gwb_copy_solid(gwb *g, uint32_t solid, const gwb_motion *motion, uint32_t *out, gwb_refusal *why)
 {
     const auto make = [&](Bench &bench, Lists &lists) {
-        *out = copies::make(bench, copies::moved(copies::read(bench, Solid(solid)), {Motion(*motion)}), lists).number();
+        *out = copies::make(bench, copies::moved(sheets::Model::whole(bench, Solid(solid)), {Motion(*motion)}), lists).number();
     };
     return copies::is_motion(*motion) ? made(g, why, make) : no_call(g);
 }
@@ -227,7 +230,7 @@ gwb_kind gwb_copy_solid(gwb *g, uint32_t solid, const gwb_motion *motion, uint32
 gwb_kind gwb_move_solid(gwb *g, uint32_t solid, const gwb_motion *motion, gwb_refusal *why)
 {
     const auto make = [&](Bench &bench, Lists &) {
-        sheets::make_anew(bench, copies::moved(copies::read(bench, Solid(solid)), {Motion(*motion)}));
+        sheets::make_anew(bench, copies::moved(sheets::Model::whole(bench, Solid(solid)), {Motion(*motion)}));
     };
     return copies::is_motion(*motion) ? made(g, why, make) : no_call(g);
 }
@@ -266,22 +269,18 @@ gwb_kind gwb_glue_all(gwb *g, const uint32_t *solids, size_t n, gwb_refusal *why
 
 gwb_kind gwb_split_solid(gwb *g, uint32_t solid, const gwb_cut_plane *plane, uint32_t above, gwb_refusal *why)
 {
-    return made(g, why, [&](Bench &bench, Lists &lists) {
-        list(GWB_MADE_LOWER_CAPS, cuts::split(bench, Solid(solid), exact::Plane::of(*plane), Solid(above)), lists);
-    });
+    return listed(g, GWB_MADE_LOWER_CAPS, why, [&](Bench &bench) { return cuts::split(bench, Solid(solid), exact::Plane::of(*plane), Solid(above)); });
 }
 
 gwb_kind gwb_cut(gwb *g, uint32_t solid, const gwb_cut_plane *plane, uint32_t above, gwb_refusal *why)
 {
-    return made(g, why, [&](Bench &bench, Lists &lists) {
-        list(GWB_MADE_LOWER_CAPS, cuts::cut(bench, Solid(solid), exact::Plane::of(*plane), Solid(above), true), lists);
-    });
+    return listed(g, GWB_MADE_LOWER_CAPS, why, [&](Bench &bench) { return cuts::cut(bench, Solid(solid), exact::Plane::of(*plane), Solid(above), true); });
 }
 
 gwb_kind gwb_trim(gwb *g, uint32_t solid, const gwb_cut_plane *plane, gwb_refusal *why)
 {
-    return made(g, why, [&](Bench &bench, Lists &lists) {
-        list(GWB_MADE_LOWER_CAPS, cuts::cut(bench, Solid(solid), exact::Plane::of(*plane), bench.next_free<Solid>(), false), lists);
+    return listed(g, GWB_MADE_LOWER_CAPS, why, [&](Bench &bench) {
+        return cuts::cut(bench, Solid(solid), exact::Plane::of(*plane), bench.next_free<Solid>(), false);
     });
 }
 
@@ -289,7 +288,9 @@ gwb_kind gwb_union(gwb *g, const uint32_t *solids, size_t n, gwb_refusal *why)
 {
     if (n < 2 || !are_different(solids, n))
         return no_call(g);
-    return made(g, why, [&](Bench &bench, Lists &lists) { uniting::tell(uniting::unite(bench, std::vector<Solid>(solids, solids + n)), lists[GWB_MADE_INTO]); });
+    return made(g, why, [&](Bench &bench, Lists &lists) {
+        uniting::tell(uniting::unite(bench, std::vector<Solid>(solids, solids + n)), lists[GWB_MADE_INTO]);
+    });
 }
 
 gwb_kind gwb_profile(gwb *g, uint32_t solid, const gwb_point *points, size_t n, const gwb_point *along, gwb_profile_made *out, uint32_t *sides,
@@ -351,26 +352,26 @@ gwb_kind gwb_drill(gwb *g, uint32_t face, const gwb_point *center, int64_t radiu
 
 gwb_kind gwb_notch(gwb *g, uint32_t face, const gwb_point *points, size_t n, int64_t depth, gwb_refusal *why)
 {
-    return made(g, why, [&](Bench &bench, Lists &lists) { list(GWB_MADE_FLOOR, shaping::cut_in_face(bench, Face(face), {points, n}, shaping::notch_tool, depth), lists); });
+    return listed(g, GWB_MADE_FLOOR, why, [&](Bench &bench) { return shaping::cut_in_face(bench, Face(face), {points, n}, shaping::notch_tool, depth); });
 }
 
 gwb_kind gwb_slot(gwb *g, uint32_t face, const gwb_point *start, const gwb_point *end, int64_t width, int64_t depth, gwb_refusal *why)
 {
-    return made(g, why, [&](Bench &bench, Lists &lists) {
-        list(GWB_MADE_FLOOR, shaping::cut_in_face(bench, Face(face), {*start, *end}, shaping::slot_tool, width, depth), lists);
+    return listed(g, GWB_MADE_FLOOR, why, [&](Bench &bench) {
+        return shaping::cut_in_face(bench, Face(face), {*start, *end}, shaping::slot_tool, width, depth);
     });
 }
 
 gwb_kind gwb_groove(gwb *g, uint32_t face, const gwb_point *start, const gwb_point *end, int64_t width, int64_t depth, gwb_refusal *why)
 {
-    return made(g, why, [&](Bench &bench, Lists &lists) {
-        list(GWB_MADE_FLOOR, shaping::cut_in_face(bench, Face(face), {*start, *end}, shaping::groove_tool, width, depth), lists);
+    return listed(g, GWB_MADE_FLOOR, why, [&](Bench &bench) {
+        return shaping::cut_in_face(bench, Face(face), {*start, *end}, shaping::groove_tool, width, depth);
     });
 }
 
 gwb_kind gwb_shoulder(gwb *g, uint32_t face, uint32_t edge, int64_t width, int64_t depth, gwb_refusal *why)
 {
-    return made(g, why, [&](Bench &bench, Lists &lists) { list(GWB_MADE_FLOOR, shaping::cut_shoulder(bench, Face(face), Edge(edge), width, depth), lists); });
+    return listed(g, GWB_MADE_FLOOR, why, [&](Bench &bench) { return shaping::cut_shoulder(bench, Face(face), Edge(edge), width, depth); });
 }
 
 gwb_kind gwb_chamfer(gwb *g, uint32_t edge, int64_t width, int64_t other, uint32_t *face, gwb_refusal *why)

@@ -85,7 +85,10 @@ template <class Item> std::vector<Item> turned(std::vector<Item> points)
 inline Vector steps_along(Face face, const Vector &across, std::int64_t length)
 {
     const bool is_short = longest(across) <= 2 * farthest;
-    const Wide square = is_short ? dot(across, across) : 0, root = square_root(square);
+    const Wide square = is_short ? dot(across, across) : 0;
+    Wide root = 0;
+    for (Wide bit = Wide{1} << 62; bit != 0; bit >>= 1)
+        root += (root + bit) * (root + bit) <= square ? bit : 0;
     if (!is_short || root * root != square || length % root != 0)
         throw impossible(Misfit::off_lattice, face.number());
     return times(across, length / root);
