@@ -108,23 +108,19 @@ private:
     {
         for (const auto &[edge, row] : edges_.rows) {
             go_on();
-            for (std::size_t other : edges_.boxes.meeting(box_of(row.side)))
-                if (edge < other)
-                    compare_edges(edge, row.side, other, edges_.rows.at(other).side);
-            for (std::size_t vertex : vertices_.boxes.meeting(box_of(row.side)))
-                if (row.side.passes(vertices_.rows.at(vertex).side.start))
+            const Side &side = row.side;
+            for (std::size_t other : edges_.boxes.meeting(box_of(side))) {
+                const Side &beside = edges_.rows.at(other).side;
+                const Vector across = cross(side.way(), beside.way());
+                if (edge < other && std::minmax(side.start, side.end) == std::minmax(beside.start, beside.end))
+                    found.insert({Kind::equal_edges, edge, other});
+                if (edge < other && !is_zero(across) && dot(across, subtract(beside.start, side.start)) == 0 && side.crosses(beside, flat_axes(across)))
+                    found.insert({Kind::edges_cross, edge, other});
+            }
+            for (std::size_t vertex : vertices_.boxes.meeting(box_of(side)))
+                if (side.passes(vertices_.rows.at(vertex).side.start))
                     found.insert({Kind::vertex_on_edge, vertex, edge});
         }
-    }
-    void compare_edges(std::size_t one, const Side &first, std::size_t other, const Side &second)
-    {
-        if (std::minmax(first.start, first.end) == std::minmax(second.start, second.end))
-            found.insert({Kind::equal_edges, one, other});
-        const Vector across = cross(first.way(), second.way());
-        if (is_zero(across) || dot(across, subtract(second.start, first.start)) != 0)
-            return;
-        if (first.crosses(second, flat_axes(across)))
-            found.insert({Kind::edges_cross, one, other});
     }
 
     void compare_with_vertices(const Sheet &face)

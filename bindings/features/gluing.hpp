@@ -5,10 +5,7 @@
 
 namespace gwb_session::gluing {
 
-using machining::impossible;
-using machining::Path;
-using exact::from_least;
-using exact::Vector;
+using namespace machining;
 
 /// A face of a solid.
 struct Side {
@@ -27,13 +24,13 @@ inline std::vector<Match> matches(const Bench &bench, Items<Solid> solids)
     std::map<Path, std::vector<Side>> seen;
     std::vector<Match> found;
     for (Solid solid : solids) {
-        machining::require_solid(bench, solid);
+        require_solid(bench, solid);
         for (Face face : bench.faces(solid)) {
             go_on();
             if (!bench.rings(face).empty())
                 continue;
-            const Path path = from_least(mapped(machining::cycles_at(bench, face)[0], [](const machining::Side &side) { return side.start; }));
-            for (const Side &side : seen[from_least(machining::backwards(path))])
+            const Path path = from_least(mapped(cycles_at(bench, face)[0], [](const machining::Side &side) { return side.start; }));
+            for (const Side &side : seen[from_least(backwards(path))])
                 if (side.solid != solid)
                     found.push_back({side, {solid, face}});
             seen[path].push_back({solid, face});

@@ -325,26 +325,23 @@ struct InPlane {
 /// What sheets come to where others are added to them; what lies in no plane of an added one, or not near it, stays.
 inline std::vector<Sheet> overlaid(const std::vector<Sheet> &held, const std::vector<Sheet> &added)
 {
-    std::vector<InPlane> planes; // in the order in which they come among the added ones
-    std::map<Plane, std::size_t> places;
-    for (const Sheet &sheet : added) {
-        const std::size_t place = places.emplace(sheet.level(), places.size()).first->second;
-        planes.resize(places.size());
-        planes[place].added.push_back(sheet);
-    }
-    for (InPlane &plane : planes)
+    std::map<Plane, InPlane> planes;
+    for (const Sheet &sheet : added)
+        planes[sheet.level()].added.push_back(sheet);
+    for (auto &[level, plane] : planes)
         plane.box = box_of(plane.added);
     std::vector<Sheet> found;
     for (const Sheet &sheet : held) {
         go_on();
-        const auto place = places.find(sheet.level());
-        const bool is_near = place != places.end() && sheet.is_flat() && sheet.box.meets(planes[place->second].box);
-        (is_near ? planes[place->second].held : found).push_back(sheet);
+        const auto plane = planes.find(sheet.level());
+        const bool is_near = plane != planes.end() && sheet.is_flat() && sheet.box.meets(plane->second.box);
+        (is_near ? plane->second.held : found).push_back(sheet);
     }
-    for (InPlane &plane : planes) {
-        append(plane.held, plane.added);
-        append(found, Overlay(std::move(plane.held), plane.box).regions());
-    }
+    for (const Sheet &sheet : added) // plane by plane, in the order in which these come
+        if (auto plane = planes.extract(sheet.level())) {
+            append(plane.mapped().held, plane.mapped().added);
+            append(found, Overlay(std::move(plane.mapped().held), plane.mapped().box).regions());
+        }
     return found;
 }
 
