@@ -48,7 +48,7 @@ inline void put_below(const Sheet &sheet, const Plane &plane, const Failure &why
         return;
     std::vector<Side> sides = sides_below(sheet, plane);
     append(sides, cuts_of(sheet, plane));
-    for (const std::vector<Cycle> &cycles : Traced(sides, sheet.plane.across, why).regions())
+    for (const std::vector<Cycle> &cycles : regions_of(sides, sheet.plane.across, why))
         left.push_back({Shape(cycles), {sheet.owners[0]}, {}});
 }
 
@@ -78,7 +78,7 @@ inline Combined part_below(const Held &held, const std::vector<Sheet> &sheets, c
         go_on();
         put_below(sheet, plane, meets, left);
     }
-    for (const std::vector<Cycle> &cycles : Traced(open_sides(left, plane), plane.across, meets).regions())
+    for (const std::vector<Cycle> &cycles : regions_of(open_sides(left, plane), plane.across, meets))
         caps.push_back({Shape(cycles), {Face()}, {caps.size()}});
     Result<std::vector<Sheet>> laid = tried([&] { return overlaid(left, caps); });
     const std::optional<Combined> made = laid ? Assembly(held, *laid, names).made(solid) : std::nullopt;

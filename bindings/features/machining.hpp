@@ -248,58 +248,33 @@ inline Plane plane_of(const Bench &bench, Face face)
     return *plane;
 }
 
-/// An outline in a face moved along the face's normal, away from the face; `is_open` where it ends in another face. In the face, and in the other one,
-/// only what is on the outline counts.
-class Prism {
-public:
-    Prism(const Vector &across, const Path &path, const Path &far, bool is_open)
-        : way_(subtract(far[0], path[0])), lids_{{Plane::through(path[0], across), {cycle_of(path)}}, {Plane::through(far[0], across), {cycle_of(far)}}}
-    {
-        for (const Side &side : lids_[0].sides)
-            walls_.push_back(Shape({cycle_of({side.start, side.end, add(side.end, way_), add(side.start, way_)})}));
-        if (!is_open)
-            walls_.push_back(lids_[1]);
-        box_ = box_of(lids_);
-    }
-
-    [[nodiscard]] const Box &box() const { return box_; }
-
-    /// Whether a point of a segment lies in it, or on it.
-    [[nodiscard]] bool meets(const Side &segment) const
-    {
-        const auto passes = [&](const Shape &lid) { return sign(lid.height({segment.start})) * sign(lid.height({segment.end})) < 0 && lid.meets(segment); };
-        return box_of(segment).meets(box_) &&
-               (any(walls_, [&](const Shape &wall) { return wall.meets(segment); }) || any(lids_, passes) || holds(segment.start));
-    }
-
-    /// Whether an edge of it meets a face none of whose edges meets it.
-    [[nodiscard]] bool meets_face(const Shape &shape) const
-    {
-        return any(walls_, [&](const Shape &wall) { return any(wall.sides, [&](const Side &side) { return shape.meets(side); }); });
-    }
-
-private:
-    /// Whether a point lies between the lids.
-    [[nodiscard]] bool holds(const Vector &at) const
-    {
-        return lids_[0].hit({at}, negative(way_)) != Place::outside && lids_[1].hit({at}, way_) != Place::outside;
-    }
-
-    Vector way_;
-    std::vector<Shape> lids_, walls_; ///< of which the far lid is one where it isn't open
-    Box box_;
-};
-
-/// Refuses a feature that would meet or touch the solid elsewhere than in the face, or in the other one where it ends there.
-inline void require_room(const Bench &bench, const Surface &surface, const Prism &prism, Face face, Face other = Face())
+/// Refuses to move an outline in a face along the face's normal where what it sweeps over would meet or touch the solid elsewhere than in the face, or in the
+/// other one where it ends there. In these only what is on the outline counts.
+inline void require_room(const Bench &bench, const Surface &surface, const Vector &across, const Path &path, const Path &far, Face face, Face other)
 {
+    const std::vector<Shape> lids = {{Plane::through(path[0], across), {cycle_of(path)}}, {Plane::through(far[0], across), {cycle_of(far)}}};
+    const Vector way = subtract(far[0], path[0]);
+    const Box box = box_of(lids);
+    std::vector<Shape> walls;
+    for (const Side &side : lids[0].sides)
+        walls.push_back(Shape({cycle_of({side.start, side.end, add(side.end, way), add(side.start, way)})}));
+    if (other == Face())
+        walls.push_back(lids[1]);
+    const auto meets = [&](const Side &edge) { // has a point within, or on a wall
+        const auto passes = [&](const Shape &lid) { return sign(lid.height({edge.start})) * sign(lid.height({edge.end})) < 0 && lid.meets(edge); };
+        return box_of(edge).meets(box) && (any(walls, [&](const Shape &wall) { return wall.meets(edge); }) || any(lids, passes) ||
+                                           (lids[0].hit({edge.start}, negative(way)) != Place::outside && lids[1].hit({edge.start}, way) != Place::outside));
+    };
     const auto is_met = [&](const auto &beside) {
         const auto &[of, loops] = beside;
-        const auto meets = [&](const Side &side) { return prism.meets(side); };
-        return any(loops, [&](Loop loop) { return any(surface.cycle(loop), meets); }) ||
-               (of != face && of != other && surface.plane(of) != nullptr && prism.meets_face(surface.shape(of, loops)));
+        if (any(loops, [&](Loop loop) { return any(surface.cycle(loop), meets); }))
+            return true;
+        if (of == face || of == other || surface.plane(of) == nullptr)
+            return false;
+        const Shape shape = surface.shape(of, loops);
+        return any(walls, [&](const Shape &wall) { return any(wall.sides, [&](const Side &side) { return shape.meets(side); }); });
     };
-    if (any(surface.near(bench, prism.box()), is_met))
+    if (any(surface.near(bench, box), is_met))
         throw impossible(Misfit::meets, face.number());
 }
 
@@ -419,7 +394,7 @@ inline Pocket move_outline(Bench &bench, Face face, const Drawing &drawn, const 
     const Surface &surface = drawn.known.surface(bench, drawn.solid);
     if (other != Face())
         (void)surface.ring_path(bench, other, far);
-    require_room(bench, surface, Prism(drawn.across, drawn.path, far, other != Face()), face, other);
+    require_room(bench, surface, drawn.across, drawn.path, far, face, other);
     const Ring ring = draw(bench, face, drawn.path);
     const std::vector<Face> sides = sides_of_sweep(bench, ring.face, way, ring.edges, false);
     const Loop far_ring = bench.face(ring.face).outer_loop;

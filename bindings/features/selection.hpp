@@ -105,8 +105,8 @@ inline std::vector<Edge> edges(const Bench &bench, const gwb_edge_query &query)
     std::set<Edge> found;
     for (const gwb_half_edge_row &row : candidates(bench, query)) {
         go_on();
-        if (fits(bench, HalfEdge(row.half_edge), query))
-            found.insert(HalfEdge(row.half_edge).edge());
+        if (const HalfEdge half(row.half_edge); (query.between[0] != 0 || !half.is_second()) && fits(bench, half, query))
+            found.insert(half.edge());
     }
     return {found.begin(), found.end()};
 }

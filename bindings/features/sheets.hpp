@@ -39,81 +39,60 @@ inline bool comes_before(const Vector &from, const Vector &one, const Vector &ot
     return quarters != 0 ? quarters < 0 : turned(one, other) < 0;
 }
 
-/// The cycles of sides, and the regions that these bound.
-class Traced {
-public:
-    /// Thrown is what the caller says where the sides make no outlines, or a hole lies in none.
-    Traced(std::vector<Side> sides, const Vector &across, const Failure &why) : sides_(std::move(sides)), across_(across), axes_(flat_axes(across)), why_(why)
-    {
-        std::sort(sides_.begin(), sides_.end());
-        sides_.erase(std::unique(sides_.begin(), sides_.end()), sides_.end());
-    }
-
-    /// The regions, the outline of each and then its holes, the largest first; where they touch in a point they stay apart.
-    [[nodiscard]] std::vector<std::vector<Cycle>> regions() const
-    {
-        std::set<std::pair<Wide, Cycle>> outer;
-        std::vector<Cycle> holes;
-        for (const Cycle &cycle : cycles())
-            if (const Wide area = dot(area_of(cycle), across_); area > 0)
-                outer.emplace(-area, cycle);
-            else
-                holes.push_back(cycle);
-        std::vector<std::vector<Cycle>> found;
-        for (const auto &[area, cycle] : outer)
-            found.push_back({cycle});
-        for (const Cycle &hole : holes) { // into the smallest around it
-            const auto around = std::find_if(found.rbegin(), found.rend(), [&](const auto &region) { return lies_in(hole, region[0]); });
-            if (around == found.rend())
-                throw why_;
-            around->push_back(hole);
-        }
-        return found;
-    }
-
-private:
-    [[nodiscard]] bool lies_in(const Cycle &hole, const Cycle &around) const
-    {
-        for (const Side &side : hole)
-            if (const Place place = locate(around, {side.start}, axes_); place != Place::on)
-                return place == Place::inside;
-        return false;
-    }
-
-    /// The cycles: from each side on to the one that bounds the same corner of the region.
-    [[nodiscard]] std::vector<Cycle> cycles() const
-    {
-        std::vector<bool> is_left(sides_.size(), true);
-        std::vector<Cycle> found;
-        for (std::size_t first = 0; first < sides_.size(); first++)
-            if (is_left[first]) {
-                Cycle &cycle = found.emplace_back();
-                for (std::size_t at = first; is_left[at]; at = next(sides_[at])) {
-                    is_left[at] = false;
-                    cycle.push_back(sides_[at]);
-                }
-            }
-        return found;
-    }
-
-    /// The first of the sides that leave the end of one, clockwise from the way back.
-    [[nodiscard]] std::size_t next(const Side &side) const
-    {
-        const auto starts_before = [](const Side &one, const Side &other) { return one.start < other.start; };
-        const auto [first, last] = std::equal_range(sides_.begin(), sides_.end(), side.turned(), starts_before);
+/// The cycles of sides, which rise: from each side on to the one that bounds the same corner of the region. Thrown is what the caller says where there is
+/// none.
+inline std::vector<Cycle> cycles_of(const std::vector<Side> &sides, Axes axes, const Failure &why)
+{
+    const auto starts_before = [](const Side &one, const Side &other) { return one.start < other.start; };
+    const auto next = [&](const Side &side) { // the first of those that leave its end, clockwise from the way back
+        const auto [first, last] = std::equal_range(sides.begin(), sides.end(), side.turned(), starts_before);
         if (first == last)
-            throw why_;
+            throw why;
         const auto found = std::min_element(first, last, [&, back = side.turned().way()](const Side &one, const Side &other) {
-            return comes_before(back, one.way(), other.way(), axes_);
+            return comes_before(back, one.way(), other.way(), axes);
         });
-        return static_cast<std::size_t>(found - sides_.begin());
-    }
+        return static_cast<std::size_t>(found - sides.begin());
+    };
+    std::vector<bool> is_left(sides.size(), true);
+    std::vector<Cycle> found;
+    for (std::size_t first = 0; first < sides.size(); first++)
+        if (is_left[first]) {
+            Cycle &cycle = found.emplace_back();
+            for (std::size_t at = first; is_left[at]; at = next(sides[at])) {
+                is_left[at] = false;
+                cycle.push_back(sides[at]);
+            }
+        }
+    return found;
+}
 
-    std::vector<Side> sides_; ///< rising
-    Vector across_;
-    Axes axes_;
-    Failure why_;
-};
+/// The regions that sides bound, the outline of each and then its holes, the largest first; where they touch in a point they stay apart. Thrown is what the
+/// caller says where the sides make no outlines, or a hole lies in none.
+inline std::vector<std::vector<Cycle>> regions_of(const std::vector<Side> &sides, const Vector &across, const Failure &why)
+{
+    const Axes axes = flat_axes(across);
+    const std::set<Side> rising(sides.begin(), sides.end());
+    std::set<std::pair<Wide, Cycle>> outer;
+    std::vector<Cycle> holes;
+    for (const Cycle &cycle : cycles_of({rising.begin(), rising.end()}, axes, why))
+        if (const Wide area = dot(area_of(cycle), across); area > 0)
+            outer.emplace(-area, cycle);
+        else
+            holes.push_back(cycle);
+    std::vector<std::vector<Cycle>> found;
+    for (const auto &[area, cycle] : outer)
+        found.push_back({cycle});
+    for (const Cycle &hole : holes) { // into the smallest around it
+        const auto around = std::find_if(found.rbegin(), found.rend(), [&](const auto &region) {
+            const auto off = std::find_if(hole.begin(), hole.end(), [&](const Side &side) { return locate(region[0], {side.start}, axes) != Place::on; });
+            return off != hole.end() && locate(region[0], {off->start}, axes) == Place::inside;
+        });
+        if (around == found.rend())
+            throw why;
+        around->push_back(hole);
+    }
+    return found;
+}
 
 // ---- sheets of one plane
 
@@ -208,7 +187,7 @@ private:
                 ways.insert({side.start, side.end});
             sides = filtered(sides, [&](const Side &side) { return ways.count({side.end, side.start}) == 0; });
         }
-        for (const std::vector<Cycle> &cycles : Traced(sides, made.plane.across, impossible(Misfit::meets, 0)).regions())
+        for (const std::vector<Cycle> &cycles : regions_of(sides, made.plane.across, impossible(Misfit::meets, 0)))
             found.push_back({{made.plane, cycles}, made.owners, made.marks});
     }
 
