@@ -268,12 +268,9 @@ private:
     /// The first of the sides of a cycle, which follow each other.
     Placed *put(const Cycle &cycle, const Sheet *region)
     {
-        Placed *first = nullptr, *last = nullptr;
-        for (const Side &side : cycle) {
-            Placed *placed = &sides_.emplace_back(Placed{side, region});
-            (first == nullptr ? first : last->after) = placed;
-            last = placed;
-        }
+        Placed *first = &sides_.emplace_back(Placed{cycle[0], region}), *last = first;
+        for (std::size_t at = 1; at < cycle.size(); at++)
+            last = last->after = &sides_.emplace_back(Placed{cycle[at], region});
         return last->after = first;
     }
 

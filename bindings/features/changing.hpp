@@ -172,18 +172,15 @@ private:
     /// Each ring that isn't left becomes the outer loop of a face of its own.
     void rings_out(const std::set<Loop> &left, RingFaces &ring_faces)
     {
-        for (Face face : faces) {
-            const std::vector<Loop> &loops = model_.faces.at(face);
-            for (auto ring = loops.begin() + 1; ring != loops.end(); ++ring) {
-                if (left.count(*ring) != 0)
-                    continue;
-                const auto [spare, is_new] = ring_faces.try_emplace(*ring);
-                if (is_new)
-                    spare->second = names_.faces.spare();
-                face_of_[*ring] = spare->second;
-                step(operator_of(&Bench::mfkrh, *ring, spare->second), operator_of(&Bench::kfmrh, face, spare->second));
-            }
-        }
+        for (Face face : faces)
+            for (Loop ring : model_.faces.at(face))
+                if (ring != model_.faces.at(face)[0] && left.count(ring) == 0) {
+                    const auto [spare, is_new] = ring_faces.try_emplace(ring);
+                    if (is_new)
+                        spare->second = names_.faces.spare();
+                    face_of_[ring] = spare->second;
+                    step(operator_of(&Bench::mfkrh, ring, spare->second), operator_of(&Bench::kfmrh, face, spare->second));
+                }
     }
 
     /// The loops of the faces that differ, in parts that inner edges join, each by the name of its set.

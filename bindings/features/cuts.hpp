@@ -107,13 +107,6 @@ inline void require_apart(const Model &before, const Path &corners, std::initial
         throw impossible(Misfit::meets, before.solid.number());
 }
 
-/// Whether another way of cutting copes with what split was refused for.
-inline bool is_coped_with(const Failure &failure)
-{
-    return failure.is(GWB_WHY_TOUCHED_FACE) || failure.is(GWB_WHY_CUT_OFTEN) || failure.is(GWB_WHY_CUT_CROSSED) ||
-           failure.is(GWB_WHY_BRANCHED_VERTEX) || failure.is(GWB_WHY_SECTION_HOLES);
-}
-
 /// The faces of a solid above a number that lie in a plane.
 inline std::vector<Face> faces_in(const Bench &bench, Solid solid, Face above, const Plane &plane)
 {
@@ -161,7 +154,8 @@ inline Caps cut(Bench &bench, Solid solid, const Plane &plane, Solid above, bool
     const Path corners = corners_in(bench, solid, plane);
     const Model before = corners.empty() ? Model() : Model::whole(bench, solid);
     Result<Caps> caps = tried([&] { return split(bench, solid, plane, above); });
-    if (!caps && !is_coped_with(caps.error()))
+    constexpr std::array coped_with = {GWB_WHY_TOUCHED_FACE, GWB_WHY_CUT_OFTEN, GWB_WHY_CUT_CROSSED, GWB_WHY_BRANCHED_VERTEX, GWB_WHY_SECTION_HOLES};
+    if (!caps && !any(coped_with, [&](gwb_why why) { return caps.error().is(why); }))
         throw caps.error();
     if (!caps)
         return cut_by_faces(bench, solid, plane, corners, above, is_wanted);
