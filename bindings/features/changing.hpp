@@ -85,7 +85,8 @@ struct Pair {
 
     // what both have in common, with all that bounds it, down to the points
     const std::set<Vertex> vertices = alike(old.vertices, made.vertices, [](const Vector &) { return true; });
-    const std::set<Edge> edges = alike(old.edges, made.edges, [&](const auto &ends) { return vertices.count(ends.first) + vertices.count(ends.second) == 2; });
+    const std::set<Edge> edges =
+        alike(old.edges, made.edges, [&](const auto &ends) { return vertices.count(ends.first) + vertices.count(ends.second) == 2; });
     const std::set<Loop> loops =
         alike(old.loops, made.loops, [&](const auto &row) { return all(row, [&](HalfEdge half) { return edges.count(half.edge()) != 0; }); });
     const std::set<Face> faces =

@@ -112,9 +112,10 @@ private:
             for (std::size_t other : edges_.boxes.meeting(box_of(side))) {
                 const Side &beside = edges_.rows.at(other).side;
                 const Vector across = cross(side.way(), beside.way());
+                const bool is_flat = !is_zero(across) && dot(across, subtract(beside.start, side.start)) == 0;
                 if (edge < other && std::minmax(side.start, side.end) == std::minmax(beside.start, beside.end))
                     found.insert({Kind::equal_edges, edge, other});
-                if (edge < other && !is_zero(across) && dot(across, subtract(beside.start, side.start)) == 0 && side.crosses(beside, flat_axes(across)))
+                if (edge < other && is_flat && side.crosses(beside, flat_axes(across)))
                     found.insert({Kind::edges_cross, edge, other});
             }
             for (std::size_t vertex : vertices_.boxes.meeting(box_of(side)))

@@ -120,10 +120,10 @@ inline std::vector<Face> faces_in(const Bench &bench, Solid solid, Face above, c
 using Caps = std::array<std::vector<Face>, 2>;
 
 /// The command split.
-inline Caps split(Bench &bench, Solid solid, const Plane &plane, Solid above)
+inline Caps split(Bench &bench, Solid solid, const gwb_cut_plane &row, Solid above)
 {
     const Face before = bench.greatest<Face>();
-    const gwb_cut_plane row = plane.row();
+    const Plane plane = Plane::of(row);
     bench.split(solid, row.a, row.b, row.c, row.d, above);
     return {faces_in(bench, solid, before, plane), faces_in(bench, above, before, plane)};
 }
@@ -149,11 +149,12 @@ inline Caps cut_by_faces(Bench &bench, Solid solid, const Plane &plane, const Pa
 }
 
 /// What lies above a plane becomes another solid, or goes where it isn't wanted.
-inline Caps cut(Bench &bench, Solid solid, const Plane &plane, Solid above, bool is_wanted)
+inline Caps cut(Bench &bench, Solid solid, const gwb_cut_plane &row, Solid above, bool is_wanted)
 {
+    const Plane plane = Plane::of(row);
     const Path corners = corners_in(bench, solid, plane);
     const Model before = corners.empty() ? Model() : Model::whole(bench, solid);
-    Result<Caps> caps = tried([&] { return split(bench, solid, plane, above); });
+    Result<Caps> caps = tried([&] { return split(bench, solid, row, above); });
     constexpr std::array coped_with = {GWB_WHY_TOUCHED_FACE, GWB_WHY_CUT_OFTEN, GWB_WHY_CUT_CROSSED, GWB_WHY_BRANCHED_VERTEX, GWB_WHY_SECTION_HOLES};
     if (!caps && !any(coped_with, [&](gwb_why why) { return caps.error().is(why); }))
         throw caps.error();

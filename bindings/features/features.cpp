@@ -30,16 +30,6 @@ constexpr unsigned asks_once_in = 32;
 thread_local const gwb *making = nullptr; ///< for which this thread makes something, whose caller may end it
 thread_local unsigned calls = 0;
 
-} // namespace
-
-void go_on()
-{
-    if (calls++ % asks_once_in == 0 && is_stopped(making))
-        throw EndedByCaller();
-}
-
-namespace {
-
 /// A session in the place of a handle, which is closed meanwhile.
 class Borrowed : public Bench {
 public:
@@ -100,8 +90,8 @@ void put(const Pocket &made, gwb_outline_made *to, std::uint32_t *sides)
 
 // ---- what is made
 
-/// Makes something as one command, in the heap of the session. What makes something is given the session, and the lists for what it tells by them. In the
-/// end, when nothing can be refused any more, it writes what the caller is told.
+/// Makes something as one command, in the heap of the session. What makes something is given the session, and the lists for what it tells by them.
+/// In the end, when nothing can be refused any more, it writes what the caller is told.
 template <class Make> gwb_kind made(gwb *g, gwb_refusal *why, Make make) noexcept
 {
     if (!gwb_is_open(g))
@@ -194,6 +184,13 @@ gwb_kind sought(const gwb *g, const Query &query, Find find, std::uint32_t *buf,
 }
 
 } // namespace
+
+void go_on()
+{
+    if (calls++ % asks_once_in == 0 && is_stopped(making))
+        throw EndedByCaller();
+}
+
 } // namespace gwb_session
 
 using namespace gwb_session;
@@ -269,19 +266,17 @@ gwb_kind gwb_glue_all(gwb *g, const uint32_t *solids, size_t n, gwb_refusal *why
 
 gwb_kind gwb_split_solid(gwb *g, uint32_t solid, const gwb_cut_plane *plane, uint32_t above, gwb_refusal *why)
 {
-    return listed(g, GWB_MADE_LOWER_CAPS, why, [&](Bench &bench) { return cuts::split(bench, Solid(solid), exact::Plane::of(*plane), Solid(above)); });
+    return listed(g, GWB_MADE_LOWER_CAPS, why, [&](Bench &bench) { return cuts::split(bench, Solid(solid), *plane, Solid(above)); });
 }
 
 gwb_kind gwb_cut(gwb *g, uint32_t solid, const gwb_cut_plane *plane, uint32_t above, gwb_refusal *why)
 {
-    return listed(g, GWB_MADE_LOWER_CAPS, why, [&](Bench &bench) { return cuts::cut(bench, Solid(solid), exact::Plane::of(*plane), Solid(above), true); });
+    return listed(g, GWB_MADE_LOWER_CAPS, why, [&](Bench &bench) { return cuts::cut(bench, Solid(solid), *plane, Solid(above), true); });
 }
 
 gwb_kind gwb_trim(gwb *g, uint32_t solid, const gwb_cut_plane *plane, gwb_refusal *why)
 {
-    return listed(g, GWB_MADE_LOWER_CAPS, why, [&](Bench &bench) {
-        return cuts::cut(bench, Solid(solid), exact::Plane::of(*plane), bench.next_free<Solid>(), false);
-    });
+    return listed(g, GWB_MADE_LOWER_CAPS, why, [&](Bench &bench) { return cuts::cut(bench, Solid(solid), *plane, bench.next_free<Solid>(), false); });
 }
 
 gwb_kind gwb_union(gwb *g, const uint32_t *solids, size_t n, gwb_refusal *why)
@@ -352,7 +347,9 @@ gwb_kind gwb_drill(gwb *g, uint32_t face, const gwb_point *center, int64_t radiu
 
 gwb_kind gwb_notch(gwb *g, uint32_t face, const gwb_point *points, size_t n, int64_t depth, gwb_refusal *why)
 {
-    return listed(g, GWB_MADE_FLOOR, why, [&](Bench &bench) { return shaping::cut_in_face(bench, Face(face), {points, n}, shaping::notch_tool, depth); });
+    return listed(g, GWB_MADE_FLOOR, why, [&](Bench &bench) {
+        return shaping::cut_in_face(bench, Face(face), {points, n}, shaping::notch_tool, depth);
+    });
 }
 
 gwb_kind gwb_slot(gwb *g, uint32_t face, const gwb_point *start, const gwb_point *end, int64_t width, int64_t depth, gwb_refusal *why)

@@ -248,8 +248,8 @@ inline Plane plane_of(const Bench &bench, Face face)
     return *plane;
 }
 
-/// Refuses to move an outline in a face along the face's normal where what it sweeps over would meet or touch the solid elsewhere than in the face, or in the
-/// other one where it ends there. In these only what is on the outline counts.
+/// Refuses to move an outline in a face along the face's normal where what it sweeps over would meet or touch the solid elsewhere than in the face,
+/// or in the other one where it ends there. In these only what is on the outline counts.
 inline void require_room(const Bench &bench, const Surface &surface, const Vector &across, const Path &path, const Path &far, Face face, Face other)
 {
     const std::vector<Shape> lids = {{Plane::through(path[0], across), {cycle_of(path)}}, {Plane::through(far[0], across), {cycle_of(far)}}};
@@ -260,10 +260,13 @@ inline void require_room(const Bench &bench, const Surface &surface, const Vecto
         walls.push_back(Shape({cycle_of({side.start, side.end, add(side.end, way), add(side.start, way)})}));
     if (other == Face())
         walls.push_back(lids[1]);
+    const auto is_between = [&](const Vector &at) {
+        return lids[0].hit({at}, negative(way)) != Place::outside && lids[1].hit({at}, way) != Place::outside;
+    };
     const auto meets = [&](const Side &edge) { // has a point within, or on a wall
+        const auto touches = [&](const Shape &wall) { return wall.meets(edge); };
         const auto passes = [&](const Shape &lid) { return sign(lid.height({edge.start})) * sign(lid.height({edge.end})) < 0 && lid.meets(edge); };
-        return box_of(edge).meets(box) && (any(walls, [&](const Shape &wall) { return wall.meets(edge); }) || any(lids, passes) ||
-                                           (lids[0].hit({edge.start}, negative(way)) != Place::outside && lids[1].hit({edge.start}, way) != Place::outside));
+        return box_of(edge).meets(box) && (any(walls, touches) || any(lids, passes) || is_between(edge.start));
     };
     const auto is_met = [&](const auto &beside) {
         const auto &[of, loops] = beside;

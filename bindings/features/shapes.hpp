@@ -1,4 +1,4 @@
-/// @file shapes.hpp Flat faces, what meets them, and how it is told that something isn't possible.
+/// @file shapes.hpp Points, sides and flat faces, what meets them, and how it is told that something isn't possible.
 #ifndef GWB_FEATURES_SHAPES_HPP
 #define GWB_FEATURES_SHAPES_HPP
 #include "exact.hpp"

@@ -96,8 +96,8 @@ inline Vector inwards(const Bench &bench, HalfEdge half, std::int64_t length)
     return steps_along(face, reduced(cross(plane_of(bench, face).across, side_at(bench, half).way())), length);
 }
 
-/// The points where the line at a distance from a half-edge, in its face, meets the sides before and after it, square where these run the other way; of
-/// those that have such a line too the line.
+/// The points where the line at a distance from a half-edge, in its face, meets the sides before and after it, square where these run the other way;
+/// of those that have such a line too the line.
 inline std::array<Vector, 2> setbacks(const Bench &bench, HalfEdge half, std::int64_t width, const std::set<Edge> &lined = {})
 {
     const Face face = bench.face_of(half);
@@ -127,7 +127,9 @@ struct End {
 /// The point where three slopes meet.
 inline Vector common_point(const Bench &bench, const std::vector<End> &ends, const Failure &apart)
 {
-    const auto across = [&](const End &end) { return reduced(cross(side_at(bench, end.half).way(), subtract(end.corner->second, end.corner->first))); };
+    const auto across = [&](const End &end) {
+        return reduced(cross(side_at(bench, end.half).way(), subtract(end.corner->second, end.corner->first)));
+    };
     const Corner &one = *ends[0].corner, &other = *ends[1].corner;
     const Vector &start = one.first == other.first || one.first == other.second ? one.first : one.second;
     const Vector line = reduced(cross(across(ends[0]), across(ends[1]))), third = across(ends[2]);
@@ -258,11 +260,12 @@ inline auto cut_shoulder(Bench &bench, Face face, Edge edge, std::int64_t width,
         throw impossible(Misfit::not_of_face, edge.number());
     const HalfEdge half = (*faces)[0] == face ? plus(edge) : minus(edge);
     const auto ends = setbacks(bench, half, width);
-    return cut_out(bench, face, prism({start_of(bench, half), start_of(bench, half.twin()), ends[1], ends[0]}, steps_along(face, plane.across, -depth)));
+    const Path strip = {start_of(bench, half), start_of(bench, half.twin()), ends[1], ends[0]};
+    return cut_out(bench, face, prism(strip, steps_along(face, plane.across, -depth)));
 }
 
-/// Whether edges of one solid all bend outwards, where it has less than half of the room around them, or none does. Not possible: FlatEdge: the faces of
-/// one lie in a plane; NotAlike.
+/// Whether edges of one solid all bend outwards, where it has less than half of the room around them, or none does. Not possible: FlatEdge: the faces
+/// of one lie in a plane; NotAlike.
 inline bool all_bend_outwards(const Bench &bench, const std::vector<Edge> &edges)
 {
     std::optional<std::pair<Solid, bool>> first;

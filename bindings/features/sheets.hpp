@@ -39,8 +39,8 @@ inline bool comes_before(const Vector &from, const Vector &one, const Vector &ot
     return quarters != 0 ? quarters < 0 : turned(one, other) < 0;
 }
 
-/// The cycles of sides, which rise: from each side on to the one that bounds the same corner of the region. Thrown is what the caller says where there is
-/// none.
+/// The cycles of sides, which rise: from each side on to the one that bounds the same corner of the region. Thrown is what the caller says where there
+/// is none.
 inline std::vector<Cycle> cycles_of(const std::vector<Side> &sides, Axes axes, const Failure &why)
 {
     const auto starts_before = [](const Side &one, const Side &other) { return one.start < other.start; };
@@ -66,8 +66,8 @@ inline std::vector<Cycle> cycles_of(const std::vector<Side> &sides, Axes axes, c
     return found;
 }
 
-/// The regions that sides bound, the outline of each and then its holes, the largest first; where they touch in a point they stay apart. Thrown is what the
-/// caller says where the sides make no outlines, or a hole lies in none.
+/// The regions that sides bound, the outline of each and then its holes, the largest first; where they touch in a point they stay apart. Thrown is
+/// what the caller says where the sides make no outlines, or a hole lies in none.
 inline std::vector<std::vector<Cycle>> regions_of(const std::vector<Side> &sides, const Vector &across, const Failure &why)
 {
     const Axes axes = flat_axes(across);
@@ -84,8 +84,9 @@ inline std::vector<std::vector<Cycle>> regions_of(const std::vector<Side> &sides
         found.push_back({cycle});
     for (const Cycle &hole : holes) { // into the smallest around it
         const auto around = std::find_if(found.rbegin(), found.rend(), [&](const auto &region) {
-            const auto off = std::find_if(hole.begin(), hole.end(), [&](const Side &side) { return locate(region[0], {side.start}, axes) != Place::on; });
-            return off != hole.end() && locate(region[0], {off->start}, axes) == Place::inside;
+            const auto place = [&](const Side &side) { return locate(region[0], {side.start}, axes); };
+            const auto off = std::find_if(hole.begin(), hole.end(), [&](const Side &side) { return place(side) != Place::on; });
+            return off != hole.end() && place(*off) == Place::inside;
         });
         if (around == found.rend())
             throw why;
@@ -137,7 +138,10 @@ public:
         for (auto &[ends, piece] : pieces) {
             piece.left = left_over(ends, piece.parts, true);
             piece.right = left_over(ends, piece.parts, false);
-            join(piece);
+            for (std::size_t one : piece.left) // a held and an added one that look one way on both sides of it become one
+                for (std::size_t other : piece.right)
+                    if (sheets_[one].is_added() != sheets_[other].is_added() && sheets_[one].is_facing() == sheets_[other].is_facing())
+                        joined_.join(std::min(one, other), std::max(one, other));
         }
         for (const auto &[ends, piece] : pieces) { // each goes to the sheets that it bounds afterwards
             keep(piece.left, piece.right, piece.parts, {ends.first, ends.second});
@@ -205,15 +209,6 @@ private:
             run.half = old.start == run.start ? old.half : old.turned().half;
             kept_[place].push_back(run);
         }
-    }
-
-    /// A held and an added sheet that look one way on both sides of a piece become one.
-    void join(const Piece &piece)
-    {
-        for (std::size_t one : piece.left)
-            for (std::size_t other : piece.right)
-                if (sheets_[one].is_added() != sheets_[other].is_added() && sheets_[one].is_facing() == sheets_[other].is_facing())
-                    joined_.join(std::min(one, other), std::max(one, other));
     }
 
     /// The sheets beside a piece, left of it or right, without those that go: an added one and a held one that look against each other.
