@@ -191,10 +191,12 @@ struct Combined {
     [[nodiscard]] std::vector<Face> marked(std::size_t from, std::size_t count) const
     {
         const auto is_marked = [&](std::size_t mark) { return from <= mark && mark - from < count; };
-        const auto found = filtered(regions, [&](const Sheet &region) { return any(region.marks, is_marked); });
-        std::vector<Face> faces = mapped(found, [](const Sheet &region) { return region.face; });
-        std::sort(faces.begin(), faces.end());
-        return faces;
+        std::vector<Face> found;
+        for (const Sheet &region : regions)
+            if (any(region.marks, is_marked))
+                found.push_back(region.face);
+        std::sort(found.begin(), found.end());
+        return found;
     }
     /// What a face went into.
     [[nodiscard]] Regions became(Face face) const
@@ -221,7 +223,7 @@ public:
             put(cycle, nullptr);
     }
 
-    /// The model of a solid, without the rest; none where the surface isn't closed, or faces lie back to back at an edge.
+    /// The model of a solid, without the rest, once; none where the surface isn't closed, or faces lie back to back at an edge.
     std::optional<Combined> made(Solid solid)
     {
         pair_whole();
@@ -234,7 +236,7 @@ public:
         name_edges(made);
         for (std::size_t region = 0; region < regions_.size(); region++)
             name_face(made, regions_[region], starts_[region]);
-        return Combined{made, regions_};
+        return Combined{std::move(made), std::move(regions_)};
     }
 
 private:

@@ -14,9 +14,7 @@ struct Side {
 };
 
 /// Two faces of different solids that go through the same points in opposite directions.
-struct Match {
-    Side one, other;
-};
+using Match = std::pair<Side, Side>;
 
 /// The faces that match, in the order of the solids and their faces. Faces with rings match none.
 inline std::vector<Match> matches(const Bench &bench, Items<Solid> solids)
@@ -32,7 +30,7 @@ inline std::vector<Match> matches(const Bench &bench, Items<Solid> solids)
             const Path path = from_least(mapped(cycles_at(bench, face)[0], [](const machining::Side &side) { return side.start; }));
             for (const Side &side : seen[from_least(backwards(path))])
                 if (side.solid != solid)
-                    found.push_back({side, {solid, face}});
+                    found.push_back({side, Side{solid, face}});
             seen[path].push_back({solid, face});
         }
     }
@@ -44,18 +42,18 @@ inline void glue_all(Bench &bench, Items<Solid> solids)
 {
     std::vector<Match> left = matches(bench, solids);
     std::set<Solid> joined = {*solids.begin()};
-    const auto has_one = [&](const Match &match) { return joined.count(match.one.solid) != joined.count(match.other.solid); };
+    const auto has_one = [&](const Match &match) { return joined.count(match.first.solid) != joined.count(match.second.solid); };
     for (auto next = left.begin(); (next = std::find_if(left.begin(), left.end(), has_one)) != left.end(); left.erase(next)) {
-        if (joined.count(next->one.solid) == 0)
-            std::swap(next->one, next->other);
-        bench.glue(next->one.face, next->other.face);
-        joined.insert(next->other.solid);
+        if (joined.count(next->first.solid) == 0)
+            std::swap(next->first, next->second);
+        bench.glue(next->first.face, next->second.face);
+        joined.insert(next->second.solid);
     }
     for (Solid solid : solids)
         if (joined.count(solid) == 0)
             throw impossible(Misfit::no_match, solid.number());
     if (!left.empty())
-        throw impossible(Misfit::glued_twice, left.front().one.face.number());
+        throw impossible(Misfit::glued_twice, left.front().first.face.number());
 }
 
 } // namespace gwb_session::gluing

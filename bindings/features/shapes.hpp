@@ -259,7 +259,7 @@ public:
         return overlap(cut_by(Plane::through(side.start, cross(up, side.way()))), [&] { return std::vector{Span(whole)}; });
     }
 
-    /// Where a ray meets it from behind.
+    /// Where a ray from a point off its plane meets it.
     [[nodiscard]] Place hit(const ScaledPoint &start, const Vector &ray) const
     {
         const Wide below = height(start), slope = dot(plane.across, ray);
