@@ -84,10 +84,8 @@ class Bench:
 
     def label_alike(self, kind: str, others: Iterable[Tuple[int, int]]) -> None:
         """Of each pair of solids or faces the second one gets the label that the first one has, if it has one."""
-        looks = {(kind, other): self.kernel.notes.labels.get((kind, number)) for number, other in others}
-        for thing, look in looks.items():
-            if look:
-                self.kernel.notes.put(thing, look)
+        labels = self.kernel.notes.labels
+        self.kernel.notes.put(*(((kind, other), labels[kind, number]) for number, other in others if (kind, number) in labels))
 
     def step(self) -> Block:
         """The commands given in it are one command, or in a draft part of it. Where one isn't accepted, all is as before."""
@@ -123,7 +121,7 @@ class LabelledFaces:
         for face in new:
             whole = next((whole for whole, shape in self._faces.items() if _lies_in(model, face, shape)), None)
             if whole is not None:
-                self._kernel.notes.put(('face', face), self._kernel.notes.labels.get(('face', whole)))
+                self._kernel.notes.put((('face', face), self._kernel.notes.labels.get(('face', whole))))
 
 
 def _lies_in(model: Model, face: int, shape: FlatFace) -> bool:

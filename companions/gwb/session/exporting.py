@@ -50,7 +50,7 @@ class Exporting(Methods):
             thing = SolidPart(self._bench.kernel, number)
         number = self._bench.number('thing', thing, thing.kind)
         _there = thing.faces if isinstance(thing, SolidPart) else thing.solid
-        self._bench.kernel.notes.put((thing.kind, number), None if look == Appearance() else look)
+        self._bench.kernel.notes.put(((thing.kind, number), None if look == Appearance() else look))
 
     @property
     def unit(self) -> Fraction:
@@ -107,8 +107,8 @@ class Exporting(Methods):
         with self._bench.step():
             if found.model.solids:
                 self._bench.features.load(renumbered(found.model, new))
-            for (kind, number), look in found.looks.items():
-                self._bench.kernel.notes.put((kind, new[kind][number]), look._replace(name=look.name[:LONGEST_NAME]))
+            looks = [((kind, new[kind][number]), look._replace(name=look.name[:LONGEST_NAME])) for (kind, number), look in found.looks.items()]
+            self._bench.kernel.notes.put(*looks)
         return [new['solid'][solid] for solid in found.model.solids]
 
 

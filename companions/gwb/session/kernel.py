@@ -37,12 +37,13 @@ class Kernel(Turns):
         # Whether a command is being given, whether this turn has given one, and whether things may have gone that have labels.
         self._is_giving = self._has_given = self._may_have_gone = False
         self._listing: Optional[Tuple[Tuple[int, ...], Model]] = None
-        self._ended: Optional[List[str]] = None
+        # The commands that were held when the session ended, and the labels.
+        self._ended: Optional[Tuple[List[str], Dict[Thing, Appearance]]] = None
 
     def close(self) -> None:
         """Ends the session. Its script and its labels are kept."""
         if self.lines.is_open:
-            self._ended, self.notes.labels = self.commands(), self.labels()
+            self._ended = self.commands(), self.labels()
         self.lines.close()
 
     def begin_turn(self) -> None:
@@ -52,12 +53,11 @@ class Kernel(Turns):
             return
         if self.lines.is_drafting and not any(block.is_draft for block in self.blocks):
             self.lines.abandon()
-            self.notes.end_draft(False)
         self.settle()
 
     def settle(self) -> None:
-        """The notes follow the commands."""
-        if self.lines.is_open:
+        """The notes follow the commands. In a draft there is nothing new."""
+        if self.lines.is_open and not self.lines.is_drafting:
             self.notes.settle(self.lines.depth)
 
     # What is held
@@ -72,17 +72,15 @@ class Kernel(Turns):
 
     def labels(self) -> Dict[Thing, Appearance]:
         """The labels of what is there, or was there when the session ended."""
-        return {thing: look for thing, look in self.notes.labels.items() if not self.lines.is_open or self.lines.in_use(*thing)}
+        return self._ended[1] if self._ended else {thing: look for thing, look in self.notes.labels.items() if self.lines.in_use(*thing)}
 
     def commands(self) -> List[str]:
         """The lines of each command that is held, and then those of the draft, if one is open."""
-        if self._ended is not None:
-            return self._ended
-        return [self.lines.script(place, 1) for place in range(self.lines.depth + self.lines.is_drafting)]
+        return self._ended[0] if self._ended else [self.lines.script(place, 1) for place in range(self.lines.depth + self.lines.is_drafting)]
 
     def script(self) -> str:
         """The lines of what is held."""
-        return ''.join(self._ended) if self._ended is not None else self.lines.script(0, self.lines.depth + 1)
+        return ''.join(self.commands())
 
     # Commands
 
@@ -146,8 +144,7 @@ class Kernel(Turns):
     def _forget_gone(self) -> None:
         """What is gone has no label any more, before a turn makes something that may have its number. Undo gives it back."""
         gone = [thing for thing in self.notes.labels if not self.lines.in_use(*thing)]
-        for thing in gone:
-            self.notes.drop(thing)
+        self.notes.put(*((thing, None) for thing in gone))
         self._may_have_gone = bool(gone)    # (there still, where nothing comes of what is given)
 
     def expect_loss(self) -> None:

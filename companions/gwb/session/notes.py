@@ -1,24 +1,24 @@
 """What a session holds beside the model and follows its commands: which of them are one step to undo, the unit, and labels."""
 
+from dataclasses import dataclass, field
 from fractions import Fraction
 from typing import Dict, List, Mapping, Optional, Tuple
 
 from ..formats.appearance import Appearance, Thing
 
-Look = Optional[Appearance]
+Looks = List[Tuple[Thing, Optional[Appearance]]]
 # A place among labels and units, to which there is a way back: how many labels the note had, and its unit.
 Place = Tuple[int, Fraction]
 
 
+@dataclass(eq=False)
 class Note:
     """What goes with a command: whether a step to undo begins with it, the unit after it, and the labels that were given from it up to the next
-    one: the thing, its look before and after, None for none."""
+    one, None where one was taken away."""
 
-    __slots__ = ('begins', 'unit', 'looks')
-
-    def __init__(self, begins: bool, unit: Fraction) -> None:
-        self.begins, self.unit = begins, unit
-        self.looks: List[Tuple[Thing, Look, Look]] = []
+    begins: bool
+    unit: Fraction
+    looks: Looks = field(default_factory=list)
 
 
 class Notes:
@@ -27,20 +27,19 @@ class Notes:
     The commands are the library's: `settle` brings the notes to as many as are held there, so whatever exception comes between, they agree."""
 
     def __init__(self, unit: Fraction) -> None:
-        self.labels: Dict[Thing, Appearance] = {}
         # The first note goes with what was there before all commands.
         self._notes = [Note(True, unit)]
         self.at = 0
-        self._draft: Optional[Note] = None
-        # The note of a command that may have been accepted.
+        # That of the draft that is open, or of a command that may have been accepted.
         self._coming: Optional[Note] = None
         # In a group how many commands were held before it.
         self.group_from: Optional[int] = None
+        self._labels: Optional[Dict[Thing, Appearance]] = None
 
     @property
     def now(self) -> Note:
-        """That of the draft, or of the last command."""
-        return self._draft or self._notes[self.at]
+        """That of what comes, as in a draft, or of the last command."""
+        return self._coming or self._notes[self.at]
 
     def held(self) -> List[Note]:
         """That of what was there before all commands, and of each one that is held."""
@@ -48,87 +47,51 @@ class Notes:
 
     # Labels
 
-    def put(self, thing: Thing, look: Look) -> None:
-        """A thing has another look, None for none, as part of the last command, or of the draft."""
-        self.now.looks.append((thing, self.labels.get(thing), look))
-        self._set(thing, look)
+    @property
+    def labels(self) -> Dict[Thing, Appearance]:
+        """The look of each thing that has one, also of what is gone."""
+        if self._labels is None:
+            looks = {thing: look for note in (*self.held(), self.now) for thing, look in note.looks}
+            self._labels = {thing: look for thing, look in looks.items() if look}
+        return self._labels
 
-    def drop(self, thing: Thing) -> None:
-        """A thing that is gone has no look, as part of the command that is expected, or of the draft."""
-        if self._coming is None:
-            self.put(thing, None)
-        else:
-            self._coming.looks.append((thing, self.labels.get(thing), None))
+    def put(self, *looks: Tuple[Thing, Optional[Appearance]]) -> None:
+        """Things have other looks, None for none, as part of what comes, or of the last command."""
+        self._labels = None
+        self.now.looks += looks
 
-    def begin_with(self, labels: Dict[Thing, Appearance]) -> None:
+    def begin_with(self, labels: Mapping[Thing, Appearance]) -> None:
         """These labels were there before all commands."""
-        self._notes[0].looks += [(thing, None, look) for thing, look in labels.items()]
-        self.labels.update(labels)
+        self._labels = None
+        self._notes[0].looks += labels.items()
 
     def renumber(self, numbers: Mapping[str, Mapping[int, int]]) -> None:
         """All things have other numbers, said for each kind."""
-        looks = {(kind, numbers[kind][number]): look for (kind, number), look in self.labels.items() if number in numbers[kind]}
-        for thing in list(self.labels):
-            self.put(thing, None)
-        for thing, look in looks.items():
-            self.put(thing, look)
-
-    def _set(self, thing: Thing, look: Look) -> None:
-        if look is None:
-            self.labels.pop(thing, None)
-        else:
-            self.labels[thing] = look
+        looks = [((kind, numbers[kind][number]), look) for (kind, number), look in self.labels.items() if number in numbers[kind]]
+        self.put(*((thing, None) for thing in self.labels), *looks)
 
     # Commands
 
     def expect(self) -> None:
-        """A command is about to be given, outside of a draft."""
-        self._coming = Note(self.group_from is None or self.at <= self.group_from, self.now.unit)
+        """A command or a draft is about to be given, outside of a draft."""
+        self._coming = Note(self.group_from is None or self.at <= self.group_from, self._notes[self.at].unit)
 
     def settle(self, depth: int) -> None:
-        """So many commands are held."""
-        coming, self._coming = self._coming, None
-        if coming is not None and depth == self.at + 1:
-            self._take_back(coming, 0)
-            self._notes[depth:] = [coming]
-        while self.at > depth:
-            self._take_back(self._notes[self.at], 0)
-            self.at -= 1
-        while self.at < depth:
-            if self.at + 1 == len(self._notes):
-                self._notes.append(Note(True, self._notes[self.at].unit))
-            self._do_again(self._notes[self.at + 1])
-            self.at += 1
-
-    def _take_back(self, note: Note, looks: int) -> None:
-        """All looks of a note but the first so many are as before."""
-        for thing, before, _ in reversed(note.looks[looks:]):
-            self._set(thing, before)
-
-    def _do_again(self, note: Note) -> None:
-        note.looks = [(thing, self.labels.get(thing), after) for thing, _, after in note.looks]
-        for thing, _, after in note.looks:
-            self._set(thing, after)
+        """So many commands are held, and no draft is open."""
+        if self._coming and depth == self.at + 1:
+            self._notes[depth:] = [self._coming]
+        elif self._coming or depth != self.at:
+            self._labels = None
+        while len(self._notes) <= depth:
+            self._notes.append(Note(True, self._notes[-1].unit))
+        self.at, self._coming = depth, None
 
     # Drafts and groups
 
-    def open_draft(self) -> None:
-        """A draft is open."""
-        self._draft = Note(False, self.now.unit)
-
-    def commit(self) -> None:
-        """The draft is about to be one command."""
-        self.expect()
-        if self._coming and self._draft:
-            self._coming.unit, self._coming.looks = self._draft.unit, self._draft.looks
-
-    def end_draft(self, is_kept: bool) -> None:
-        """The draft is over. Where it wasn't kept, what it changed is as before; labels of one that had no steps go with the last command."""
-        draft, self._draft = self._draft, None
-        if draft and not is_kept:
-            self._take_back(draft, 0)
-        elif draft and self._coming is None:
-            self._notes[self.at].looks += draft.looks
+    def end_empty(self) -> None:
+        """The draft that is open has no steps: its labels go with the last command."""
+        self._notes[self.at].looks += self.now.looks
+        self._coming = None
 
     def place(self) -> Place:
         """Where it is now."""
@@ -136,8 +99,8 @@ class Notes:
 
     def go_back(self, place: Place) -> None:
         """It is as it was at a place, of the same draft or after the same command."""
+        self._labels = None
         looks, self.now.unit = place
-        self._take_back(self.now, looks)
         del self.now.looks[looks:]
 
     def hand_on(self, command: int, place: Place) -> None:

@@ -64,23 +64,22 @@ class _Draft(_Part):
 
     def begin(self) -> None:
         self._kernel.lines.open_draft()
-        self._kernel.notes.open_draft()
+        self._kernel.notes.expect()
 
     def keep(self) -> None:
         """Its steps are one command."""
         kernel = self._kernel
         if kernel.lines.mark() == 0:
             kernel.lines.abandon()
+            kernel.notes.end_empty()
         else:
-            kernel.notes.commit()
             kernel.lines.commit()
-        kernel.notes.end_draft(True)
         kernel.settle()
 
     def take_back(self) -> None:
         if self._kernel.lines.is_drafting:
             self._kernel.lines.abandon()
-        self._kernel.notes.end_draft(False)
+        self._kernel.settle()
 
 
 class _Group(_Draft):
