@@ -16,6 +16,7 @@ from .kernel import Kernel
 from .library import find_path
 from .reading import EdgePart, Part, SolidPart
 from .steps import Block
+from .turns import TakesTurns
 
 _PACKAGE = __name__.split('.')[0]
 
@@ -96,10 +97,11 @@ class Bench:
         return self.kernel.lines.model([face.number for face in SolidPart(self.kernel, solid).faces])
 
 
-class Methods:
+class Methods(TakesTurns):
     """Methods of a workbench on one subject, over what they share."""
 
     _bench: Bench
+    _kernel: Kernel
 
 
 class LabelledFaces:

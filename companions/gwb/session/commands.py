@@ -21,12 +21,12 @@ class Commands(Methods):
         place = arguments.point('point', point)
         made = NewSolid(self._bench.new('solid', solid), self._bench.new('face', face),
                         self._bench.new('loop', loop), self._bench.new('vertex', vertex))
-        self._bench.kernel.do('mvfs', *made, *place)
+        self._kernel.do('mvfs', *made, *place)
         return made
 
     def kvfs(self, solid: arguments.Solid) -> None:
         """The solid goes, with its one face, loop and vertex."""
-        self._bench.kernel.do('kvfs', self._bench.number('solid', solid))
+        self._kernel.do('kvfs', self._bench.number('solid', solid))
 
     def mev(self, first: Corner, second: Corner, point: arguments.Point, *,
             edge: Optional[int] = None, vertex: Optional[int] = None) -> NewEdge:
@@ -34,57 +34,57 @@ class Commands(Methods):
         corners = self._bench.corner('first', first), self._bench.corner('second', second)
         place = arguments.point('point', point)
         made = NewEdge(self._bench.new('edge', edge), self._bench.new('vertex', vertex))
-        self._bench.kernel.do('mev', *corners, *made, *place)
+        self._kernel.do('mev', *corners, *made, *place)
         return made
 
     def kev(self, half: arguments.Edge) -> None:
         """The edge goes, and the vertex at which the half-edge ends."""
-        self._bench.kernel.do('kev', self._bench.half('half', half))
+        self._kernel.do('kev', self._bench.half('half', half))
 
     def mef(self, first: arguments.Edge, second: arguments.Edge, *, edge: Optional[int] = None,
             face: Optional[int] = None, loop: Optional[int] = None) -> NewFace:
         """A new edge across a face; the part of its loop from the first half-edge to before the second is of the new face."""
         halves = self._bench.half('first', first), self._bench.half('second', second)
         made = NewFace(self._bench.new('edge', edge), self._bench.new('face', face), self._bench.new('loop', loop))
-        self._bench.kernel.do('mef', *halves, *made)
+        self._kernel.do('mef', *halves, *made)
         return made
 
     def kef(self, half: arguments.Edge) -> None:
         """The edge goes, and the face on the other side of the half-edge."""
-        self._bench.kernel.do('kef', self._bench.half('half', half))
+        self._kernel.do('kef', self._bench.half('half', half))
 
     def kemr(self, half: arguments.Edge, *, loop: Optional[int] = None) -> int:
         """The edge goes, and the part of its loop after the half-edge is a new ring: its number."""
         word, made = self._bench.half('half', half), self._bench.new('loop', loop)
-        self._bench.kernel.do('kemr', word, made)
+        self._kernel.do('kemr', word, made)
         return made
 
     def mekr(self, first: Corner, second: Corner, *, edge: Optional[int] = None) -> int:
         """A new edge from the first corner to one in a ring of the same face, which becomes part of the first one's loop."""
         corners, made = (self._bench.corner('first', first), self._bench.corner('second', second)), self._bench.new('edge', edge)
-        self._bench.kernel.do('mekr', *corners, made)
+        self._kernel.do('mekr', *corners, made)
         return made
 
     def kfmrh(self, face: arguments.Face, other: arguments.Face) -> None:
         """The other face goes, and its loop becomes a ring of the face."""
-        self._bench.kernel.do('kfmrh', self._bench.number('face', face), self._bench.number('other', other, 'face'))
+        self._kernel.do('kfmrh', self._bench.number('face', face), self._bench.number('other', other, 'face'))
 
     def mfkrh(self, ring: arguments.LoopNumber, *, face: Optional[int] = None) -> int:
         """The ring becomes the outer loop of a new face: its number."""
         loop, made = self._bench.number('ring', ring, 'loop'), self._bench.new('face', face)
-        self._bench.kernel.do('mfkrh', loop, made)
+        self._kernel.do('mfkrh', loop, made)
         return made
 
     def ringmv(self, ring: arguments.LoopNumber, face: arguments.Face, way: str) -> None:
         """The ring becomes a ring of the face (way `in`), or its outer loop (way `out`)."""
-        self._bench.kernel.do('ringmv', self._bench.number('ring', ring, 'loop'), self._bench.number('face', face), arguments.word('way', way, ('in', 'out')))
+        self._kernel.do('ringmv', self._bench.number('ring', ring, 'loop'), self._bench.number('face', face), arguments.word('way', way, ('in', 'out')))
 
     def lamina(self, points: arguments.Points, *, solid: Optional[int] = None) -> Lamina:
         """A new solid of two faces, back to back, through up to 64 points. The front is seen with the points counterclockwise."""
         places = arguments.points('points', points, arguments.MOST_LAMINA_POINTS)
         number = self._bench.new('solid', solid)
-        self._bench.kernel.do('lamina', number, *(part for place in places for part in place))
-        fresh = self._bench.kernel.lines.fresh
+        self._kernel.do('lamina', number, *(part for place in places for part in place))
+        fresh = self._kernel.lines.fresh
         front, back = fresh('face')
         return Lamina(number, front, back, fresh('edge'), fresh('vertex'))
 
@@ -92,8 +92,8 @@ class Commands(Methods):
         """A new solid: the block from the point on with edges along the axes, so long as the sizes say."""
         place, lengths = arguments.point('point', point), arguments.point('sizes', sizes)
         number = self._bench.new('solid', solid)
-        self._bench.kernel.do('block', number, *place, *lengths)
-        fresh = self._bench.kernel.lines.fresh
+        self._kernel.do('block', number, *place, *lengths)
+        fresh = self._kernel.lines.fresh
         top, bottom, *sides = fresh('face')
         return Block(number, top, bottom, tuple(sides), fresh('edge'), fresh('vertex'))
 
@@ -102,12 +102,12 @@ class Commands(Methods):
 
         A lamina's front is swept along its normal, its back along the opposite one: the other way the solid is inside out."""
         number, way = self._bench.number('face', face), arguments.point('vector', vector)
-        self._bench.kernel.do('sweep', number, *way)
-        fresh = self._bench.kernel.lines.fresh
+        self._kernel.do('sweep', number, *way)
+        fresh = self._kernel.lines.fresh
         edges = iter(fresh('edge'))
         rising: List[int] = []
         far: List[int] = []
-        for loop in FacePart(self._bench.kernel, number).loops:
+        for loop in FacePart(self._kernel, number).loops:
             round_loop = list(islice(edges, 2 * len(loop.half_edges)))
             rising += [round_loop[0], *round_loop[1:-1:2]]
             far += [*round_loop[2::2], round_loop[-1]]
@@ -116,18 +116,18 @@ class Commands(Methods):
     def glue(self, face: arguments.Face, other: arguments.Face) -> int:
         """The solids of the two faces become one along them: its number."""
         faces = self._bench.number('face', face), self._bench.number('other', other, 'face')
-        kept = self._bench.kernel.lines.solid_of(faces[0])
-        self._bench.kernel.do('glue', *faces)
+        kept = self._kernel.lines.solid_of(faces[0])
+        self._kernel.do('glue', *faces)
         return kept
 
     def undo(self, *, command: bool = False) -> None:
         """The last step is taken back: a command, or all those of a feature or a group; with `command=True` one command of it. A draft is one
         command. Refused: NothingToUndo. In a draft InDraft, in a group InGroup."""
-        self._bench.kernel.step('undo', 1 if arguments.flag('command', command) else self._bench.kernel.notes.step_back())
+        self._kernel.step('undo', 1 if arguments.flag('command', command) else self._kernel.notes.step_back())
 
     def redo(self, *, command: bool = False) -> None:
         """The step that was taken back last is done again; with `command=True` one command of it. Refused: NothingToRedo."""
-        self._bench.kernel.step('redo', 1 if arguments.flag('command', command) else self._bench.kernel.notes.step_ahead())
+        self._kernel.step('redo', 1 if arguments.flag('command', command) else self._kernel.notes.step_ahead())
 
     def plane(self, face: arguments.Face) -> Plane:
         """The plane of the face, which `split` and `faces` take."""
@@ -150,4 +150,4 @@ class Commands(Methods):
     def _asked(self, word: str, kind: str, thing: object) -> Reply:
         """The reply to a question of one thing. Refused: that it isn't there."""
         number = self._bench.number(kind, thing)
-        return self._bench.kernel.lines.asked(f'{word} {number}')
+        return self._kernel.lines.asked(f'{word} {number}')

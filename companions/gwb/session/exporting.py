@@ -34,7 +34,7 @@ class Exporting(Methods):
     @property
     def labels(self) -> Appearances:
         """The names and colours that were given, by kind and number."""
-        return MappingProxyType(self._bench.kernel.labels())
+        return MappingProxyType(self._kernel.labels())
 
     def label(self, thing: Union[SolidPart, FacePart, arguments.MadeSolid], name: str = '', colour: str = '') -> None:
         """Gives a solid, or what a command returned that made it, or a face a name, and a colour such as '#FF8000'; with neither what it had is
@@ -47,19 +47,19 @@ class Exporting(Methods):
             number = getattr(thing, 'solid', None)
             if type(number) is not int:
                 raise TypeError(f'thing: a solid or a face is wanted, not {thing!r}')
-            thing = SolidPart(self._bench.kernel, number)
+            thing = SolidPart(self._kernel, number)
         number = self._bench.number('thing', thing, thing.kind)
         _there = thing.faces if isinstance(thing, SolidPart) else thing.solid
-        self._bench.kernel.notes.put(((thing.kind, number), None if look == Appearance() else look))
+        self._kernel.notes.put(((thing.kind, number), None if look == Appearance() else look))
 
     @property
     def unit(self) -> Fraction:
         """How many millimetres a coordinate stands for: as the session began, but where coordinates were multiplied for a finer unit."""
-        return self._bench.kernel.notes.now.unit
+        return self._kernel.notes.now.unit
 
     def page(self) -> str:
         """A page in HTML to turn the model and to pick from it, as `gwb-view` makes it, with the labels."""
-        return _page(self._bench.kernel.listing(), self._bench.kernel.labels(), self.unit)
+        return _page(self._kernel.listing(), self._kernel.labels(), self.unit)
 
     def export(self, path: arguments.Path) -> None:
         """Writes what is held to a file, by the ending of its name: .step or .stp, .3mf, .glb, .obj (colours in a .mtl beside it), .off, .stl, .html.
@@ -69,14 +69,14 @@ class Exporting(Methods):
         file = Path(arguments.path('path', path))
         if file.suffix.lower() not in _ENDINGS:
             raise ValueError(f'{file.name}: the endings are {" ".join(_ENDINGS)}')
-        model = self._bench.kernel.listing()
+        model = self._kernel.listing()
         if not model.solids and file.suffix.lower() != '.html':
             raise Unfit(f'{file.name}: no solid is held, so there is nothing to write')
         touching = next(touching_solids(model), None) if file.suffix.lower() in ('.off', '.stl') else None
         if touching:
             warn('solids {} and {} touch or overlap, and {} does not keep solids apart: many programs will read one wrong body; .3mf and .step keep them '
                  'apart'.format(*touching, file.suffix))
-        file.write_bytes(_written(model, Said(self._bench.kernel.labels(), self.unit), file))
+        file.write_bytes(_written(model, Said(self._kernel.labels(), self.unit), file))
 
     def import_file(self, path: arguments.Path, *, form: str = '', scale: Exact = 1, rounded: bool = False, keep_triangles: bool = False,
                     repair: bool = False, within: Exact = 0, flat: bool = False) -> 'Selection[SolidPart]':
@@ -99,16 +99,16 @@ class Exporting(Methods):
         for wrong in found.wrong:
             warn(f'{file}: {wrong}')
         solids = self._take_in(found)
-        return Selection('solid', '', [SolidPart(self._bench.kernel, solid) for solid in solids])
+        return Selection('solid', '', [SolidPart(self._kernel, solid) for solid in solids])
 
     def _take_in(self, found: Imported) -> List[int]:
         """Makes the solids of a file as one command, and labels what has a name or a colour: their numbers."""
-        new = self._bench.kernel.numbers.instead_of(found.model)
+        new = self._kernel.numbers.instead_of(found.model)
         with self._bench.step():
             if found.model.solids:
                 self._bench.features.load(renumbered(found.model, new))
             looks = [((kind, new[kind][number]), look._replace(name=look.name[:LONGEST_NAME])) for (kind, number), look in found.looks.items()]
-            self._bench.kernel.notes.put(*looks)
+            self._kernel.notes.put(*looks)
         return [new['solid'][solid] for solid in found.model.solids]
 
 

@@ -84,9 +84,9 @@ class FeatureMethods(Methods):
 
         Refused: NoFace; NotFlat; NotInPlane: the origin or `right` lies off the plane, or no axis lies in it; OffLattice: no whole vector in the
         plane is as long as `right` and across it."""
-        part = FacePart(self._bench.kernel, self._bench.number('face', face))
+        part = FacePart(self._kernel, self._bench.number('face', face))
         start, wanted = (None if value is None else arguments.point(name, value) for name, value in (('origin', origin), ('right', right)))
-        points, why = part.points, why_unfit(self._bench.kernel.lines.model([part.number]), part.number)
+        points, why = part.points, why_unfit(self._kernel.lines.model([part.number]), part.number)
         if why is not None:
             raise refused('sketch', NUMBERS['NotFlat'], part.number, why)
         across, start = reduced(part.normal), start or min(points)
@@ -217,8 +217,8 @@ class FeatureMethods(Methods):
 
     def _shaped(self, word: str, face: int, *values: Any) -> Notch:
         """Gives a feature in a face that leaves a floor and walls in its solid, whose labels the parts of its faces get. Refused: NoFace."""
-        solid = FacePart(self._bench.kernel, face).solid.number
-        labelled = LabelledFaces(self._bench.kernel, solid)
+        solid = FacePart(self._kernel, face).solid.number
+        labelled = LabelledFaces(self._kernel, solid)
         with self._bench.step():
             self._bench.features.give(word, face, *values, frees=True)
             made = Notch(self._bench.features.made(FLOOR), self._bench.features.made(WALLS))
@@ -227,8 +227,8 @@ class FeatureMethods(Methods):
 
     def _sloped(self, word: str, edges: Sequence[int], *values: Any) -> Numbers:
         """Gives a feature that makes slopes of edges, which are returned; the parts of faces get the labels of these."""
-        solid, *_ = [EdgePart(self._bench.kernel, edge).solid.number for edge in edges]
-        labelled = LabelledFaces(self._bench.kernel, solid)
+        solid, *_ = [EdgePart(self._kernel, edge).solid.number for edge in edges]
+        labelled = LabelledFaces(self._kernel, solid)
         with self._bench.step():
             made = self._bench.features.written(word, len(edges), *values, frees=True)
             labelled.label_parts([solid], made)

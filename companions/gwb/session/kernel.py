@@ -47,7 +47,8 @@ class Kernel(Turns):
         self.lines.close()
 
     def begin_turn(self) -> None:
-        """What an exception left half-way is put right: a draft that nobody has begun is given up, and the notes follow the commands."""
+        """Then what an exception left half-way is put right: a draft that nobody has begun is given up, and the notes follow the commands."""
+        super().begin_turn()
         self._is_giving = self._has_given = False
         if not self.lines.is_open:
             return

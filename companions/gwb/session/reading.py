@@ -11,7 +11,7 @@ from ..geometry.solid_measures import root, square_area
 from ..geometry.vectors import Vector, dot, subtract
 from ..protocol.language import NUMBERS
 from .kernel import Kernel
-from .turns import PartOfTurns
+from .turns import TakesTurns
 
 Found = TypeVar('Found', bound='Part')
 Read = TypeVar('Read')
@@ -19,7 +19,7 @@ _PLURALS = {'vertex': 'vertices'}
 
 
 @dataclass(repr=False, unsafe_hash=True)
-class Part(PartOfTurns):
+class Part(TakesTurns):
     """One thing of the model held, by its number. What it says is read anew each time, so it follows the commands."""
 
     kind: ClassVar[str] = ''

@@ -30,27 +30,27 @@ class Reading(Methods):
 
     def solid(self, solid: arguments.Solid) -> SolidPart:
         """The solid of this number. If there is none, what is asked of it raises Refused; the same holds for the four kinds below."""
-        return SolidPart(self._bench.kernel, self._bench.number('solid', solid))
+        return SolidPart(self._kernel, self._bench.number('solid', solid))
 
     def face(self, face: arguments.Face) -> FacePart:
         """The face of this number."""
-        return FacePart(self._bench.kernel, self._bench.number('face', face))
+        return FacePart(self._kernel, self._bench.number('face', face))
 
     def loop(self, loop: arguments.LoopNumber) -> LoopPart:
         """The loop of this number."""
-        return LoopPart(self._bench.kernel, self._bench.number('loop', loop))
+        return LoopPart(self._kernel, self._bench.number('loop', loop))
 
     def edge(self, edge: arguments.Edge) -> EdgePart:
         """The edge of this number."""
-        return EdgePart(self._bench.kernel, self._bench.number('edge', edge))
+        return EdgePart(self._kernel, self._bench.number('edge', edge))
 
     def vertex(self, vertex: arguments.Vertex) -> VertexPart:
         """The vertex of this number."""
-        return VertexPart(self._bench.kernel, self._bench.number('vertex', vertex))
+        return VertexPart(self._kernel, self._bench.number('vertex', vertex))
 
     def solids(self) -> 'Selection[SolidPart]':
         """All solids."""
-        return Selection('solid', '', [SolidPart(self._bench.kernel, number) for number in self._bench.kernel.lines.numbers('solid')])
+        return Selection('solid', '', [SolidPart(self._kernel, number) for number in self._kernel.lines.numbers('solid')])
 
     def faces(self, *, solid: Optional[arguments.Solid] = None, plane: Optional[arguments.Point] = None,
               normal: Optional[arguments.Point] = None, containing: Optional[arguments.Point] = None,
@@ -64,7 +64,7 @@ class Reading(Methods):
             containing=None if containing is None else pointer(Point(*arguments.point('containing', containing))),
             area=None if area is None else pointer(ratio(arguments.factor('area', area))))
         wanted = _wanted(solid=solid, plane=plane, normal=normal, containing=containing, area=area)
-        return Selection('face', wanted, [FacePart(self._bench.kernel, number) for number in self._bench.features.find('find_faces', query)])
+        return Selection('face', wanted, [FacePart(self._kernel, number) for number in self._bench.features.find('find_faces', query)])
 
     def edges(self, *, solid: Optional[arguments.Solid] = None, between: Optional[Tuple[arguments.Face, arguments.Face]] = None,
               along: Optional[arguments.Point] = None, length: Optional[Exact] = None) -> 'Selection[EdgePart]':
@@ -75,12 +75,12 @@ class Reading(Methods):
             along=None if along is None else pointer(Point(*arguments.vector('along', along))),
             length=None if length is None else pointer(ratio(arguments.factor('length', length))))
         wanted = _wanted(solid=solid, between=between, along=along, length=length)
-        return Selection('edge', wanted, [EdgePart(self._bench.kernel, number) for number in self._bench.features.find('find_edges', query)])
+        return Selection('edge', wanted, [EdgePart(self._kernel, number) for number in self._bench.features.find('find_edges', query)])
 
     def vertices(self, *, solid: Optional[arguments.Solid] = None, at: Optional[arguments.Point] = None) -> 'Selection[VertexPart]':
         """The vertices of the solid, or all; `at` a point."""
         place = None if at is None else arguments.point('at', at)
-        parts = ([VertexPart(self._bench.kernel, number) for number in self._bench.kernel.lines.numbers('vertex')] if solid is None
+        parts = ([VertexPart(self._kernel, number) for number in self._kernel.lines.numbers('vertex')] if solid is None
                  else list(self.solid(solid).vertices))
         return Selection('vertex', _wanted(solid=solid, at=at), [part for part in parts if place is None or part.point == place])
 
@@ -142,18 +142,18 @@ class Reading(Methods):
 
     def vertices_array(self) -> memoryview:
         """A row for each vertex, rising: its number, x, y and z, in 64 bits each."""
-        return self._rows('read_vertices', [], self._bench.kernel.lines.greatest('vertex'), 4, LENGTH)
+        return self._rows('read_vertices', [], self._kernel.lines.greatest('vertex'), 4, LENGTH)
 
     def half_edges_array(self, solid: Optional[arguments.Solid] = None) -> memoryview:
         """A row for each half-edge, of a solid or of all, in 32 bits each: it, the vertex at which it starts, the half-edge after it in its loop, its
         loop and its face. A half-edge is here twice the number of its edge, and 1 more for `-`. Those of a loop come one after another, the outer loop of
         a face before its rings."""
-        return self._rows('read_half_edges', [self._of(solid)], 2 * self._bench.kernel.lines.greatest('edge'), 5, WORD)
+        return self._rows('read_half_edges', [self._of(solid)], 2 * self._kernel.lines.greatest('edge'), 5, WORD)
 
     def triangles_array(self, solid: Optional[arguments.Solid] = None) -> memoryview:
         """A row for each triangle of the faces of a solid, or of all, in 32 bits each: the face, and three vertices, counterclockwise as seen from outside.
         A face that isn't flat, or whose loops cross, has none."""
-        return self._rows('read_triangles', [self._of(solid)], 6 * self._bench.kernel.lines.greatest('edge'), 4, WORD)
+        return self._rows('read_triangles', [self._of(solid)], 6 * self._kernel.lines.greatest('edge'), 4, WORD)
 
     def _faces_sought(self, pair: Tuple[arguments.Face, arguments.Face]) -> List[int]:
         """The numbers of two faces for a query, in which 0 stands for any."""
@@ -175,13 +175,13 @@ class Reading(Methods):
         """The faces alone, and their numbers. Refused: NoFace."""
         numbers = [self._bench.number(name, face, 'face') for name, face in faces.items()]
         for number in numbers:
-            FacePart(self._bench.kernel, number).loops
-        return (self._bench.kernel.lines.model(numbers), *numbers)
+            FacePart(self._kernel, number).loops
+        return (self._kernel.lines.model(numbers), *numbers)
 
     def _edge(self, edge: arguments.Edge) -> Tuple[Model, int]:
         """The edge alone, and its number. Refused: NoEdge."""
         number = abs(self._bench.half_edge('edge', edge))
-        ends = EdgePart(self._bench.kernel, number).vertices
+        ends = EdgePart(self._kernel, number).vertices
         return Model((), {}, {}, {number: (ends[0].number, ends[1].number)}, {end.number: end.point for end in ends}), number
 
     def _of(self, solid: Optional[arguments.Solid]) -> int:
@@ -189,12 +189,12 @@ class Reading(Methods):
         if solid is None:
             return 0
         number = self._bench.number('solid', solid)
-        SolidPart(self._bench.kernel, number).faces
+        SolidPart(self._kernel, number).faces
         return number
 
     def _rows(self, name: str, solid: List[int], room: int, width: int, kind: Any) -> memoryview:
         """What a call writes, which has room for so many rows, at least as many as there are. Raises MemoryError."""
-        lines = self._bench.kernel.lines
+        lines = self._kernel.lines
         rows = (kind * (width * room or 1))()
         count: int = getattr(lines.library, name)(lines.handle, *solid, rows, room)
         if count > room:

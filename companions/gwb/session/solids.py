@@ -91,7 +91,7 @@ class SolidMethods(Methods):
         if motion is not None:
             return self._in_a_row('copy_solid', number, 1, motion)[0]
         model = _changed('copy_solid', self._bench.solid_model(number), change)
-        new = self._bench.kernel.numbers.instead_of(model)
+        new = self._kernel.numbers.instead_of(model)
         with self._bench.step():
             self._bench.features.load(renumbered(model, new))
             return self._labelled(Copy(new['solid'][number], new['face'], new['loop'], new['edge'], new['vertex'], number, self._bench))
@@ -143,8 +143,8 @@ class SolidMethods(Methods):
         with self._bench.step():
             self._bench.features.give('renumber', frees=True)
             made = Renumbered(*(dict(self._bench.features.pairs(which)) for which in (SOLIDS, FACES, LOOPS, EDGES, VERTICES)))
-            self._bench.kernel.notes.renumber({'solid': made.solids, 'face': made.faces})
-        self._bench.kernel.numbers.forget()
+            self._kernel.notes.renumber({'solid': made.solids, 'face': made.faces})
+        self._kernel.numbers.forget()
         return made
 
     def split(self, solid: arguments.Solid, plane: arguments.Point, *, above: Optional[int] = None, scale: bool = False) -> Split:
@@ -225,7 +225,7 @@ class SolidMethods(Methods):
 
     def _tell_lost_labels(self, first: int, faces: Sequence[int]) -> None:
         """Warns where faces that had different labels, or one of which had none, become one face: it has that of the first."""
-        labels = self._bench.kernel.notes.labels
+        labels = self._kernel.notes.labels
         if any(labels.get(('face', face)) != labels.get(('face', first)) for face in faces):
             together = (first, *(face for face in faces if face != first))
             warn('faces {} become one, which keeps the label of face {}'.format(' and '.join(map(str, together)), first))
@@ -252,24 +252,24 @@ class SolidMethods(Methods):
             except Refused as refused:
                 refused.args = (f'times {factor} all points of the cut are whole, but {refused}',)
                 raise
-            self._bench.kernel.notes.now.unit /= factor
+            self._kernel.notes.now.unit /= factor
             # (its offset stays in range, since it meets edges whose ends do)
             return self._parted(solid, new, lambda: give(without_common_factor((*plane[:3], plane[3] * factor)), new))
 
     def _parted(self, solid: int, above: int, give: Callable[[], Parts]) -> Parts:
         """Cuts a solid as one command. The part above, if it is kept, and parts of faces have the labels of what they were part of."""
-        labelled = LabelledFaces(self._bench.kernel, solid)
+        labelled = LabelledFaces(self._kernel, solid)
         with self._bench.step():
             made = give()
-            if self._bench.kernel.lines.in_use('solid', above):
+            if self._kernel.lines.in_use('solid', above):
                 self._bench.label_alike('solid', [(solid, above)])
             labelled.label_parts((solid, above), (*made.lower_caps, *made.upper_caps))
         return made
 
     def _split(self, solid: int, plane: Plane, above: int) -> Split:
         """Gives the command: what it makes."""
-        lines = self._bench.kernel.lines
-        self._bench.kernel.do('split', solid, *plane, above)
+        lines = self._kernel.lines
+        self._kernel.do('split', solid, *plane, above)
         faces, edges, vertices = (tuple(number for number in lines.fresh(kind) if lines.in_use(kind, number)) for kind in ('face', 'edge', 'vertex'))
         model = lines.model(faces)
         caps = [face for face in faces if all(dot(plane[:3], point) + plane[3] == 0 for point in model.face_points(face))]

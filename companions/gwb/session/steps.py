@@ -154,7 +154,7 @@ class Block:
 
     def __enter__(self) -> None:
         kernel = self._kernel
-        with kernel.taken():
+        with kernel.lock:
             if self._work:
                 raise RuntimeError('a draft or a group is begun once: draft() or group() is called for each')
             if not kernel.is_inside:
@@ -171,7 +171,7 @@ class Block:
                 raise
 
     def __exit__(self, kind: Optional[Type[BaseException]], *_: object) -> None:
-        with self._kernel.taken(is_holder=True):
+        with self._kernel.lock:
             if self._work and self._work in self._kernel.blocks:
                 self._work.end(kind is None)
             elif kind is None:
@@ -179,5 +179,5 @@ class Block:
 
     def __del__(self) -> None:
         if self._work and self._work in self._kernel.blocks:
-            with self._kernel.taken(is_holder=True):
+            with self._kernel.lock:
                 self._work.end(False)

@@ -4,18 +4,16 @@ Of a draft is what runs in the context (contextvars) of the task or thread that 
 goes on."""
 
 import sys
-from contextlib import contextmanager
 from contextvars import ContextVar
 from functools import wraps
 from inspect import CO_ASYNC_GENERATOR, CO_COROUTINE, CO_GENERATOR, isfunction
 from threading import Condition, current_thread
 from traceback import walk_stack
-from typing import Any, Callable, Iterator, Optional, Tuple, Type, TypeVar, cast
+from typing import Any, Callable, Optional, Tuple, TypeVar, cast
 
 from ..errors import OutOfStep
 
 Method = TypeVar('Method', bound=Callable[..., Any])
-Taker = TypeVar('Taker')
 _PATIENCE = 1.0
 # Functions that may wait half-way, and go on elsewhere.
 _CAN_WAIT = CO_GENERATOR | CO_COROUTINE | CO_ASYNC_GENERATOR
@@ -67,16 +65,13 @@ class Turns:
         self.is_inside = False
         self.holder: Optional[Holder] = None
 
-    @contextmanager
-    def taken(self, is_holder: bool = False) -> Iterator[None]:
-        """It is the turn of what is given in it; of a holder, wherever that goes on, at once."""
-        with self.lock:
-            if self.holder and not (is_holder or self.is_inside):
-                self.holder.leave_ended()
-            while self.holder and not (is_holder or self.is_inside or self.holder.is_here):
-                self.holder.require_end()
-                self.lock.wait(_PATIENCE)
-            yield
+    def begin_turn(self) -> None:
+        """With the lock, waits for the end of what is held, unless what calls this is part of it."""
+        if self.holder:
+            self.holder.leave_ended()
+        while self.holder and not self.holder.is_here:
+            self.holder.require_end()
+            self.lock.wait(_PATIENCE)
 
     def hold(self) -> None:
         """All that isn't part of what calls this waits from here on."""
@@ -90,55 +85,34 @@ class Turns:
         self.lock.notify_all()
 
 
-def taking_turns(cls: Type[Taker]) -> Type[Taker]:
-    """Each public method of a class, those of its bases included, is a turn of the kernel of its bench."""
-    for name in dir(cls):
-        method = getattr(cls, name)
-        if isfunction(method) and not name.startswith('_'):
-            setattr(cls, name, _taken(method))
-    return cls
-
-
-def _taken(method: Method) -> Method:
-    """The method as a turn of its own, which begins with `begin_turn`, where it isn't called in one."""
-
-    @wraps(method)
-    def taken(self: Any, *values: Any, **named: Any) -> Any:
-        kernel = self._bench.kernel
-        with kernel.taken():
-            if kernel.is_inside:
-                return method(self, *values, **named)
-            kernel.is_inside = True
-            try:
-                kernel.begin_turn()
-                return method(self, *values, **named)
-            finally:
-                kernel.is_inside = False
-
-    return cast(Method, taken)
-
-
-class PartOfTurns:
-    """What belongs to something that has turns, its `_kernel`: each public property of the classes below is whole, as a turn is."""
+class TakesTurns:
+    """What has a kernel: each public method and property of the classes below is a turn of that."""
 
     _kernel: Any
 
     def __init_subclass__(cls) -> None:
         super().__init_subclass__()
         for name, found in list(vars(cls).items()):
-            if isinstance(found, property) and found.fget and not name.startswith('_'):
-                setattr(cls, name, property(_whole(found.fget), doc=found.__doc__))
+            if isfunction(found) and not name.startswith('_'):
+                setattr(cls, name, _taken(found, False))
+            elif isinstance(found, property) and found.fget:
+                setattr(cls, name, property(_taken(found.fget, True), doc=found.__doc__))
 
 
-def _whole(getter: Method) -> Method:
+def _taken(method: Method, is_read: bool) -> Method:
+    """The method as a turn of its own where it isn't called in one. What is only read has its turn at once where nothing is held."""
 
-    @wraps(getter)
-    def taken(self: PartOfTurns) -> Any:
-        turns: Turns = self._kernel
-        with turns.lock:
-            if turns.is_inside or not turns.holder:
-                return getter(self)
-        with turns.taken():
-            return getter(self)
+    @wraps(method)
+    def taken(self: TakesTurns, *values: Any, **named: Any) -> Any:
+        kernel = self._kernel
+        with kernel.lock:
+            if kernel.is_inside or is_read and not kernel.holder:
+                return method(self, *values, **named)
+            kernel.begin_turn()
+            kernel.is_inside = True
+            try:
+                return method(self, *values, **named)
+            finally:
+                kernel.is_inside = False
 
     return cast(Method, taken)

@@ -42,7 +42,6 @@ from .results import Numbers
 from .selection import Reading
 from .solids import SolidMethods
 from .steps import Block
-from .turns import taking_turns
 
 # The endings and the first words of files that gwb-import reads.
 _IMPORTED = ('.obj', '.off', '.stl', '.3mf', '.amf', '.ply', '.step', '.stp')
@@ -52,7 +51,6 @@ _FIRST_WORDS = ('v', 'vn', 'vt', 'f', 'o', 'g', 'mtllib', 'OFF', 'ply', 'solid',
 _MARK = re.compile(rb'# (step|draft) of ([1-9][0-9]{0,8}) commands')
 
 
-@taking_turns
 class Workbench(SolidMethods, FeatureMethods, Commands, Reading, Exporting):
     """A running gwb. Each command is a method; one that isn't accepted raises Refused, Faulted or MemoryRefused."""
 
@@ -62,6 +60,7 @@ class Workbench(SolidMethods, FeatureMethods, Commands, Reading, Exporting):
         `unit` is how many millimetres a coordinate stands for, a whole number or a fraction, as `Fraction(1, 60)`.
         """
         self._bench = Bench(library, unit)
+        self._kernel = self._bench.kernel
 
     def __reduce__(self) -> NoReturn:
         raise TypeError('a workbench holds a running session, so it is neither copied nor pickled: save() writes its script')
@@ -74,51 +73,51 @@ class Workbench(SolidMethods, FeatureMethods, Commands, Reading, Exporting):
 
     def close(self) -> int:
         """Ends the session; 0."""
-        self._bench.kernel.close()
+        self._kernel.close()
         return 0
 
     def ask(self, line: str) -> Reply:
         """The reply to one line of the script language, whatever it is. What it makes, undoes or redoes is taken account of; of a draft
         all is undone or redone."""
-        return self._bench.kernel.ask(arguments.text('line', line))
+        return self._kernel.ask(arguments.text('line', line))
 
     def draft(self) -> ContextManager[None]:
         """The calls given in it are one command. By an exception it is abandoned: all is as before, what can be redone included. Within another
         draft they are part of that, and an exception takes these alone back.
 
         What is read in it is its model. It takes all but `undo` and `redo`, which raise InDraft. Calls of other threads wait for its end."""
-        return Block(self._bench.kernel, False)
+        return Block(self._kernel, False)
 
     def group(self) -> ContextManager[None]:
         """The calls given in it are one step to undo, in a draft part of it. By an exception all of them are taken back, what could be redone
         before included.
 
         It takes all but `undo` and `redo`, which raise InGroup; groups and drafts may stand in it. Calls of other threads wait for its end."""
-        return Block(self._bench.kernel, True)
+        return Block(self._kernel, True)
 
     def listing(self) -> Model:
         """The model held."""
-        return self._bench.kernel.listing()
+        return self._kernel.listing()
 
     def half_edges(self, loop: arguments.LoopNumber) -> Numbers:
         """The half-edges of a loop, from the least on: none of a lone loop, or of one that is not there."""
         number = self._bench.number('loop', loop)
-        found = self._bench.kernel.lines.loop(number)
+        found = self._kernel.lines.loop(number)
         return found.halves if found else ()
 
     def __repr__(self) -> str:
-        held = self._bench.kernel.notes.at
+        held = self._kernel.notes.at
         return f'<Workbench, {held} command{"" if held == 1 else "s"} held>'
 
     def script(self) -> str:
         """The script of what is held: the accepted commands, a line each; undone ones are left out."""
-        return self._bench.kernel.script()
+        return self._kernel.script()
 
     def save(self, path: arguments.Path) -> None:
         """Writes the script to a file. Comments in it say which commands are one step, the unit, and the labels, so that `load` knows them
         again."""
         file = Path(arguments.path('path', path))
-        lines = [*_saved_lines(self._bench.kernel), *comments(self._bench.kernel.labels())]
+        lines = [*_saved_lines(self._kernel), *comments(self._kernel.labels())]
         file.write_text(''.join(f'{line}\n' for line in lines), encoding='ascii')
 
     @classmethod
@@ -146,9 +145,9 @@ class Workbench(SolidMethods, FeatureMethods, Commands, Reading, Exporting):
         for number, line in lines:
             mark, unit = _MARK.fullmatch(line.rstrip(b'\r')), unit_in(line)
             if unit is not None:
-                self._bench.kernel.notes.now.unit = unit
+                self._kernel.notes.now.unit = unit
             elif mark and within not in (mark[1], b'draft'):
-                with Block(self._bench.kernel, mark[1] == b'step'):
+                with Block(self._kernel, mark[1] == b'step'):
                     given += self._take(file, lines, mark[1], min(int(mark[2]), most - given))
             elif is_answered(line):
                 self._take_line(file, number, line.decode('utf-8', 'surrogateescape'))
@@ -160,7 +159,7 @@ class Workbench(SolidMethods, FeatureMethods, Commands, Reading, Exporting):
     def _take_line(self, file: Path, number: int, line: str) -> None:
         """Gives a line of a script; a complaint names the file and the line."""
         try:
-            self._bench.kernel.do(line)
+            self._kernel.do(line)
         except (Complaint, InDraft) as error:
             error.args = (f'{file}, line {number}: {error.args[0]}{_hint(file, line)}',)
             raise
