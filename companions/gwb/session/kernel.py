@@ -1,8 +1,7 @@
 """The session of the library, the notes on its commands, the drafts and groups that are open in it, and the numbers of new things."""
 
 from fractions import Fraction
-from itertools import islice
-from typing import Any, Callable, Dict, List, Optional, Sequence, Tuple, TypeVar
+from typing import Any, Callable, Dict, Iterable, Iterator, List, Optional, Sequence, Tuple, TypeVar
 
 from ..errors import Complaint, InDraft, InGroup, OutOfStep
 from ..formats.appearance import Appearance, Thing
@@ -50,8 +49,6 @@ class Kernel(Turns):
         """Then what an exception left half-way is put right: a draft that nobody has begun is given up, and the notes follow the commands."""
         super().begin_turn()
         self._is_giving = self._has_given = False
-        if not self.lines.is_open:
-            return
         if self.lines.is_drafting and not any(block.is_draft for block in self.blocks):
             self.lines.abandon()
         self.settle()
@@ -175,39 +172,33 @@ class NewNumbers:
 
     def __init__(self, lines: Library) -> None:
         self._lines = lines
-        self._ever: Dict[str, int] = dict.fromkeys(KINDS, 0)
-        self._gaps: Dict[str, int] = dict.fromkeys(KINDS, 0)
+        self.forget()
+
+    def forget(self) -> None:
+        """What was in use may be taken again."""
+        self._ever, self._unseen = dict.fromkeys(KINDS, 0), {kind: iter(range(1, LARGEST + 1)) for kind in KINDS}
 
     def note(self) -> None:
         """The numbers that are in use now may be free after what comes."""
         self._ever = {kind: max(ever, self._lines.greatest(kind)) for kind, ever in self._ever.items()}
 
-    def forget(self) -> None:
-        """What was in use may be taken again."""
-        self._ever, self._gaps = dict.fromkeys(KINDS, 0), dict.fromkeys(KINDS, 0)
-
     def next(self, kind: str) -> int:
         """One above all that are in use or were; where the greatest there is was used, the least after the last one so given that isn't in use; where
         none is left, one past the greatest, which the kernel refuses."""
-        above = self._above(kind)
-        if above > LARGEST:
-            left = range(self._gaps[kind] + 1, LARGEST + 1)
-            above = self._gaps[kind] = next((number for number in left if not self._lines.in_use(kind, number)), above)
-        return above
+        return next(self._free(kind, self._unseen[kind]), LARGEST + 1)
 
     def instead_of(self, model: Model) -> Dict[str, Dict[int, int]]:
         """For each kind a free number for each of the model's: those that were never in use, then those in gaps. Refused: NumbersSpent."""
-        return {kind: dict(zip(sorted(numbers), self._free(kind, len(numbers)))) for kind, numbers in numbers_of(model).items()}
+        return {kind: self._several(kind, sorted(numbers)) for kind, numbers in numbers_of(model).items()}
 
-    def _above(self, kind: str) -> int:
-        """The number after all that are in use or were."""
-        return max(self._ever[kind], self._lines.greatest(kind)) + 1
-
-    def _free(self, kind: str, count: int) -> List[int]:
-        """So many numbers of the kind."""
-        above = self._above(kind)
-        found = list(range(above, min(above + count, LARGEST + 1)))
-        found += islice((number for number in range(1, above) if not self._lines.in_use(kind, number)), count - len(found))
-        if len(found) < count:
+    def _several(self, kind: str, numbers: Sequence[int]) -> Dict[int, int]:
+        new = dict(zip(numbers, self._free(kind)))
+        if len(new) < len(numbers):
             raise refused('load', NUMBERS['NumbersSpent'], KINDS.index(kind) + 1, f'no {kind} number is free, and one is needed')
-        return found
+        return new
+
+    def _free(self, kind: str, gaps: Iterable[int] = ()) -> Iterator[int]:
+        """The numbers after all that are in use or were, and those in gaps: of these, or of all, that aren't in use."""
+        above = max(self._ever[kind], self._lines.greatest(kind)) + 1
+        yield from range(above, LARGEST + 1)
+        yield from (number for number in gaps or range(1, above) if not self._lines.in_use(kind, number))
