@@ -106,7 +106,7 @@ class Exporting(Methods):
         new = self._kernel.numbers.instead_of(found.model)
         with self._bench.step():
             if found.model.solids:
-                self._bench.features.load(renumbered(found.model, new))
+                self._kernel.load(renumbered(found.model, new))
             looks = [((kind, new[kind][number]), look._replace(name=look.name[:LONGEST_NAME])) for (kind, number), look in found.looks.items()]
             self._kernel.notes.put(*looks)
         return [new['solid'][solid] for solid in found.model.solids]

@@ -56,22 +56,19 @@ def ratio(value: Fraction) -> Any:
     return Ratio(value.numerator, value.denominator) if max(value.numerator, value.denominator) <= _MOST_TERM else Ratio(1, _MOST_TERM)
 
 
-class FeatureCalls:
-    """The calls of the features of a kernel's library."""
-
-    def __init__(self, kernel: Kernel) -> None:
-        self._kernel, self._library, self._handle = kernel, kernel.lines.library, kernel.lines.handle
+class FeatureKernel(Kernel):
+    """A kernel with the features of its library."""
 
     def _ask(self, word: str, *values: Any) -> None:
         """Makes a call. A complaint is raised."""
         why = Refusal()
-        said = getattr(self._library, word)(self._handle, *values, why)
+        said = getattr(self.lines.library, word)(self.lines.handle, *values, why)
         if said != OK:
             raise self._complaint(word, said, why)
 
     def give(self, word: str, *values: Any, frees: bool = False) -> None:
         """Gives a feature; `frees` where numbers may be free after it that were in use."""
-        self._kernel.giving(lambda: self._ask(word, *values), frees)
+        self.giving(lambda: self._ask(word, *values), frees)
 
     def written(self, word: str, room: int, *values: Any, frees: bool = False) -> Numbers:
         """Gives a feature that writes so many numbers behind what it takes: these."""
@@ -105,9 +102,9 @@ class FeatureCalls:
         advice = ADDRESS()
         self._ask('off_lattice', solid, CutPlane(*plane), 0, advice)
         try:
-            factor = self._library.advice_factor(advice)
+            factor = self.lines.library.advice_factor(advice)
         finally:
-            self._library.advice_free(advice)
+            self.lines.library.advice_free(advice)
         # (0 where it is too great to be said: out of range in any case)
         return (factor.high << 64 | factor.low) or _TOO_MANY
 
@@ -118,13 +115,13 @@ class FeatureCalls:
         except Refused as error:
             if error.number:
                 line = ' '.join(map(str, ('split', solid, *plane, above)))
-                self._kernel.advise(error, line, Reply((f'refused {error.number} {error.value}',)))
+                self.advise(error, line, Reply((f'refused {error.number} {error.value}',)))
             raise
         return self.made(LOWER_CAPS), self.made(UPPER_CAPS)
 
     def made(self, which: int) -> Numbers:
         """A list of what the last feature made."""
-        return tuple(filled(WORD, lambda found, room: int(self._library.made(self._handle, which, found, room))))
+        return tuple(filled(WORD, lambda found, room: int(self.lines.library.made(self.lines.handle, which, found, room))))
 
     def pairs(self, which: int) -> List[Tuple[int, int]]:
         """A list of numbers and others in their place."""
@@ -133,14 +130,14 @@ class FeatureCalls:
 
     def _complaint(self, word: str, said: int, why: Any) -> CompanionError:
         if said == IMPOSSIBLE:
-            name = self._library.misfit_name(why.number).decode()
+            name = self.lines.library.misfit_name(why.number).decode()
             text = _PART_MEETS if name == 'Meets' and word in _CUTS else _TEXTS[name]
             return Impossible(name, why.value, text.format(why.value))
         if said == REFUSED:
             return self._refused(word, why)
         if said == MEMORY:
             return memory_refused(word)
-        self._kernel.lines.require_open()
+        self.lines.require_open()
         if said == NO_CALL:
             raise ValueError(f'{word}: what is given is no solid')
         raise AssertionError(f'{word}: an answer of kind {said}')
@@ -153,6 +150,6 @@ class FeatureCalls:
         if name == 'NumberRange' and word != 'profile':
             return refused(word, NUMBERS['NumbersSpent'], 0, _TEXTS['NumbersSpent'])
         if name == 'NotFlat':
-            model = self._kernel.lines.model([why.value])
+            model = self.lines.model([why.value])
             text = (why_unfit(model, why.value) if model.faces else None) or ('' if why.value else "a slope wouldn't be flat")
         return refused(word, why.number, why.value, text or _TEXTS.get(name, '').format(why.value))

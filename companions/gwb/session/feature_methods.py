@@ -60,7 +60,7 @@ class FeatureMethods(Methods):
         OutlineCrossed: the outline crosses or touches itself; AlongPlane: the vector lies in the plane of the points."""
         outline, way = arguments.points('points', points), Point(*arguments.point('along', along))
         number = self._bench.new('solid', solid)
-        return Profile(number, *self._bench.features.outline('profile', number, outline, way))
+        return Profile(number, *self._kernel.outline('profile', number, outline, way))
 
     def polyhedron(self, points: arguments.Points, faces: Sequence[Sequence[int]], *, solid: Optional[int] = None) -> Polyhedron:
         """A new solid of points, and of faces without rings, each by the places of its corners among the points from 0 on, counterclockwise as seen from
@@ -73,7 +73,7 @@ class FeatureMethods(Methods):
         number, made = self._bench.new('solid', solid), Pair()
         if not 1 <= number <= LARGEST:
             raise refused('polyhedron', NUMBERS['NumberRange'], number)    # (of which the call says nothing)
-        self._bench.features.give('polyhedron', number, rows(corners), len(corners), words([corner for face in places for corner in face]),
+        self._kernel.give('polyhedron', number, rows(corners), len(corners), words([corner for face in places for corner in face]),
                                   words([len(face) for face in places]), len(places), made)
         return Polyhedron(number, tuple(range(made.second, made.second + len(places))), tuple(range(made.first, made.first + len(corners))))
 
@@ -110,7 +110,7 @@ class FeatureMethods(Methods):
         face, or doesn't lie inside; OutlineAroundRing: a ring of the face lies inside the outline."""
         number, outline = self._bench.number('face', face), arguments.points('points', points)
         vertices = (WORD * len(outline))()
-        return Ring(*self._bench.features.outline('ring', number, outline, beside=[vertices]), tuple(vertices))
+        return Ring(*self._kernel.outline('ring', number, outline, beside=[vertices]), tuple(vertices))
 
     def pocket(self, face: arguments.Face, points: arguments.Points, depth: int) -> Pocket:
         """A pocket so deep behind the outline in the face.
@@ -118,7 +118,7 @@ class FeatureMethods(Methods):
         Refused as ring is; OffLattice: no whole vector along the normal is so long; Meets: the pocket would come through, or meet
         or touch something of the solid."""
         number, outline = self._bench.number('face', face), arguments.points('points', points)
-        return Pocket(*self._bench.features.outline('pocket', number, outline, arguments.positive('depth', depth)))
+        return Pocket(*self._kernel.outline('pocket', number, outline, arguments.positive('depth', depth)))
 
     def boss(self, face: arguments.Face, points: arguments.Points, height: int) -> Pocket:
         """A boss so high on the outline in the face.
@@ -126,7 +126,7 @@ class FeatureMethods(Methods):
         Refused as ring is; OffLattice: no whole vector along the normal is so long; Meets: the boss would meet or touch something
         of the solid."""
         number, outline = self._bench.number('face', face), arguments.points('points', points)
-        return Pocket(*self._bench.features.outline('boss', number, outline, arguments.positive('height', height)))
+        return Pocket(*self._kernel.outline('boss', number, outline, arguments.positive('height', height)))
 
     def hole(self, face: arguments.Face, points: arguments.Points) -> Hole:
         """A hole from the outline in the face through to the opposite face.
@@ -135,7 +135,7 @@ class FeatureMethods(Methods):
         face behind it isn't parallel; OffLattice: its plane lies off the lattice behind the face; Meets: the hole would meet or touch something else of
         the solid."""
         number, outline = self._bench.number('face', face), arguments.points('points', points)
-        return Hole(*self._bench.features.outline('hole', number, outline), tuple(outline))
+        return Hole(*self._kernel.outline('hole', number, outline), tuple(outline))
 
     def drill(self, face: arguments.Face, center: arguments.Point, radius: int, sides: int, *, depth: Optional[int] = None) -> Hole:
         """A hole with a polygon of so many sides around the center, its corners on the whole numbers nearest to a circle of the radius, of two as
@@ -150,7 +150,7 @@ class FeatureMethods(Methods):
         reach, count = arguments.positive('radius', radius), arguments.sides('sides', sides)
         deep = 0 if depth is None else arguments.positive('depth', depth)
         made, along, corners = Pair(), (WORD * count)(), (Point * count)()
-        self._bench.features.give('drill', number, Point(*middle), reach, count, deep, made, along, corners)
+        self._kernel.give('drill', number, Point(*middle), reach, count, deep, made, along, corners)
         return Hole(made.first, made.second, tuple(along), tuple((at.x, at.y, at.z) for at in corners))
 
     def glue_all(self, solids: Sequence[arguments.Solid]) -> int:
@@ -159,7 +159,7 @@ class FeatureMethods(Methods):
         Refused: NoMatch: no chain of matching faces joins a solid with the first; GluedTwice: two of them match along more than the one face that a
         gluing takes, so that the rest would touch."""
         numbers = self._bench.different('solids', solids, 'solid')
-        self._bench.features.give('glue_all', words(numbers), len(numbers), frees=True)
+        self._kernel.give('glue_all', words(numbers), len(numbers), frees=True)
         return numbers[0]
 
     def notch(self, face: arguments.Face, points: arguments.Points, depth: int) -> Notch:
@@ -220,8 +220,8 @@ class FeatureMethods(Methods):
         solid = FacePart(self._kernel, face).solid.number
         labelled = LabelledFaces(self._kernel, solid)
         with self._bench.step():
-            self._bench.features.give(word, face, *values, frees=True)
-            made = Notch(self._bench.features.made(FLOOR), self._bench.features.made(WALLS))
+            self._kernel.give(word, face, *values, frees=True)
+            made = Notch(self._kernel.made(FLOOR), self._kernel.made(WALLS))
             labelled.label_parts([solid], (*made.floor, *made.walls))
         return made
 
@@ -230,7 +230,7 @@ class FeatureMethods(Methods):
         solid, *_ = [EdgePart(self._kernel, edge).solid.number for edge in edges]
         labelled = LabelledFaces(self._kernel, solid)
         with self._bench.step():
-            made = self._bench.features.written(word, len(edges), *values, frees=True)
+            made = self._kernel.written(word, len(edges), *values, frees=True)
             labelled.label_parts([solid], made)
         return made
 

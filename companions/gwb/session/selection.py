@@ -64,7 +64,7 @@ class Reading(Methods):
             containing=None if containing is None else pointer(Point(*arguments.point('containing', containing))),
             area=None if area is None else pointer(ratio(arguments.factor('area', area))))
         wanted = _wanted(solid=solid, plane=plane, normal=normal, containing=containing, area=area)
-        return Selection('face', wanted, [FacePart(self._kernel, number) for number in self._bench.features.find('find_faces', query)])
+        return Selection('face', wanted, [FacePart(self._kernel, number) for number in self._kernel.find('find_faces', query)])
 
     def edges(self, *, solid: Optional[arguments.Solid] = None, between: Optional[Tuple[arguments.Face, arguments.Face]] = None,
               along: Optional[arguments.Point] = None, length: Optional[Exact] = None) -> 'Selection[EdgePart]':
@@ -75,7 +75,7 @@ class Reading(Methods):
             along=None if along is None else pointer(Point(*arguments.vector('along', along))),
             length=None if length is None else pointer(ratio(arguments.factor('length', length))))
         wanted = _wanted(solid=solid, between=between, along=along, length=length)
-        return Selection('edge', wanted, [EdgePart(self._kernel, number) for number in self._bench.features.find('find_edges', query)])
+        return Selection('edge', wanted, [EdgePart(self._kernel, number) for number in self._kernel.find('find_edges', query)])
 
     def vertices(self, *, solid: Optional[arguments.Solid] = None, at: Optional[arguments.Point] = None) -> 'Selection[VertexPart]':
         """The vertices of the solid, or all; `at` a point."""
@@ -137,7 +137,7 @@ class Reading(Methods):
         takes. Refused: NoSolid; PlaneRange: a coefficient is out of range. Raises ValueError where a, b and c are zero."""
         coefficients = arguments.plane('plane', plane)
         found, number = self._solid(solid)
-        self._bench.features.whole_factor(number, coefficients)    # (refused where one is out of range)
+        self._kernel.whole_factor(number, coefficients)    # (refused where one is out of range)
         return lattice_cuts.off_lattice_cut(found, number, coefficients)
 
     def vertices_array(self) -> memoryview:

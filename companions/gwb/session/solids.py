@@ -77,7 +77,7 @@ class SolidMethods(Methods):
 
     def delete(self, solid: arguments.Solid) -> None:
         """The solid goes, with all that it has. Refused: NoSolid."""
-        self._bench.features.give('kill_solid', self._bench.number('solid', solid), frees=True)
+        self._kernel.give('kill_solid', self._bench.number('solid', solid), frees=True)
 
     def copy(self, solid: arguments.Solid, *, move: arguments.Point = ZERO, mirror: Optional[arguments.Point] = None) -> Copy:
         """A copy of the solid, mirrored in a plane where one is given, and then moved by the vector: the numbers of its things by those of
@@ -93,7 +93,7 @@ class SolidMethods(Methods):
         model = _changed('copy_solid', self._bench.solid_model(number), change)
         new = self._kernel.numbers.instead_of(model)
         with self._bench.step():
-            self._bench.features.load(renumbered(model, new))
+            self._kernel.load(renumbered(model, new))
             return self._labelled(Copy(new['solid'][number], new['face'], new['loop'], new['edge'], new['vertex'], number, self._bench))
 
     def pattern(self, solid: arguments.Solid, count: int, step: arguments.Point) -> Tuple[Copy, ...]:
@@ -135,14 +135,14 @@ class SolidMethods(Methods):
 
     def scale(self, factor: int) -> None:
         """All coordinates of all solids are multiplied by a whole number from 1 on. Refused: PointRange."""
-        self._bench.features.give('scale', arguments.positive('factor', factor))
+        self._kernel.give('scale', arguments.positive('factor', factor))
 
     def renumber(self) -> Renumbered:
         """All numbers become as low as they can be, from 1 on in the order that they have, and may be taken again when they are free: where none is left.
         Labels go along. Refused: NumbersSpent: a spare number is wanted on the way, and none is free."""
         with self._bench.step():
-            self._bench.features.give('renumber', frees=True)
-            made = Renumbered(*(dict(self._bench.features.pairs(which)) for which in (SOLIDS, FACES, LOOPS, EDGES, VERTICES)))
+            self._kernel.give('renumber', frees=True)
+            made = Renumbered(*(dict(self._kernel.pairs(which)) for which in (SOLIDS, FACES, LOOPS, EDGES, VERTICES)))
             self._kernel.notes.renumber({'solid': made.solids, 'face': made.faces})
         self._kernel.numbers.forget()
         return made
@@ -170,8 +170,8 @@ class SolidMethods(Methods):
 
         def give(plane: Plane, new: int) -> Cut:
             if wanted == 'above':
-                return Cut(None, number, *reversed(self._bench.features.cut(number, (*negative(plane[:3]), -plane[3]), new, True)))
-            return Cut(number, new if wanted == 'both' else None, *self._bench.features.cut(number, plane, new, wanted == 'below'))
+                return Cut(None, number, *reversed(self._kernel.cut(number, (*negative(plane[:3]), -plane[3]), new, True)))
+            return Cut(number, new if wanted == 'both' else None, *self._kernel.cut(number, plane, new, wanted == 'below'))
 
         return self._cut_by(number, level, scale, above, give)
 
@@ -188,9 +188,9 @@ class SolidMethods(Methods):
         would touch itself; OffLattice: edges of two solids cross between whole coordinates."""
         numbers = self._bench.different('solids', solids, 'solid', 2)
         with self._bench.step():
-            self._bench.features.give('union', words(numbers), len(numbers), frees=True)
+            self._kernel.give('union', words(numbers), len(numbers), frees=True)
             merged: Dict[int, List[int]] = {}
-            for face, part in self._bench.features.pairs(INTO):
+            for face, part in self._kernel.pairs(INTO):
                 merged.setdefault(part, []).append(face)
             for part, faces in merged.items():
                 first = part if part in faces else faces[0]
@@ -201,8 +201,8 @@ class SolidMethods(Methods):
     def _in_a_row(self, word: str, solid: int, count: int, *way: Any) -> Tuple[Copy, ...]:
         """So many copies of the solid, which a feature makes of where each lies."""
         with self._bench.step():
-            made = self._bench.features.written(word, count, solid, *way)
-            shares = zip(made, *(_shares(self._bench.features.pairs(which), count) for which in (FACES, LOOPS, EDGES, VERTICES)))
+            made = self._kernel.written(word, count, solid, *way)
+            shares = zip(made, *(_shares(self._kernel.pairs(which), count) for which in (FACES, LOOPS, EDGES, VERTICES)))
             return tuple(self._labelled(Copy(number, faces, loops, edges, vertices, solid, self._bench)) for number, faces, loops, edges, vertices in shares)
 
     def _labelled(self, copy: Copy) -> Copy:
@@ -215,12 +215,12 @@ class SolidMethods(Methods):
         """A solid comes to another place, and all its numbers stay: its number. Refused: NoSolid, PointRange, OffLattice."""
         number, motion = self._bench.number('solid', solid), _motion(change)
         if motion is not None:
-            self._bench.features.give('move_solid', number, motion)
+            self._kernel.give('move_solid', number, motion)
             return number
         after = _changed('move_solid', self._bench.solid_model(number), change)
         with self._bench.step():
-            self._bench.features.give('kill_solid', number, frees=True)
-            self._bench.features.load(after)
+            self._kernel.give('kill_solid', number, frees=True)
+            self._kernel.load(after)
         return number
 
     def _tell_lost_labels(self, first: int, faces: Sequence[int]) -> None:
@@ -242,13 +242,13 @@ class SolidMethods(Methods):
         except Refused as refused:
             if refused.name != 'NotLattice':
                 raise
-            factor = self._bench.features.whole_factor(solid, plane)
+            factor = self._kernel.whole_factor(solid, plane)
             if not may_scale:
                 refused.args = (f'{refused.args[0]}; times {factor} all its points are whole, as scale=True makes them; off_lattice() names planes near by',)
                 raise
         with self._bench.step():
             try:
-                self._bench.features.give('scale', factor)
+                self._kernel.give('scale', factor)
             except Refused as refused:
                 refused.args = (f'times {factor} all points of the cut are whole, but {refused}',)
                 raise
