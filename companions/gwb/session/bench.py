@@ -2,8 +2,9 @@
 
 import sys
 import warnings
+from contextlib import contextmanager
 from traceback import walk_stack
-from typing import Dict, Iterable, List, Optional, Sequence, Tuple
+from typing import Iterable, Iterator, List, Optional, Set, Tuple
 
 from ..geometry.flat_face import FlatFace
 from ..geometry.measures import why_unfit
@@ -91,6 +92,21 @@ class Bench:
         """The commands given in it are one command, or in a draft part of it. Where one isn't accepted, all is as before."""
         return Block(self.kernel, False)
 
+    @contextmanager
+    def parting(self, *solids: int) -> Iterator[Set[int]]:
+        """A step that cuts faces of the first solid into parts: new faces of the solids get the labels of the faces in which they lie, except those that
+        are put into what this gives."""
+        lines, labels = self.kernel.lines, self.kernel.notes.labels
+        held = {*lines.faces_of(solids[0])} if any(kind == 'face' for kind, _ in labels) else set()
+        model = lines.model(face for face in held if ('face', face) in labels)
+        wholes = [(FlatFace(model, face), labels['face', face]) for face in model.faces if why_unfit(model, face) is None]
+        made: Set[int] = set()
+        with self.step():
+            yield made
+            parts = lines.model({face for solid in solids for face in lines.faces_of(solid)} - held - made if wholes else ())
+            looks = {face: [look for whole, look in wholes if _lies_in(parts, face, whole)] for face in parts.faces}
+            self.kernel.notes.put(*((('face', face), look[0]) for face, look in looks.items() if look))
+
     def solid_model(self, solid: int) -> Model:
         """The model of one solid. Refused: NoSolid."""
         return self.kernel.lines.model([face.number for face in SolidPart(self.kernel, solid).faces])
@@ -101,28 +117,6 @@ class Methods(TakesTurns):
 
     _bench: Bench
     _kernel: FeatureKernel
-
-
-class LabelledFaces:
-    """The labelled faces of a solid, as they were before a command that cuts them into parts: each part has the label of the face that it was part of."""
-
-    def __init__(self, kernel: Kernel, solid: int) -> None:
-        self._kernel = kernel
-        self.held = set(kernel.lines.faces_of(solid)) if any(kind == 'face' for kind, _ in kernel.notes.labels) else set()
-        labelled = [face for face in self.held if ('face', face) in kernel.notes.labels]
-        model = kernel.lines.model(labelled)
-        self._faces: Dict[int, FlatFace] = {face: FlatFace(model, face) for face in labelled if why_unfit(model, face) is None}
-
-    def label_parts(self, solids: Iterable[int], but: Sequence[int]) -> None:
-        """New faces of these solids, except those in `but`, get the labels of the faces in which they lie."""
-        if not self._faces:
-            return
-        new = [face for solid in solids for face in self._kernel.lines.faces_of(solid) if face not in self.held and face not in but]
-        model = self._kernel.lines.model(new)
-        for face in new:
-            whole = next((whole for whole, shape in self._faces.items() if _lies_in(model, face, shape)), None)
-            if whole is not None:
-                self._kernel.notes.put((('face', face), self._kernel.notes.labels.get(('face', whole))))
 
 
 def _lies_in(model: Model, face: int, shape: FlatFace) -> bool:

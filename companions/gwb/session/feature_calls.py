@@ -1,5 +1,6 @@
 """The calls of gwb_features.h. Each is one command of the library, or steps of the draft that is open; a complaint is raised, and nothing has changed."""
 
+from ctypes import pointer
 from fractions import Fraction
 from typing import Any, List, Sequence, Tuple
 
@@ -12,8 +13,8 @@ from ..protocol.complaints import memory_refused, refused
 from ..protocol.language import NUMBERS, refusal
 from ..protocol.listing import listing_lines
 from ..protocol.replies import Reply
-from .c_calls import (ADDRESS, IMPOSSIBLE, LENGTH, LOWER_CAPS, MEMORY, NO_CALL, OK, REFUSED, SIZE, UPPER_CAPS, WORD, CutPlane, Pair, Ratio,
-                      Refusal)
+from .c_calls import (ADDRESS, IMPOSSIBLE, LENGTH, LOWER_CAPS, MEMORY, NO_CALL, OK, REFUSED, SIZE, UPPER_CAPS, WORD, CutPlane, FaceQuery, Pair,
+                      Ratio, Refusal)
 from .kernel import Kernel
 from .library import filled
 from .results import Numbers
@@ -108,13 +109,20 @@ class FeatureKernel(Kernel):
         # (0 where it is too great to be said: out of range in any case)
         return (factor.high << 64 | factor.low) or _TOO_MANY
 
-    def cut(self, solid: int, plane: Sequence[int], above: int, is_trimmed: bool) -> Tuple[Numbers, Numbers]:
-        """A cut in two, or one whose upper part goes: the caps of both parts. What is refused has the advice that a split with this number above has."""
+    def cut(self, word: str, solid: int, plane: Sequence[int], above: int) -> Sequence[Numbers]:
+        """A split, cut or trim: the caps of both parts, and of a split all faces, edges and vertices. What is refused has the advice that a split with this
+        number above has."""
+        line, level = ' '.join(map(str, ('split', solid, *plane, above))), CutPlane(*plane)
+        if word == 'split':
+            self.do(line)
+            # (some fresh numbers are taken on the way)
+            made = [tuple(number for number in self.lines.fresh(kind) if self.lines.in_use(kind, number)) for kind in ('face', 'edge', 'vertex')]
+            flat = (self.find('find_faces', FaceQuery(solid=side, plane=pointer(level))) for side in (solid, above))
+            return *(tuple(face for face in faces if face in made[0]) for faces in flat), *made
         try:
-            self.give('trim' if is_trimmed else 'cut', solid, CutPlane(*plane), *([] if is_trimmed else [above]), frees=True)
+            self.give(word, solid, level, *([above] if word == 'cut' else []), frees=True)
         except Refused as error:
             if error.number:
-                line = ' '.join(map(str, ('split', solid, *plane, above)))
                 self.advise(error, line, Reply((f'refused {error.number} {error.value}',)))
             raise
         return self.made(LOWER_CAPS), self.made(UPPER_CAPS)

@@ -10,7 +10,7 @@ from ..geometry.vectors import Vector, ZERO, cross, dot, reduced
 from ..protocol.complaints import refused
 from ..protocol.language import NUMBERS
 from . import arguments
-from .bench import LabelledFaces, Methods
+from .bench import Methods
 from .c_calls import FLOOR, WALLS, WORD, Pair, Point
 from .feature_calls import rows, words
 from .reading import EdgePart, FacePart
@@ -217,21 +217,18 @@ class FeatureMethods(Methods):
 
     def _shaped(self, word: str, face: int, *values: Any) -> Notch:
         """Gives a feature in a face that leaves a floor and walls in its solid, whose labels the parts of its faces get. Refused: NoFace."""
-        solid = FacePart(self._kernel, face).solid.number
-        labelled = LabelledFaces(self._kernel, solid)
-        with self._bench.step():
+        with self._bench.parting(FacePart(self._kernel, face).solid.number) as new:
             self._kernel.give(word, face, *values, frees=True)
             made = Notch(self._kernel.made(FLOOR), self._kernel.made(WALLS))
-            labelled.label_parts([solid], (*made.floor, *made.walls))
+            new.update(*made)
         return made
 
     def _sloped(self, word: str, edges: Sequence[int], *values: Any) -> Numbers:
         """Gives a feature that makes slopes of edges, which are returned; the parts of faces get the labels of these."""
         solid, *_ = [EdgePart(self._kernel, edge).solid.number for edge in edges]
-        labelled = LabelledFaces(self._kernel, solid)
-        with self._bench.step():
+        with self._bench.parting(solid) as new:
             made = self._kernel.written(word, len(edges), *values, frees=True)
-            labelled.label_parts([solid], made)
+            new.update(made)
         return made
 
 

@@ -5,7 +5,7 @@ The library does it where axes go to axes. In another plane a solid is mirrored 
 
 import ctypes
 from dataclasses import dataclass, field
-from typing import Any, Callable, Dict, List, Mapping, Optional, Sequence, Tuple, TypeVar, Union
+from typing import Any, Dict, List, Mapping, Optional, Sequence, Tuple
 
 from ..errors import Refused
 from ..geometry.crossings import Plane, without_common_factor
@@ -13,17 +13,16 @@ from ..geometry.free_numbers import KINDS, LARGEST, renumbered
 from ..geometry.model import Model
 from ..geometry.moved import FARTHEST, Change, Displaced, changed, mirroring, moving, turning
 from ..geometry.outlines import Impossible
-from ..geometry.vectors import ZERO, dot, negative
+from ..geometry.vectors import ZERO, negative
 from ..protocol.complaints import refused
 from ..protocol.language import NUMBERS
 from . import arguments
-from .bench import Bench, LabelledFaces, Methods, warn
+from .bench import Bench, Methods, warn
 from .c_calls import EDGES, FACES, INTO, LOOPS, SOLIDS, VERTICES, Motion, Point
 from .feature_calls import words
 from .reading import Found, Part
 from .results import Cut, Numbers, Renumbered, Split
 
-Parts = TypeVar('Parts', bound=Union[Cut, Split])
 _AXES = ('x', 'y', 'z')
 
 
@@ -154,7 +153,8 @@ class SolidMethods(Methods):
         number that makes the points of the cut whole, and `unit` is divided by it, as one command with the cut. Refused besides: PointRange: a
         point would then lie past 1,000,000,000."""
         number, level = self._bench.number('solid', solid), arguments.plane('plane', plane)
-        return self._cut_by(number, level, scale, above, lambda plane, new: self._split(number, plane, new))
+        new, made = self._cut_by('split', number, level, scale, above)
+        return Split(new, *made)
 
     def cut(self, solid: arguments.Solid, plane: arguments.Point, *, keep: str = 'both', above: Optional[int] = None, scale: bool = False) -> Cut:
         """The solid is cut by the plane a x + b y + c z + d = 0. What lies below it stays the solid, and what lies above it becomes a new one,
@@ -167,13 +167,11 @@ class SolidMethods(Methods):
         number, level, wanted = self._bench.number('solid', solid), arguments.plane('plane', plane), arguments.word('keep', keep, ('both', 'below', 'above'))
         if above is not None and wanted != 'both':
             raise ValueError(f'above: the part above the plane gets no number of its own where {keep!r} alone is kept')
-
-        def give(plane: Plane, new: int) -> Cut:
-            if wanted == 'above':
-                return Cut(None, number, *reversed(self._kernel.cut(number, (*negative(plane[:3]), -plane[3]), new, True)))
-            return Cut(number, new if wanted == 'both' else None, *self._kernel.cut(number, plane, new, wanted == 'below'))
-
-        return self._cut_by(number, level, scale, above, give)
+        if wanted == 'above':
+            _, (lower, upper) = self._cut_by('trim', number, (*negative(level[:3]), -level[3]), scale, None)
+            return Cut(None, number, upper, lower)
+        new, (lower, upper) = self._cut_by('cut' if wanted == 'both' else 'trim', number, level, scale, above)
+        return Cut(number, new if wanted == 'both' else None, lower, upper)
 
     def trim(self, solid: arguments.Solid, plane: arguments.Point, *, scale: bool = False) -> Numbers:
         """What lies above the plane is cut off and thrown away: the faces that close what is left. With scale=True it is cut in a finer unit
@@ -191,11 +189,11 @@ class SolidMethods(Methods):
             self._kernel.give('union', words(numbers), len(numbers), frees=True)
             merged: Dict[int, List[int]] = {}
             for face, part in self._kernel.pairs(INTO):
-                merged.setdefault(part, []).append(face)
+                merged.setdefault(part, []).insert(0 if face == part else len(merged[part]), face)
             for part, faces in merged.items():
-                first = part if part in faces else faces[0]
-                self._tell_lost_labels(first, faces)
-                self._bench.label_alike('face', [(first, part)])
+                if len({self._kernel.notes.labels.get(('face', face)) for face in faces}) > 1:
+                    warn('faces {} become one, which keeps the label of face {}'.format(' and '.join(map(str, faces)), faces[0]))
+                self._bench.label_alike('face', [(faces[0], part)])
         return numbers[0]
 
     def _in_a_row(self, word: str, solid: int, count: int, *way: Any) -> Tuple[Copy, ...]:
@@ -223,22 +221,15 @@ class SolidMethods(Methods):
             self._kernel.load(after)
         return number
 
-    def _tell_lost_labels(self, first: int, faces: Sequence[int]) -> None:
-        """Warns where faces that had different labels, or one of which had none, become one face: it has that of the first."""
-        labels = self._kernel.notes.labels
-        if any(labels.get(('face', face)) != labels.get(('face', first)) for face in faces):
-            together = (first, *(face for face in faces if face != first))
-            warn('faces {} become one, which keeps the label of face {}'.format(' and '.join(map(str, together)), first))
-
-    def _cut_by(self, solid: int, plane: Plane, scale: object, above: object, give: Callable[[Plane, int], Parts]) -> Parts:
-        """Cuts a solid by a plane, with the number for what is above it if one is given. Where points of the cut aren't whole, that is refused with the
-        least factor by which they are, or it is done once the unit is the least finer one in which they are; both as one command.
+    def _cut_by(self, word: str, solid: int, plane: Plane, scale: object, above: object) -> Tuple[int, Sequence[Numbers]]:
+        """Cuts a solid by a plane, with the number for what is above it if one is given: this, and what is made. Where points of the cut aren't whole, that is
+        refused with the least factor by which they are, or it is done once the unit is the least finer one in which they are; both as one command.
 
         Refused: what the cut is refused for, with all as before; PointRange: in the finer unit a point would leave the range."""
         may_scale = arguments.flag('scale', scale)
         new = self._bench.new('solid', None) if above is None else self._bench.number('above', above, 'solid')
         try:
-            return self._parted(solid, new, lambda: give(plane, new))
+            return new, self._parted(word, solid, plane, new)
         except Refused as refused:
             if refused.name != 'NotLattice':
                 raise
@@ -254,27 +245,16 @@ class SolidMethods(Methods):
                 raise
             self._kernel.notes.now.unit /= factor
             # (its offset stays in range, since it meets edges whose ends do)
-            return self._parted(solid, new, lambda: give(without_common_factor((*plane[:3], plane[3] * factor)), new))
+            return new, self._parted(word, solid, without_common_factor((*plane[:3], plane[3] * factor)), new)
 
-    def _parted(self, solid: int, above: int, give: Callable[[], Parts]) -> Parts:
+    def _parted(self, word: str, solid: int, plane: Plane, above: int) -> Sequence[Numbers]:
         """Cuts a solid as one command. The part above, if it is kept, and parts of faces have the labels of what they were part of."""
-        labelled = LabelledFaces(self._kernel, solid)
-        with self._bench.step():
-            made = give()
+        with self._bench.parting(solid, above) as new:
+            made = self._kernel.cut(word, solid, plane, above)
             if self._kernel.lines.in_use('solid', above):
                 self._bench.label_alike('solid', [(solid, above)])
-            labelled.label_parts((solid, above), (*made.lower_caps, *made.upper_caps))
+            new.update(*made[:2])
         return made
-
-    def _split(self, solid: int, plane: Plane, above: int) -> Split:
-        """Gives the command: what it makes."""
-        lines = self._kernel.lines
-        self._kernel.do('split', solid, *plane, above)
-        faces, edges, vertices = (tuple(number for number in lines.fresh(kind) if lines.in_use(kind, number)) for kind in ('face', 'edge', 'vertex'))
-        model = lines.model(faces)
-        caps = [face for face in faces if all(dot(plane[:3], point) + plane[3] == 0 for point in model.face_points(face))]
-        lower, upper = (tuple(face for face in caps if model.faces[face].solid == side) for side in (solid, above))
-        return Split(above, lower, upper, faces, edges, vertices)
 
 
 def _motion(change: Change) -> Any:
