@@ -137,27 +137,22 @@ class FeatureKernel(Kernel):
         return list(zip(found[::2], found[1::2]))
 
     def _complaint(self, word: str, said: int, why: Any) -> CompanionError:
+        """The error of an answer, as it is said of a feature. A number past the greatest was chosen, except for a profile: none is left."""
         if said == IMPOSSIBLE:
             name = self.lines.library.misfit_name(why.number).decode()
             text = _PART_MEETS if name == 'Meets' and word in _CUTS else _TEXTS[name]
             return Impossible(name, why.value, text.format(why.value))
-        if said == REFUSED:
-            return self._refused(word, why)
         if said == MEMORY:
             return memory_refused(word)
-        self.lines.require_open()
-        if said == NO_CALL:
+        if said != REFUSED:
+            self.lines.require_open()
+            assert said == NO_CALL, f'{word}: an answer of kind {said}'
             raise ValueError(f'{word}: what is given is no solid')
-        raise AssertionError(f'{word}: an answer of kind {said}')
-
-    def _refused(self, word: str, why: Any) -> CompanionError:
-        """The error of a condition, as it is said of a feature. A number past the greatest was chosen, except for a profile: none is left."""
-        if word in _CUTS:
-            return refused(word, why.number, why.value)
-        name, text = refusal(why.number, why.value).name, ''
-        if name == 'NumberRange' and word != 'profile':
+        name = refusal(why.number, why.value).name
+        if name == 'NumberRange' and word not in (*_CUTS, 'profile'):
             return refused(word, NUMBERS['NumbersSpent'], 0, _TEXTS['NumbersSpent'])
-        if name == 'NotFlat':
+        text = '' if word in _CUTS else _TEXTS.get(name, '').format(why.value)
+        if name == 'NotFlat' and word not in _CUTS:
             model = self.lines.model([why.value])
             text = (why_unfit(model, why.value) if model.faces else None) or ('' if why.value else "a slope wouldn't be flat")
-        return refused(word, why.number, why.value, text or _TEXTS.get(name, '').format(why.value))
+        return refused(word, why.number, why.value, text)

@@ -76,10 +76,6 @@ class Kernel(Turns):
         """The lines of each command that is held, and then those of the draft, if one is open."""
         return self._ended[0] if self._ended else [self.lines.script(place, 1) for place in range(self.lines.depth + self.lines.is_drafting)]
 
-    def script(self) -> str:
-        """The lines of what is held."""
-        return ''.join(self.commands())
-
     # Commands
 
     def do(self, *words: object) -> None:
@@ -128,8 +124,11 @@ class Kernel(Turns):
             raise OutOfStep('another call is under way')
         if is_new and not self.lines.is_drafting:
             self.notes.expect()
-        if is_new and self._may_have_gone and self.notes.labels and not self._has_given:
-            self._forget_gone()
+        if is_new and self._may_have_gone and not self._has_given:
+            # What is gone has no label any more, before a turn makes something that may have its number. Undo gives it back.
+            gone = [(thing, None) for thing in self.notes.labels if not self.lines.in_use(*thing)]
+            self.notes.put(*gone)
+            self._may_have_gone = bool(gone)    # (there still, where nothing comes of what is given)
         if frees:
             self.expect_loss()
         self._is_giving = self._has_given = True
@@ -138,12 +137,6 @@ class Kernel(Turns):
         finally:
             self._is_giving = False
             self.settle()
-
-    def _forget_gone(self) -> None:
-        """What is gone has no label any more, before a turn makes something that may have its number. Undo gives it back."""
-        gone = [thing for thing in self.notes.labels if not self.lines.in_use(*thing)]
-        self.notes.put(*((thing, None) for thing in gone))
-        self._may_have_gone = bool(gone)    # (there still, where nothing comes of what is given)
 
     def expect_loss(self) -> None:
         """What comes takes something away: numbers may be free after it, and things may have gone that have labels."""

@@ -27,8 +27,8 @@ class Notes:
     The commands are the library's: `settle` brings the notes to as many as are held there, so whatever exception comes between, they agree."""
 
     def __init__(self, unit: Fraction) -> None:
-        # The first note goes with what was there before all commands.
-        self._notes = [Note(True, unit)]
+        # The first note goes with what was there before all commands; after so many come those of commands that can be redone.
+        self.all = [Note(True, unit)]
         self.at = 0
         # That of the draft that is open, or of a command that may have been accepted.
         self._coming: Optional[Note] = None
@@ -39,11 +39,7 @@ class Notes:
     @property
     def now(self) -> Note:
         """That of what comes, as in a draft, or of the last command."""
-        return self._coming or self._notes[self.at]
-
-    def held(self) -> List[Note]:
-        """That of what was there before all commands, and of each one that is held."""
-        return self._notes[:self.at + 1]
+        return self._coming or self.all[self.at]
 
     # Labels
 
@@ -51,7 +47,7 @@ class Notes:
     def labels(self) -> Dict[Thing, Appearance]:
         """The look of each thing that has one, also of what is gone."""
         if self._labels is None:
-            looks = {thing: look for note in (*self.held(), self.now) for thing, look in note.looks}
+            looks = {thing: look for note in (*self.all[:self.at + 1], self.now) for thing, look in note.looks}
             self._labels = {thing: look for thing, look in looks.items() if look}
         return self._labels
 
@@ -63,7 +59,7 @@ class Notes:
     def begin_with(self, labels: Mapping[Thing, Appearance]) -> None:
         """These labels were there before all commands."""
         self._labels = None
-        self._notes[0].looks += labels.items()
+        self.all[0].looks += labels.items()
 
     def renumber(self, numbers: Mapping[str, Mapping[int, int]]) -> None:
         """All things have other numbers, said for each kind."""
@@ -74,23 +70,23 @@ class Notes:
 
     def expect(self) -> None:
         """A command or a draft is about to be given, outside of a draft."""
-        self._coming = Note(self.group_from is None or self.at <= self.group_from, self._notes[self.at].unit)
+        self._coming = Note(self.group_from is None or self.at <= self.group_from, self.all[self.at].unit)
 
     def settle(self, depth: int) -> None:
         """So many commands are held, and no draft is open."""
         if self._coming and depth == self.at + 1:
-            self._notes[depth:] = [self._coming]
+            self.all[depth:] = [self._coming]
         elif self._coming or depth != self.at:
             self._labels = None
-        while len(self._notes) <= depth:
-            self._notes.append(Note(True, self._notes[-1].unit))
+        while len(self.all) <= depth:
+            self.all.append(Note(True, self.all[-1].unit))
         self.at, self._coming = depth, None
 
     # Drafts and groups
 
     def end_empty(self) -> None:
         """The draft that is open has no steps: its labels go with the last command."""
-        self._notes[self.at].looks += self.now.looks
+        self.all[self.at].looks += self.now.looks
         self._coming = None
 
     def place(self) -> Place:
@@ -106,25 +102,21 @@ class Notes:
     def hand_on(self, command: int, place: Place) -> None:
         """The labels that were given after a place of the note of a command go with the next command, if one is held."""
         if self.at > command:
-            looks = self._notes[command].looks
-            self._notes[command + 1].looks[:0] = looks[place[0]:]
+            looks = self.all[command].looks
+            self.all[command + 1].looks[:0] = looks[place[0]:]
             del looks[place[0]:]
 
     def ahead(self) -> List[Note]:
         """The notes of the commands that can be redone."""
-        return self._notes[self.at + 1:]
-
-    def put_ahead(self, notes: List[Note]) -> None:
-        """Commands can be redone with these notes."""
-        self._notes[self.at + 1:] = notes
+        return self.all[self.at + 1:]
 
     # Steps to undo
 
     def step_back(self) -> int:
         """How many commands the last step has, of those that are held: 1 where there is none."""
-        return next((count for count in range(1, self.at) if self._notes[self.at + 1 - count].begins), max(self.at, 1))
+        return next((count for count in range(1, self.at) if self.all[self.at + 1 - count].begins), max(self.at, 1))
 
     def step_ahead(self) -> int:
         """How many commands are left of the step that would be redone: 1 where there is none."""
         left = len(self.ahead())
-        return next((count for count in range(1, left) if self._notes[self.at + 1 + count].begins), max(left, 1))
+        return next((count for count in range(1, left) if self.all[self.at + 1 + count].begins), max(left, 1))

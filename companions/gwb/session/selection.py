@@ -69,9 +69,12 @@ class Reading(Methods):
     def edges(self, *, solid: Optional[arguments.Solid] = None, between: Optional[Tuple[arguments.Face, arguments.Face]] = None,
               along: Optional[arguments.Point] = None, length: Optional[Exact] = None) -> 'Selection[EdgePart]':
         """The edges that fit: of the solid; between two faces; along the vector, one way or the other; so long, exactly."""
+        pair = self._bench.several('between', (0, 0) if between is None else between, 'face')
+        if len(pair) != 2:
+            raise ValueError(f'between: two numbers are wanted, not {len(pair)}')
         query = EdgeQuery(
             solid=self._sought_in(solid),
-            between=(WORD * 2)(*([] if between is None else self._faces_sought(between))),
+            between=(WORD * 2)(*([] if between is None else [arguments.positive('between', face) for face in pair])),
             along=None if along is None else pointer(Point(*arguments.vector('along', along))),
             length=None if length is None else pointer(ratio(arguments.factor('length', length))))
         wanted = _wanted(solid=solid, between=between, along=along, length=length)
@@ -155,13 +158,6 @@ class Reading(Methods):
         A face that isn't flat, or whose loops cross, has none."""
         return self._rows('read_triangles', [self._of(solid)], 6 * self._kernel.lines.greatest('edge'), 4, WORD)
 
-    def _faces_sought(self, pair: Tuple[arguments.Face, arguments.Face]) -> List[int]:
-        """The numbers of two faces for a query, in which 0 stands for any."""
-        found = self._bench.several('between', pair, 'face')
-        if len(found) != 2:
-            raise ValueError(f'between: two numbers are wanted, not {len(found)}')
-        return [arguments.positive('between', face) for face in found]
-
     def _sought_in(self, solid: Optional[arguments.Solid]) -> int:
         """The number of a solid for a query, in which 0 stands for all."""
         return 0 if solid is None else arguments.positive('solid', self._bench.number('solid', solid))
@@ -186,11 +182,7 @@ class Reading(Methods):
 
     def _of(self, solid: Optional[arguments.Solid]) -> int:
         """The number of a solid that is there, 0 for all. Refused: NoSolid."""
-        if solid is None:
-            return 0
-        number = self._bench.number('solid', solid)
-        SolidPart(self._kernel, number).faces
-        return number
+        return 0 if solid is None else self.solid(solid).faces[0].solid.number
 
     def _rows(self, name: str, solid: List[int], room: int, width: int, kind: Any) -> memoryview:
         """What a call writes, which has room for so many rows, at least as many as there are. Raises MemoryError."""

@@ -109,7 +109,7 @@ class _Group(_Draft):
         kernel.go_to(self._before)
         kernel.notes.go_back(self._place)
         if kernel.lines.ahead != len(self._ahead) or kernel.notes.ahead() != self._notes:
-            kernel.notes.put_ahead(self._notes[:self._give_ahead()])
+            kernel.notes.all[kernel.notes.at + 1:] = self._notes[:self._give_ahead()]
 
     def _give_ahead(self) -> int:
         """Gives commands anew that could be redone before others were given and undone, and undoes them: how many there was memory for."""
@@ -123,24 +123,21 @@ class _Group(_Draft):
         except MemoryRefused:
             lines.abandon()
         given = lines.depth - self._before
-        for _ in range(given):
-            lines.asked('undo')
+        self._kernel.go_to(self._before)
         return given
 
 
 def _ahead(kernel: Kernel) -> List[str]:
     """The lines of each command that can be redone."""
-    before, found = kernel.lines.depth, []
+    before = kernel.lines.depth
     try:
-        for _ in range(kernel.lines.ahead):
-            kernel.lines.asked('redo')
-            found.append(kernel.lines.script(kernel.lines.depth - 1, 1))
+        kernel.go_to(before + len(kernel.notes.ahead()))
+        return [kernel.lines.script(place, 1) for place in range(before, kernel.lines.depth)]
     finally:
         try:
             kernel.go_to(before)
         finally:
             kernel.go_to(before)    # (where an exception came on the way)
-    return found
 
 
 class Block:

@@ -111,7 +111,7 @@ class Workbench(SolidMethods, FeatureMethods, Commands, Reading, Exporting):
 
     def script(self) -> str:
         """The script of what is held: the accepted commands, a line each; undone ones are left out."""
-        return self._kernel.script()
+        return ''.join(self._kernel.commands())
 
     def save(self, path: arguments.Path) -> None:
         """Writes the script to a file. Comments in it say which commands are one step, the unit, and the labels, so that `load` knows them
@@ -184,7 +184,7 @@ class Workbench(SolidMethods, FeatureMethods, Commands, Reading, Exporting):
 def _saved_lines(kernel: Kernel) -> Iterator[str]:
     """The lines of what is held, the steps of a draft too. Before those that are one step, or one draft, stands a mark, and the unit where it
     changes."""
-    commands, notes = [text.splitlines() for text in kernel.commands()], kernel.notes.held()
+    commands, notes = [text.splitlines() for text in kernel.commands()], kernel.notes.all[:kernel.notes.at + 1]
     yield from _unit_lines(Fraction(1), notes[0].unit)
     starts = [place for place in range(len(notes) - 1) if place == 0 or notes[place + 1].begins]
     for first, last in zip(starts, [*starts[1:], len(notes) - 1]):
