@@ -171,8 +171,7 @@ class FeatureMethods(Methods):
         so long, or edges would cross between whole coordinates; Meets: what is cut out reaches out of the solid elsewhere, or the solid
         would touch itself."""
         number, outline = self._bench.number('face', face), arguments.points('points', points)
-        deep = arguments.positive('depth', depth)
-        return self._shaped('notch', number, rows(outline), len(outline), deep)
+        return self._shaped('notch', number, rows(outline), len(outline), depth=depth)
 
     def slot(self, face: arguments.Face, start: arguments.Point, end: arguments.Point, width: int, depth: int) -> Notch:
         """A slot with a flat floor, so wide and deep, whose middle line runs in the face from one point to another. Refused as notch is;
@@ -188,8 +187,7 @@ class FeatureMethods(Methods):
         """A step along an edge of the face: so wide in the face, from the edge on, and so deep behind it. Refused as notch is; NoEdge,
         NotOfFace: the edge isn't one of the face."""
         number, along = self._bench.number('face', face), self._bench.number('edge', edge)
-        wide, deep = arguments.positive('width', width), arguments.positive('depth', depth)
-        return self._shaped('shoulder', number, along, wide, deep)
+        return self._shaped('shoulder', number, along, width=width, depth=depth)
 
     def chamfer(self, edge: arguments.Edge, width: int, other: Optional[int] = None) -> int:
         """The edge becomes a sloping face, which begins so far from it in the face of its half-edge `+e`, and in the other one as far, or so
@@ -213,12 +211,13 @@ class FeatureMethods(Methods):
     def _strip(self, word: str, face: arguments.Face, start: arguments.Point, end: arguments.Point, width: int, depth: int) -> Notch:
         """Gives a feature along a middle line, so wide and deep."""
         number, ends = self._bench.number('face', face), (Point(*arguments.point('start', start)), Point(*arguments.point('end', end)))
-        return self._shaped(word, number, *ends, arguments.positive('width', width), arguments.positive('depth', depth))
+        return self._shaped(word, number, *ends, width=width, depth=depth)
 
-    def _shaped(self, word: str, face: int, *values: Any) -> Notch:
+    def _shaped(self, word: str, face: int, *values: Any, **sizes: int) -> Notch:
         """Gives a feature in a face that leaves a floor and walls in its solid, whose labels the parts of its faces get. Refused: NoFace."""
+        lengths = [arguments.positive(name, size) for name, size in sizes.items()]
         with self._bench.parting(FacePart(self._kernel, face).solid.number) as new:
-            self._kernel.give(word, face, *values, frees=True)
+            self._kernel.give(word, face, *values, *lengths, frees=True)
             made = Notch(self._kernel.made(FLOOR), self._kernel.made(WALLS))
             new.update(*made)
         return made

@@ -118,5 +118,5 @@ class Notes:
 
     def step_ahead(self) -> int:
         """How many commands are left of the step that would be redone: 1 where there is none."""
-        left = len(self.ahead())
-        return next((count for count in range(1, left) if self.all[self.at + 1 + count].begins), max(left, 1))
+        ahead = self.ahead()
+        return next((count for count, note in enumerate(ahead) if count > 0 and note.begins), max(len(ahead), 1))

@@ -3,7 +3,7 @@
 
 from ctypes import pointer, sizeof
 from fractions import Fraction
-from typing import Any, List, Optional, Tuple
+from typing import Any, Iterable, List, Optional, Tuple, Type
 
 from ..geometry import lattice_cuts, sections, solid_measures
 from ..geometry.flat_face import ExactVector
@@ -13,7 +13,7 @@ from . import arguments
 from .bench import Methods
 from .c_calls import LENGTH, WORD, CutPlane, EdgeQuery, FaceQuery, Point
 from .feature_calls import ratio
-from .reading import EdgePart, FacePart, LoopPart, Selection, SolidPart, VertexPart
+from .reading import EdgePart, FacePart, Found, LoopPart, Selection, SolidPart, VertexPart
 
 # The letters that types of numbers have in buffers.
 _LETTERS = {WORD: 'I', LENGTH: 'q'}
@@ -50,7 +50,7 @@ class Reading(Methods):
 
     def solids(self) -> 'Selection[SolidPart]':
         """All solids."""
-        return Selection('solid', '', [SolidPart(self._kernel, number) for number in self._kernel.lines.numbers('solid')])
+        return self._selected(SolidPart, self._kernel.lines.numbers('solid'))
 
     def faces(self, *, solid: Optional[arguments.Solid] = None, plane: Optional[arguments.Point] = None,
               normal: Optional[arguments.Point] = None, containing: Optional[arguments.Point] = None,
@@ -63,8 +63,8 @@ class Reading(Methods):
             normal=None if normal is None else pointer(Point(*arguments.vector('normal', normal))),
             containing=None if containing is None else pointer(Point(*arguments.point('containing', containing))),
             area=None if area is None else pointer(ratio(arguments.factor('area', area))))
-        wanted = _wanted(solid=solid, plane=plane, normal=normal, containing=containing, area=area)
-        return Selection('face', wanted, [FacePart(self._kernel, number) for number in self._kernel.find('find_faces', query)])
+        found = self._kernel.find('find_faces', query)
+        return self._selected(FacePart, found, solid=solid, plane=plane, normal=normal, containing=containing, area=area)
 
     def edges(self, *, solid: Optional[arguments.Solid] = None, between: Optional[Tuple[arguments.Face, arguments.Face]] = None,
               along: Optional[arguments.Point] = None, length: Optional[Exact] = None) -> 'Selection[EdgePart]':
@@ -77,15 +77,14 @@ class Reading(Methods):
             between=(WORD * 2)(*([] if between is None else [arguments.positive('between', face) for face in pair])),
             along=None if along is None else pointer(Point(*arguments.vector('along', along))),
             length=None if length is None else pointer(ratio(arguments.factor('length', length))))
-        wanted = _wanted(solid=solid, between=between, along=along, length=length)
-        return Selection('edge', wanted, [EdgePart(self._kernel, number) for number in self._kernel.find('find_edges', query)])
+        return self._selected(EdgePart, self._kernel.find('find_edges', query), solid=solid, between=between, along=along, length=length)
 
     def vertices(self, *, solid: Optional[arguments.Solid] = None, at: Optional[arguments.Point] = None) -> 'Selection[VertexPart]':
         """The vertices of the solid, or all; `at` a point."""
         place = None if at is None else arguments.point('at', at)
-        parts = ([VertexPart(self._kernel, number) for number in self._kernel.lines.numbers('vertex')] if solid is None
-                 else list(self.solid(solid).vertices))
-        return Selection('vertex', _wanted(solid=solid, at=at), [part for part in parts if place is None or part.point == place])
+        numbers = self._kernel.lines.numbers('vertex') if solid is None else self.solid(solid).vertices.numbers
+        fitting = [number for number in numbers if place is None or self._kernel.lines.vertex(number) == place]
+        return self._selected(VertexPart, fitting, solid=solid, at=at)
 
     def bounding_box(self, solid: arguments.Solid) -> solid_measures.BoundingBox:
         """The least box with sides along the axes around the solid. Refused: NoSolid."""
@@ -158,6 +157,11 @@ class Reading(Methods):
         A face that isn't flat, or whose loops cross, has none."""
         return self._rows('read_triangles', [self._of(solid)], 6 * self._kernel.lines.greatest('edge'), 4, WORD)
 
+    def _selected(self, kind: Type[Found], numbers: Iterable[int], **criteria: object) -> 'Selection[Found]':
+        """Things of a kind, and what was asked of them."""
+        words = [f'{name}={value!r}' for name, value in criteria.items() if value is not None]
+        return Selection(kind.kind, f' with {", ".join(words)}' if words else '', [kind(self._kernel, number) for number in numbers])
+
     def _sought_in(self, solid: Optional[arguments.Solid]) -> int:
         """The number of a solid for a query, in which 0 stands for all."""
         return 0 if solid is None else arguments.positive('solid', self._bench.number('solid', solid))
@@ -193,8 +197,3 @@ class Reading(Methods):
             raise MemoryError(f'{name}: memory was refused')
         flat = memoryview(rows).cast('B')[:count * width * sizeof(kind)]
         return flat.cast(_LETTERS[kind], (count, width)) if count else flat.cast(_LETTERS[kind])
-
-
-def _wanted(**criteria: object) -> str:
-    words = [f'{name}={value!r}' for name, value in criteria.items() if value is not None]
-    return f' with {", ".join(words)}' if words else ''

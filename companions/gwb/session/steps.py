@@ -4,6 +4,7 @@ from typing import List, Optional, Type
 
 from ..errors import MemoryRefused, NoDraft
 from .kernel import Kernel
+from .turns import Holder
 
 
 class _Part:
@@ -29,19 +30,16 @@ class _Part:
                 try:
                     self._unless_kept()
                 finally:
-                    self._leave()
+                    blocks = self._kernel.blocks
+                    if blocks[0] is self:
+                        self._kernel.let_go()
+                    self._kernel.notes.group_from = self._outer
+                    del blocks[blocks.index(self):]
 
     def _unless_kept(self) -> None:
         if not self._is_kept and self._kernel.lines.is_open:
             self._kernel.expect_loss()
             self.take_back()
-
-    def _leave(self) -> None:
-        blocks = self._kernel.blocks
-        if blocks[0] is self:
-            self._kernel.let_go()
-        self._kernel.notes.group_from = self._outer
-        del blocks[blocks.index(self):]
 
     # What each kind does
 
@@ -82,10 +80,8 @@ class _Draft(_Part):
         self._kernel.settle()
 
 
-class _Group(_Draft):
+class _Group(_Part):
     """Commands that are one step to undo, or within a group part of it."""
-
-    is_draft = False
 
     def __init__(self, kernel: Kernel) -> None:
         super().__init__(kernel)
@@ -104,8 +100,9 @@ class _Group(_Draft):
 
     def take_back(self) -> None:
         """Its commands are undone, and what could be redone before them can be redone."""
-        super().take_back()
         kernel = self._kernel
+        if kernel.lines.is_drafting:
+            kernel.lines.abandon()
         kernel.go_to(self._before)
         kernel.notes.go_back(self._place)
         if kernel.lines.ahead != len(self._ahead) or kernel.notes.ahead() != self._notes:
@@ -162,7 +159,7 @@ class Block:
             try:
                 self._work.begin()
                 if not kernel.is_inside:
-                    kernel.hold()
+                    kernel.holder = kernel.holder or Holder()
             except BaseException:
                 self._work.end(False)
                 raise

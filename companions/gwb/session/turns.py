@@ -4,6 +4,7 @@ Of a draft is what runs in the context (contextvars) of the task or thread that 
 goes on."""
 
 import sys
+from contextlib import suppress
 from contextvars import ContextVar
 from functools import wraps
 from inspect import CO_ASYNC_GENERATOR, CO_COROUTINE, CO_GENERATOR, isfunction
@@ -38,11 +39,9 @@ class Holder:
     def leave_ended(self) -> None:
         """Where its function has ended, what that has left behind goes, such as a draft that it forgot to end and nothing else refers to."""
         if self._frame and not self._frame.f_code.co_flags & _CAN_WAIT:
-            try:
+            with suppress(RuntimeError):    # (it goes on)
                 self._frame.clear()
-            except RuntimeError:
-                return  # (it goes on)
-            self._frame = None
+                self._frame = None
 
     @property
     def is_here(self) -> bool:
@@ -63,6 +62,7 @@ class Turns:
     def __init__(self) -> None:
         self.lock = Condition()
         self.is_inside = False
+        # All that isn't part of what it holds waits.
         self.holder: Optional[Holder] = None
 
     def begin_turn(self) -> None:
@@ -72,10 +72,6 @@ class Turns:
         while self.holder and not self.holder.is_here:
             self.holder.require_end()
             self.lock.wait(_PATIENCE)
-
-    def hold(self) -> None:
-        """All that isn't part of what calls this waits from here on."""
-        self.holder = self.holder or Holder()
 
     def let_go(self) -> None:
         """Others need not wait any more."""
