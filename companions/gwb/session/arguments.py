@@ -4,7 +4,7 @@ from collections.abc import Iterable as Items
 from fractions import Fraction
 from numbers import Integral, Rational
 from os import PathLike, fspath
-from typing import Callable, Iterable, List, NamedTuple, Optional, Protocol, Sequence, Tuple, Union
+from typing import Iterable, List, NamedTuple, Optional, Protocol, Sequence, Tuple, Union
 
 from ..geometry.crossings import without_common_factor
 from ..geometry.vectors import Vector, ZERO
@@ -143,22 +143,13 @@ def corners(name: str, value: object, count: int) -> List[List[int]]:
     return found
 
 
-def fraction(name: str, value: object) -> Fraction:
-    """A whole number or a fraction from zero on."""
-    return _fraction(name, value, lambda found: found >= 0, 'is below zero')
-
-
-def factor(name: str, value: object) -> Fraction:
-    """The same above zero."""
-    return _fraction(name, value, lambda found: found > 0, 'is not above zero')
-
-
-def _fraction(name: str, value: object, fits: Callable[[Fraction], bool], why: str) -> Fraction:
+def factor(name: str, value: object, or_zero: bool = False) -> Fraction:
+    """A whole number or a fraction above zero, or from zero on."""
     if isinstance(value, bool) or not isinstance(value, Rational):
         raise wrong(name, 'a whole number or a fraction', value)
     found = Fraction(int(value.numerator), int(value.denominator))
-    if not fits(found):
-        raise ValueError(f'{name}: {found} {why}')
+    if found < 0 or found == 0 and not or_zero:
+        raise ValueError(f'{name}: {found} is {"below" if or_zero else "not above"} zero')
     return found
 
 

@@ -90,7 +90,7 @@ class Exporting(Methods):
         Raises OSError; NotAMesh where it is no such file; Unfit where its surfaces aren't closed, or a point isn't whole or past the range.
         Refused: NumbersSpent."""
         kind = arguments.text('form', form) and arguments.word('form', form, FORMS_IN)
-        size, most = arguments.factor('scale', scale) / self.unit, arguments.fraction('within', within)
+        size, most = arguments.factor('scale', scale) / self.unit, arguments.factor('within', within, or_zero=True)
         round_all, keep, mend, flat_alone = (arguments.flag(name, value) for name, value in (
             ('rounded', rounded), ('keep_triangles', keep_triangles), ('repair', repair), ('flat', flat)))
         file = arguments.path('path', path)

@@ -90,20 +90,19 @@ class Kernel(Turns):
     def advise(self, error: Complaint, line: str, reply: Reply) -> None:
         """Says how the advice of an error is found: as that of a line with this reply, while the model is as it is now."""
         state = self.lines.state()
-        error.advised(lambda: self._advice(line, reply, state))
 
-    def _advice(self, line: str, reply: Reply, state: Tuple[int, ...]) -> Sequence[str]:
-        """What would do in the place of a line, while the model is as it was and no other thread has the turn. A large model isn't searched."""
-        if reply.word == 'fault':
-            return advice(line, reply, lambda: None)
-        if not self.lock.acquire(blocking=False):
-            return ()
-        try:
-            is_there = self.lines.is_open and self.lines.state() == state and (self.holder is None or self.holder.is_here)
-            model = self.listing() if is_there else None
-            return advice(line, reply, lambda: model) if model is not None and len(model.edges) <= _MOST_EDGES else ()
-        finally:
-            self.lock.release()
+        def as_it_was() -> Model:
+            """The model, if no other thread has the turn. A large one isn't searched: an error says that there is no advice."""
+            if self.lock.acquire(blocking=False):
+                try:
+                    is_here = self.holder is None or self.holder.is_here
+                    if is_here and self.lines.state() == state and len(self.listing().edges) <= _MOST_EDGES:
+                        return self.listing()
+                finally:
+                    self.lock.release()
+            raise OutOfStep('the model is another one, is large, or others have the turn')
+
+        error.advised(lambda: advice(line, reply, as_it_was))
 
     def ask(self, line: str) -> Reply:
         """The reply to any line. What it makes, undoes or redoes is taken account of. In a draft or a group nothing is undone or redone."""
