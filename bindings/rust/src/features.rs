@@ -8,23 +8,19 @@ use std::ops::Deref;
 
 /// Where points go: each axis to an axis, either way round, and then by a vector.
 #[derive(Clone, Copy, Debug, PartialEq, Eq)]
-pub struct Motion {
-    /// For each axis the one that goes there, from 1 on, with a sign.
-    axes: [i32; 3],
-    by: Point,
-}
+pub struct Motion(gwb_sys::Motion);
 
 impl Default for Motion {
     /// All points stay.
     fn default() -> Self {
-        Self { axes: [1, 2, 3], by: Point::default() }
+        Self(gwb_sys::Motion { axes: [1, 2, 3], by: Point::default() })
     }
 }
 
 impl Motion {
     /// By a vector.
     pub fn by(by: impl Into<Point>) -> Self {
-        Self { by: by.into(), ..Self::default() }
+        Self(gwb_sys::Motion { by: by.into(), ..Self::default().0 })
     }
 
     /// By so many quarters about the axis through the origin (0 x, 1 y, 2 z): counterclockwise as seen from where it points.
@@ -32,8 +28,8 @@ impl Motion {
     pub fn quarter_turns(axis: usize, times: usize) -> Self {
         let (first, second) = ((axis + 1) % 3, (axis + 2) % 3);
         let mut quarter = Self::default();
-        quarter.axes.swap(first, second);
-        quarter.axes[first] *= -1;
+        quarter.0.axes.swap(first, second);
+        quarter.0.axes[first] *= -1;
         (0..times % 4).fold(Self::default(), |turned, _| turned.then(quarter))
     }
 
@@ -41,32 +37,28 @@ impl Motion {
     #[must_use]
     pub fn mirror(axis: usize) -> Self {
         let mut motion = Self::default();
-        motion.axes[axis % 3] *= -1;
+        motion.0.axes[axis % 3] *= -1;
         motion
     }
 
     /// This motion, and then another.
     #[must_use]
     pub fn then(self, next: Self) -> Self {
-        Self { axes: next.axes.map(|axis| axis.signum() * self.axes[place(axis)]), by: next.moved(self.by) }
+        Self(gwb_sys::Motion { axes: next.0.axes.map(|axis| axis.signum() * self.0.axes[place(axis)]), by: next.moved(self.0.by) })
     }
 
     /// Where a point goes.
     #[must_use]
     pub fn moved(self, point: Point) -> Point {
         let parts: [i64; 3] = point.into();
-        Point::from(self.axes.map(|axis| i64::from(axis.signum()) * parts[place(axis)])) + self.by
+        Point::from(self.0.axes.map(|axis| i64::from(axis.signum()) * parts[place(axis)])) + self.0.by
     }
 
     /// Whether left becomes right.
     #[must_use]
     pub fn is_mirror(self) -> bool {
-        let is_even = place(self.axes[1]) == (place(self.axes[0]) + 1) % 3;
-        (self.axes.iter().product::<i32>() < 0) == is_even
-    }
-
-    fn row(self) -> gwb_sys::Motion {
-        gwb_sys::Motion { axes: self.axes, by: self.by }
+        let is_even = place(self.0.axes[1]) == (place(self.0.axes[0]) + 1) % 3;
+        (self.0.axes.iter().product::<i32>() < 0) == is_even
     }
 }
 
@@ -101,74 +93,63 @@ pub struct Copied {
     parts: Parts,
 }
 
-impl Deref for Copied {
-    type Target = Parts;
-
-    fn deref(&self) -> &Parts {
-        &self.parts
-    }
-}
-
 /// What all numbers have become: solids, and [`Parts`].
 #[derive(Clone, Debug, PartialEq, Eq)]
-pub struct Renumbered {
-    solids: BTreeMap<Solid, Solid>,
-    parts: Parts,
-}
+pub struct Renumbered(Parts);
 
 impl Renumbered {
     /// What a solid is now: none of what wasn't there.
     #[must_use]
     pub fn solid(&self, of: Solid) -> Option<Solid> {
-        self.solids.get(&of).copied()
+        self.0.made(of)
     }
 
     /// The same the other way, for what follows an undo.
     #[must_use]
     pub fn back(&self) -> Self {
-        fn turned<N: Ord + Copy>(pairs: &BTreeMap<N, N>) -> BTreeMap<N, N> {
-            pairs.iter().map(|(&old, &new)| (new, old)).collect()
-        }
-        let Parts { faces, loops, edges, vertices } = &self.parts;
-        let parts = Parts { faces: turned(faces), loops: turned(loops), edges: turned(edges), vertices: turned(vertices) };
-        Self { solids: turned(&self.solids), parts }
+        let turned = |pairs: BTreeMap<u32, u32>| pairs.into_iter().map(|(old, new)| (new, old)).collect();
+        Self(Parts(self.0 .0.clone().map(turned)))
     }
 }
 
-impl Deref for Renumbered {
-    type Target = Parts;
+macro_rules! has_parts {
+    ($($name:ident.$parts:tt)+) => {
+        $(impl Deref for $name {
+            type Target = Parts;
 
-    fn deref(&self) -> &Parts {
-        &self.parts
-    }
+            fn deref(&self) -> &Parts {
+                &self.$parts
+            }
+        })+
+    };
 }
+has_parts! { Copied.parts Renumbered.0 }
 
-/// Which of the parts that were made are of which.
+/// Which of the parts that were made are of which, by the kinds of [`Id`].
 #[derive(Clone, Debug, PartialEq, Eq)]
-pub struct Parts {
-    faces: BTreeMap<Face, Face>,
-    loops: BTreeMap<Loop, Loop>,
-    edges: BTreeMap<Edge, Edge>,
-    vertices: BTreeMap<Vertex, Vertex>,
-}
+pub struct Parts([BTreeMap<u32, u32>; 5]);
 
 impl Parts {
+    fn made<N: Id>(&self, of: N) -> Option<N> {
+        self.0[N::KIND as usize].get(&of.number()).map(|&number| N::from_number(number))
+    }
+
     /// The face that is of this one: none of another one.
     #[must_use]
     pub fn face(&self, of: Face) -> Option<Face> {
-        self.faces.get(&of).copied()
+        self.made(of)
     }
 
     /// The loop alike.
     #[must_use]
     pub fn of_loop(&self, of: Loop) -> Option<Loop> {
-        self.loops.get(&of).copied()
+        self.made(of)
     }
 
     /// The edge alike.
     #[must_use]
     pub fn edge(&self, of: Edge) -> Option<Edge> {
-        self.edges.get(&of).copied()
+        self.made(of)
     }
 
     /// The half-edge from the vertex of this one to that of its other end.
@@ -180,7 +161,7 @@ impl Parts {
     /// The vertex alike.
     #[must_use]
     pub fn vertex(&self, of: Vertex) -> Option<Vertex> {
-        self.vertices.get(&of).copied()
+        self.made(of)
     }
 }
 
@@ -195,30 +176,22 @@ fn listed(points: &[impl Copy + Into<Point>]) -> Vec<Point> {
     points.iter().map(|&at| at.into()).collect()
 }
 
-pub(crate) fn ids<N: Id>(numbers: Vec<u32>) -> Vec<N> {
-    numbers.into_iter().map(N::from_number).collect()
-}
-
 /// Room for what a call writes of so many.
 fn room<T: Clone + Default>(count: u32) -> Vec<T> {
     vec![T::default(); if count <= MOST { count as usize } else { 0 }]
 }
 
-/// An outline in a face, and what a call writes of it.
-struct Drawn {
-    points: Vec<Point>,
-    made: OutlineMade,
-    along: Vec<u32>,
-}
-
-impl Drawn {
-    fn new(points: &[impl Copy + Into<Point>]) -> Self {
-        Self { points: listed(points), made: OutlineMade::default(), along: vec![0; points.len()] }
-    }
-
-    fn pocket(self) -> Pocket {
-        Pocket { face: Face(self.made.face), of_loop: Loop(self.made.of_loop), sides: ids(self.along) }
-    }
+/// What the kind of an answer says that has a refusal of its own.
+pub(crate) fn told(answer: u32, why: Refusal) -> Result<(), Error> {
+    Err(match answer {
+        kind::OK => return Ok(()),
+        kind::REFUSED => crate::operators::named(why),
+        kind::IMPOSSIBLE => Misfit::from_number(why.number).map_or(Error::Unknown(why.number), |misfit| Error::Impossible { misfit, value: why.value }),
+        kind::MEMORY => Error::Memory,
+        kind::NO_CALL => Error::NoCall,
+        kind::STOPPED => Error::Stopped,
+        _ => Error::Unknown(answer),
+    })
 }
 
 // SAFETY, for all calls in this file: as in operators.rs; lists have as many items as there are points.
@@ -226,43 +199,29 @@ impl Operators {
     /// Gives a feature.
     pub(crate) fn feature(&mut self, call: impl FnOnce(*mut Gwb, *mut Refusal) -> u32) -> Result<(), Error> {
         let (before, mut why) = (self.all_greatest(), Refusal::default());
-        match call(self.handle(), &mut why) {
-            kind::OK => self.told_all(before),
-            kind::REFUSED => return Err(crate::operators::named(why)),
-            kind::IMPOSSIBLE => {
-                let misfit = Misfit::from_number(why.number);
-                return Err(misfit.map_or(Error::Unknown(why.number), |misfit| Error::Impossible { misfit, value: why.value }));
-            }
-            other => return self.answered(other),
-        }
-        Ok(())
+        told(call(self.handle(), &mut why), why).map(|()| self.told_all(before))
     }
 
-    fn made<N: Id>(&self, list: List) -> Vec<N> {
+    fn made<N>(&self, list: List, id: fn(u32) -> N) -> Vec<N> {
         let list = list as u32;
-        ids(crate::readers::rows(|to, room| unsafe { gwb_sys::gwb_made(self.handle(), list, to, room) }))
+        crate::readers::rows(|to, room| unsafe { gwb_sys::gwb_made(self.handle(), list, to, room) }).into_iter().map(id).collect()
     }
 
     /// A list of old and new numbers.
-    fn made_pairs<N: Id>(&self, list: List) -> BTreeMap<N, N> {
-        self.made(list).chunks_exact(2).map(|pair| (pair[0], pair[1])).collect()
+    fn made_pairs<N: Copy, Pairs: FromIterator<(N, N)>>(&self, list: List, id: fn(u32) -> N) -> Pairs {
+        self.made(list, id).chunks_exact(2).map(|pair| (pair[0], pair[1])).collect()
     }
 
     fn made_parts(&self) -> Parts {
-        Parts {
-            faces: self.made_pairs(List::Faces),
-            loops: self.made_pairs(List::Loops),
-            edges: self.made_pairs(List::Edges),
-            vertices: self.made_pairs(List::Vertices),
-        }
+        Parts([List::Solids, List::Faces, List::Loops, List::Edges, List::Vertices].map(|list| self.made_pairs(list, |number| number)))
     }
 
     fn made_notch(&self) -> Notch {
-        Notch { floor: self.made(List::Floor), walls: self.made(List::Walls) }
+        Notch { floor: self.made(List::Floor, Face), walls: self.made(List::Walls, Face) }
     }
 
     fn made_split(&self, above: Solid) -> Split {
-        Split { above, lower_caps: self.made(List::LowerCaps), upper_caps: self.made(List::UpperCaps) }
+        Split { above, lower_caps: self.made(List::LowerCaps, Face), upper_caps: self.made(List::UpperCaps, Face) }
     }
 }
 
@@ -290,56 +249,56 @@ macro_rules! features {
     };
 }
 
-// (`Solid` and `Edge` are transparent u32)
+// (numbers are transparent u32)
 features! {
     /// A solid goes, with all its parts.
     kill_solid(this, solid: Solid) -> () { gwb_sys::gwb_kill_solid(solid.0) => () }
     /// A new solid, that is another moved; its numbers are free ones, above all in use as long as there are any.
     copy_solid(this, solid: Solid, motion: Motion) -> Copied {
         let mut made = 0;
-        gwb_sys::gwb_copy_solid(solid.0, &motion.row(), &mut made) => Copied { solid: Solid(made), parts: this.made_parts() }
+        gwb_sys::gwb_copy_solid(solid.0, &motion.0, &mut made) => Copied { solid: Solid(made), parts: this.made_parts() }
     }
     /// A solid lies elsewhere, with the numbers that it has.
-    move_solid(this, solid: Solid, motion: Motion) -> () { gwb_sys::gwb_move_solid(solid.0, &motion.row()) => () }
+    move_solid(this, solid: Solid, motion: Motion) -> () { gwb_sys::gwb_move_solid(solid.0, &motion.0) => () }
     /// A row of so many solids, of which this is the first, each by the step from the one before it: those that are new.
     pattern(this, solid: Solid, count: u32, step: impl Into<Point>) -> Vec<Solid> {
-        let mut made = room(count.saturating_sub(1));
-        gwb_sys::gwb_pattern(solid.0, count, &step.into(), made.as_mut_ptr()) => ids(made)
+        let mut made = room::<Solid>(count.saturating_sub(1));
+        gwb_sys::gwb_pattern(solid.0, count, &step.into(), made.as_mut_ptr().cast()) => made
     }
     /// So many solids around the axis through a point (0 x, 1 y, 2 z), of which this is the first, each so many quarter turns on from the one before it:
     /// those that are new.
     pattern_around(this, solid: Solid, count: u32, axis: u32, quarters: u32, about: impl Into<Point>) -> Vec<Solid> {
-        let mut made = room(count.saturating_sub(1));
-        gwb_sys::gwb_pattern_around(solid.0, count, axis, quarters, &about.into(), made.as_mut_ptr()) => ids(made)
+        let mut made = room::<Solid>(count.saturating_sub(1));
+        gwb_sys::gwb_pattern_around(solid.0, count, axis, quarters, &about.into(), made.as_mut_ptr().cast()) => made
     }
     /// All coordinates times the factor; numbers stay.
     scale(this, factor: i64) -> () { gwb_sys::gwb_scale(factor) => () }
     /// All numbers become as low as they can be, in their order: where none is left for what comes. [`Notes`](crate::Notes) follow by `renumbered`.
-    renumber(this) -> Renumbered { gwb_sys::gwb_renumber() => Renumbered { solids: this.made_pairs(List::Solids), parts: this.made_parts() } }
+    renumber(this) -> Renumbered { gwb_sys::gwb_renumber() => Renumbered(this.made_parts()) }
     /// The solids become the first, glued along the faces that match.
     glue_all(this, solids: &[Solid]) -> () { gwb_sys::gwb_glue_all(solids.as_ptr().cast(), solids.len()) => () }
     /// What [`split`](crate::Operators::split) does, with the faces that close both parts.
     split_solid(this, solid: Solid, plane: [i64; 4], above: impl Into<Option<Solid>>) -> Split {
         let above = this.named(above);
-        gwb_sys::gwb_split_solid(solid.0, &plane.into(), above.0) => this.made_split(above)
+        gwb_sys::gwb_split_solid(solid.0, &plane, above.0) => this.made_split(above)
     }
     /// The same, also where split refuses the plane for what it touches or how it runs through faces and holes.
     cut(this, solid: Solid, plane: [i64; 4], above: impl Into<Option<Solid>>) -> Split {
         let above = this.named(above);
-        gwb_sys::gwb_cut(solid.0, &plane.into(), above.0) => this.made_split(above)
+        gwb_sys::gwb_cut(solid.0, &plane, above.0) => this.made_split(above)
     }
     /// What lies above the plane goes: the faces that close what is left.
-    trim(this, solid: Solid, plane: [i64; 4]) -> Vec<Face> { gwb_sys::gwb_trim(solid.0, &plane.into()) => this.made(List::LowerCaps) }
+    trim(this, solid: Solid, plane: [i64; 4]) -> Vec<Face> { gwb_sys::gwb_trim(solid.0, &plane) => this.made(List::LowerCaps, Face) }
     /// The solids, which touch in faces, become the first: faces that became one with others, or several, each with one that it went into.
     union(this, solids: &[Solid]) -> Vec<(Face, Face)> {
-        gwb_sys::gwb_union(solids.as_ptr().cast(), solids.len()) => this.made(List::Into).chunks_exact(2).map(|pair| (pair[0], pair[1])).collect()
+        gwb_sys::gwb_union(solids.as_ptr().cast(), solids.len()) => this.made_pairs(List::Into, Face)
     }
     /// A new solid: the outline through the points, moved along the vector.
     profile(this, solid: impl Into<Option<Solid>>, points: &[impl Copy + Into<Point>], along: impl Into<Point>) -> Profile {
         let (solid, points, mut made) = (this.named(solid), listed(points), gwb_sys::ProfileMade::default());
-        let mut sides = vec![0; points.len()];
-        gwb_sys::gwb_profile(solid.0, points.as_ptr(), points.len(), &along.into(), &mut made, sides.as_mut_ptr())
-            => Profile { solid, far: Face(made.far), base: Face(made.base), sides: ids(sides) }
+        let mut sides = vec![Face(0); points.len()];
+        gwb_sys::gwb_profile(solid.0, points.as_ptr(), points.len(), &along.into(), &mut made, sides.as_mut_ptr().cast())
+            => Profile { solid, far: Face(made.far), base: Face(made.base), sides }
     }
     /// A new solid: points, and faces of so many corners each, by their places among the points from 0 on, counterclockwise as seen from outside.
     /// [`Error::NoCall`] where these aren't sound as a solid.
@@ -351,32 +310,35 @@ features! {
     }
     /// A face inside the face, with the outline through the points, and a ring around it.
     ring(this, face: Face, points: &[impl Copy + Into<Point>]) -> Ring {
-        let (mut drawn, mut vertices) = (Drawn::new(points), vec![0; points.len()]);
-        gwb_sys::gwb_ring(face.0, drawn.points.as_ptr(), drawn.points.len(), &mut drawn.made, drawn.along.as_mut_ptr(), vertices.as_mut_ptr())
-            => Ring { face: Face(drawn.made.face), of_loop: Loop(drawn.made.of_loop), edges: ids(drawn.along), vertices: ids(vertices) }
+        let (points, mut made, mut edges) = (listed(points), OutlineMade::default(), vec![Edge(0); points.len()]);
+        let mut vertices = vec![Vertex(0); points.len()];
+        gwb_sys::gwb_ring(face.0, points.as_ptr(), points.len(), &mut made, edges.as_mut_ptr().cast(), vertices.as_mut_ptr().cast())
+            => Ring { face: Face(made.face), of_loop: Loop(made.of_loop), edges, vertices }
     }
     /// A pocket so deep behind the outline in the face.
     pocket(this, face: Face, points: &[impl Copy + Into<Point>], depth: i64) -> Pocket {
-        let mut drawn = Drawn::new(points);
-        gwb_sys::gwb_pocket(face.0, drawn.points.as_ptr(), drawn.points.len(), depth, &mut drawn.made, drawn.along.as_mut_ptr()) => drawn.pocket()
+        let (points, mut made, mut sides) = (listed(points), OutlineMade::default(), vec![Face(0); points.len()]);
+        gwb_sys::gwb_pocket(face.0, points.as_ptr(), points.len(), depth, &mut made, sides.as_mut_ptr().cast())
+            => Pocket { face: Face(made.face), of_loop: Loop(made.of_loop), sides }
     }
     /// A boss so high on the outline in the face.
     boss(this, face: Face, points: &[impl Copy + Into<Point>], height: i64) -> Pocket {
-        let mut drawn = Drawn::new(points);
-        gwb_sys::gwb_boss(face.0, drawn.points.as_ptr(), drawn.points.len(), height, &mut drawn.made, drawn.along.as_mut_ptr()) => drawn.pocket()
+        let (points, mut made, mut sides) = (listed(points), OutlineMade::default(), vec![Face(0); points.len()]);
+        gwb_sys::gwb_boss(face.0, points.as_ptr(), points.len(), height, &mut made, sides.as_mut_ptr().cast())
+            => Pocket { face: Face(made.face), of_loop: Loop(made.of_loop), sides }
     }
     /// A hole from the outline in the face through to the opposite face.
     hole(this, face: Face, points: &[impl Copy + Into<Point>]) -> Hole {
-        let mut drawn = Drawn::new(points);
-        gwb_sys::gwb_hole(face.0, drawn.points.as_ptr(), drawn.points.len(), &mut drawn.made, drawn.along.as_mut_ptr())
-            => Hole { other: Face(drawn.made.face), of_loop: Loop(drawn.made.of_loop), sides: ids(drawn.along), points: drawn.points }
+        let (points, mut made, mut sides) = (listed(points), OutlineMade::default(), vec![Face(0); points.len()]);
+        gwb_sys::gwb_hole(face.0, points.as_ptr(), points.len(), &mut made, sides.as_mut_ptr().cast())
+            => Hole { other: Face(made.face), of_loop: Loop(made.of_loop), sides, points }
     }
     /// A hole with a polygon of so many sides around the center, on whole numbers nearest to the circle of the radius: through, where the depth is 0,
     /// or so deep.
     drill(this, face: Face, center: impl Into<Point>, radius: i64, sides: u32, depth: i64) -> Hole {
-        let (mut made, mut walls, mut points) = (OutlineMade::default(), room(sides), room(sides));
-        gwb_sys::gwb_drill(face.0, &center.into(), radius, sides, depth, &mut made, walls.as_mut_ptr(), points.as_mut_ptr())
-            => Hole { other: Face(made.face), of_loop: Loop(made.of_loop), sides: ids(walls), points }
+        let (mut made, mut walls, mut points) = (OutlineMade::default(), room::<Face>(sides), room(sides));
+        gwb_sys::gwb_drill(face.0, &center.into(), radius, sides, depth, &mut made, walls.as_mut_ptr().cast(), points.as_mut_ptr())
+            => Hole { other: Face(made.face), of_loop: Loop(made.of_loop), sides: walls, points }
     }
     /// A pocket whose outline may reach the edges of the face.
     notch(this, face: Face, points: &[impl Copy + Into<Point>], depth: i64) -> Notch {
@@ -400,7 +362,7 @@ features! {
     }
     /// Different edges become slopes at once, as far into the faces on both sides, which meet where the edges do: the slope of each.
     chamfer_edges(this, edges: &[Edge], width: i64) -> Vec<Face> {
-        let mut faces = vec![0; edges.len()];
-        gwb_sys::gwb_chamfer_edges(edges.as_ptr().cast(), edges.len(), width, faces.as_mut_ptr()) => ids(faces)
+        let mut faces = vec![Face(0); edges.len()];
+        gwb_sys::gwb_chamfer_edges(edges.as_ptr().cast(), edges.len(), width, faces.as_mut_ptr().cast()) => faces
     }
 }

@@ -1,14 +1,14 @@
 //! What is to be said of a split that is refused since its points aren't whole: where the plane cuts edges, by how much the model would have to
 //! be scaled, and which planes nearby would do.
-use crate::readers::values as written;
-use crate::rows::values;
+use crate::features::told;
+use crate::readers::{rows, values};
 use crate::{Edge, Error, Readers, Solid};
-use gwb_sys::kind;
+pub use gwb_sys::NearPlane;
 use std::fmt;
 use std::ptr::{null_mut, NonNull};
 use std::sync::Arc;
 
-values! {
+crate::rows::values! {
     /// A fraction by its least terms, of which the second is above zero.
     Fraction [Copy] { numerator: i128, denominator: i128 }
     /// Where a plane cuts an edge between its ends.
@@ -45,24 +45,6 @@ impl From<gwb_sys::EdgeCut> for EdgeCut {
     }
 }
 
-/// A plane that cuts the solid at whole points alone.
-#[derive(Clone, Copy, Debug, PartialEq)]
-pub struct NearPlane {
-    /// a, b, c and d of a x + b y + c z + d = 0.
-    pub plane: [i64; 4],
-    /// Whether it has the same normal; else it is tilted.
-    pub is_parallel: bool,
-    /// How far it moves the cut along an edge at most, rounded up to hundredths.
-    pub moved: f64,
-}
-
-impl From<gwb_sys::NearPlane> for NearPlane {
-    fn from(row: gwb_sys::NearPlane) -> Self {
-        let gwb_sys::CutPlane { a, b, c, d } = row.plane;
-        Self { plane: [a, b, c, d], is_parallel: row.is_parallel, moved: row.moved }
-    }
-}
-
 /// What the library says of a cut. It is freed when it is dropped.
 #[derive(Debug)]
 struct Advice(NonNull<gwb_sys::Advice>);
@@ -72,19 +54,6 @@ unsafe impl Send for Advice {}
 unsafe impl Sync for Advice {}
 
 // SAFETY, for all calls in this file: the pointer is one that gwb_off_lattice wrote, until it is dropped.
-impl Advice {
-    fn rows<Row: Copy + Default, T: From<Row>>(&self, write: unsafe extern "C" fn(*const gwb_sys::Advice, *mut Row, usize) -> usize) -> Vec<T> {
-        written(|rows, room| unsafe { write(self.0.as_ptr(), rows, room) })
-    }
-
-    fn text(&self, above: Solid) -> String {
-        let length = unsafe { gwb_sys::gwb_advice_text(self.0.as_ptr(), above.0, NonNull::dangling().as_ptr(), 0) };
-        let mut text = vec![0; if length == usize::MAX { 0 } else { length }];
-        unsafe { gwb_sys::gwb_advice_text(self.0.as_ptr(), above.0, text.as_mut_ptr(), text.len()) };
-        String::from_utf8_lossy(&text).into_owned()
-    }
-}
-
 impl Drop for Advice {
     fn drop(&mut self) {
         unsafe { gwb_sys::gwb_advice_free(self.0.as_ptr()) }
@@ -114,7 +83,11 @@ impl OffLattice {
     /// Lines of a script: comments, and the splits that would do, with the number for the solid above the plane. Empty where memory is refused.
     #[must_use]
     pub fn advice(&self, above: Solid) -> String {
-        self.advice.text(above)
+        let write = |text, room| match unsafe { gwb_sys::gwb_advice_text(self.advice.0.as_ptr(), above.0, text, room) } {
+            usize::MAX => 0,
+            length => length,
+        };
+        String::from_utf8_lossy(&rows(write)).into_owned()
     }
 }
 
@@ -138,22 +111,19 @@ impl Readers {
     ///
     /// # Errors
     /// [`Error::Refused`]: `NoSolid`, `PlaneRange`; [`Error::Memory`]; [`Error::Stopped`].
-    pub fn off_lattice(&self, solid: Solid, [a, b, c, d]: [i64; 4], most: usize) -> Result<OffLattice, Error> {
-        let (plane, mut found, mut why) = (gwb_sys::CutPlane { a, b, c, d }, null_mut(), gwb_sys::Refusal::default());
+    pub fn off_lattice(&self, solid: Solid, plane: [i64; 4], most: usize) -> Result<OffLattice, Error> {
+        let (mut found, mut why) = (null_mut(), gwb_sys::Refusal::default());
         // SAFETY: the handle is open, and what is written to is of this function.
-        let answer = unsafe { gwb_sys::gwb_off_lattice(self.handle(), solid.0, &plane, most, &mut found, &mut why) };
-        if answer != kind::OK {
-            return Err(crate::selection::unread(answer, why));
-        }
-        let advice = Advice(NonNull::new(found).ok_or(Error::Memory)?);
+        told(unsafe { gwb_sys::gwb_off_lattice(self.handle(), solid.0, &plane, most, &mut found, &mut why) }, why)?;
+        let advice = Arc::new(Advice(NonNull::new(found).ok_or(Error::Memory)?));
         Ok(OffLattice {
             solid,
-            plane: [a, b, c, d],
-            cuts: advice.rows(gwb_sys::gwb_advice_cuts),
-            factor: Some(i128::from(unsafe { gwb_sys::gwb_advice_factor(advice.0.as_ptr()) })).filter(|&factor| factor != 0),
-            fits: unsafe { gwb_sys::gwb_advice_fits(advice.0.as_ptr()) },
-            near: advice.rows(gwb_sys::gwb_advice_planes),
-            advice: Arc::new(advice),
+            plane,
+            cuts: values(|rows, room| unsafe { gwb_sys::gwb_advice_cuts(found, rows, room) }),
+            factor: Some(i128::from(unsafe { gwb_sys::gwb_advice_factor(found) })).filter(|&factor| factor != 0),
+            fits: unsafe { gwb_sys::gwb_advice_fits(found) },
+            near: rows(|rows, room| unsafe { gwb_sys::gwb_advice_planes(found, rows, room) }),
+            advice,
         })
     }
 }

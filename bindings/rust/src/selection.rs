@@ -1,9 +1,8 @@
 //! Faces and edges by where they lie, exactly.
-use crate::features::ids;
-use crate::operators::named;
+use crate::features::told;
 use crate::readers::number_of;
 use crate::{Edge, Error, Face, Id, Point, Readers, Solid};
-use gwb_sys::{kind, CutPlane, Gwb, Ratio, Refusal};
+use gwb_sys::{Gwb, Refusal};
 use std::ptr::null;
 
 /// Which faces are sought: those for which all holds that is said.
@@ -48,14 +47,7 @@ fn pointer<T>(value: &Option<T>) -> *const T {
     value.as_ref().map_or(null(), |value| value)
 }
 
-fn ratio(parts: Option<[u64; 2]>) -> Option<Ratio> {
-    parts.map(|[numerator, denominator]| Ratio { numerator, denominator })
-}
-
-/// The number of a solid for a query, 0 for all where none is given.
-fn sought_in(solid: Option<Solid>) -> Result<u32, Error> {
-    number_of(solid).ok_or(Error::Refused { refusal: crate::Refusal::NoSolid, value: 0 })
-}
+const NO_SOLID: Error = Error::Refused { refusal: crate::Refusal::NoSolid, value: 0 };
 
 // SAFETY, for all calls in this file: as in readers.rs; what a query points to lives until the call returns.
 impl Readers {
@@ -65,13 +57,12 @@ impl Readers {
     /// [`Error::Refused`] with `NoSolid`; [`Error::NoCall`] where a plane or a direction is zero, or part of a ratio is; [`Error::Memory`];
     /// [`Error::Stopped`].
     pub fn find_faces(&self, query: &FaceQuery) -> Result<Vec<Face>, Error> {
-        let (plane, area) = (query.plane.map(CutPlane::from), ratio(query.area));
         let row = gwb_sys::FaceQuery {
-            solid: sought_in(query.solid)?,
-            plane: pointer(&plane),
+            solid: number_of(query.solid).ok_or(NO_SOLID)?,
+            plane: pointer(&query.plane),
             normal: pointer(&query.normal),
             containing: pointer(&query.containing),
-            area: pointer(&area),
+            area: pointer(&query.area),
         };
         self.sought(|g, buf, room, count, why| unsafe { gwb_sys::gwb_find_faces(g, &row, buf, room, count, why) })
     }
@@ -81,40 +72,26 @@ impl Readers {
     /// # Errors
     /// As [`find_faces`](Self::find_faces), and `NoFace`.
     pub fn find_edges(&self, query: &EdgeQuery) -> Result<Vec<Edge>, Error> {
-        let length = ratio(query.length);
         if query.between.map_or(false, |faces| faces.contains(&Face(0))) {
             return Err(Error::NoCall); // (for the call two of them would be any)
         }
         let row = gwb_sys::EdgeQuery {
-            solid: sought_in(query.solid)?,
+            solid: number_of(query.solid).ok_or(NO_SOLID)?,
             between: query.between.map_or([0; 2], |faces| faces.map(|face| face.0)),
             along: pointer(&query.along),
-            length: pointer(&length),
+            length: pointer(&query.length),
         };
         self.sought(|g, buf, room, count, why| unsafe { gwb_sys::gwb_find_edges(g, &row, buf, room, count, why) })
     }
 
     /// What a query finds, which is asked for again where there is more than room.
     fn sought<N: Id>(&self, call: impl Fn(*mut Gwb, *mut u32, usize, *mut usize, *mut Refusal) -> u32) -> Result<Vec<N>, Error> {
-        let (mut found, mut count, mut why) = (vec![0; 64], 0, Refusal::default());
-        loop {
-            match call(self.handle(), found.as_mut_ptr(), found.len(), &mut count, &mut why) {
-                kind::OK if count <= found.len() => break,
-                kind::OK => found.resize(count, 0),
-                other => return Err(unread(other, why)),
-            }
+        let (mut found, mut count, mut why) = (Vec::new(), 64, Refusal::default());
+        while count > found.len() {
+            found.resize(count, 0);
+            told(call(self.handle(), found.as_mut_ptr(), found.len(), &mut count, &mut why), why)?;
         }
         found.truncate(count);
-        Ok(ids(found))
-    }
-}
-
-/// Why a reader of gwb_features.h gives nothing.
-pub(crate) fn unread(answer: u32, why: Refusal) -> Error {
-    match answer {
-        kind::REFUSED => named(why),
-        kind::NO_CALL => Error::NoCall,
-        kind::STOPPED => Error::Stopped,
-        _ => Error::Memory,
+        Ok(found.into_iter().map(N::from_number).collect())
     }
 }

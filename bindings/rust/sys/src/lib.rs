@@ -93,13 +93,21 @@ pub struct Advice {
     hidden: [u8; 0],
 }
 
-/// A plane beside another one.
+/// The plane a x + b y + c z + d = 0, by its four numbers.
+pub type CutPlane = [i64; 4];
+
+/// The first number divided by the second.
+pub type Ratio = [u64; 2];
+
+/// A plane that cuts the solid at whole points alone.
 #[repr(C)]
 #[derive(Clone, Copy, Debug, Default, PartialEq)]
-#[allow(missing_docs)]
 pub struct NearPlane {
+    /// a, b, c and d of a x + b y + c z + d = 0.
     pub plane: CutPlane,
+    /// Whether it has the same normal; else it is tilted.
     pub is_parallel: bool,
+    /// How far it moves the cut along an edge at most, rounded up to hundredths.
     pub moved: f64,
 }
 
@@ -211,10 +219,6 @@ rows! {
     ProfileMade { far: u32, base: u32 }
     /// What gwb_polyhedron makes.
     PolyhedronMade { first_vertex: u32, first_face: u32 }
-    /// The numerator divided by the denominator.
-    Ratio { numerator: u64, denominator: u64 }
-    /// The plane a x + b y + c z + d = 0.
-    CutPlane { a: i64, b: i64, c: i64, d: i64 }
     /// An edge that a plane cuts, and where: three fractions.
     EdgeCut { edge: u32, numerators: [Wide; 3], denominators: [Wide; 3] }
     /// What a feature of an outline makes.
@@ -264,12 +268,6 @@ impl Sub for Point {
 
     fn sub(self, by: Self) -> Self {
         self + -by
-    }
-}
-
-impl From<[i64; 4]> for CutPlane {
-    fn from([a, b, c, d]: [i64; 4]) -> Self {
-        Self { a, b, c, d }
     }
 }
 
