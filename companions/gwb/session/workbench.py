@@ -15,11 +15,10 @@ Methods are in parts over one bench (bench.py): commands (commands.py), what is 
 import re
 from fractions import Fraction
 from html import escape
-from itertools import chain
 from pathlib import Path
 from sys import maxsize
 from tempfile import NamedTemporaryFile
-from typing import ContextManager, Iterator, List, NoReturn, Optional, Sequence, Tuple
+from typing import ContextManager, Iterator, List, NoReturn, Optional, Tuple
 from webbrowser import open as open_in_browser
 
 from ..errors import CompanionError, Complaint, InDraft
@@ -37,7 +36,6 @@ from .commands import Commands
 from .exporting import Exporting
 from .feature_methods import FeatureMethods
 from .kernel import Kernel
-from .notes import Note
 from .results import Numbers
 from .selection import Reading
 from .solids import SolidMethods
@@ -184,26 +182,19 @@ class Workbench(SolidMethods, FeatureMethods, Commands, Reading, Exporting):
 def _saved_lines(kernel: Kernel) -> Iterator[str]:
     """The lines of what is held, the steps of a draft too. Before those that are one step, or one draft, stands a mark, and the unit where it
     changes."""
-    commands, notes = [text.splitlines() for text in kernel.commands()], kernel.notes.all[:kernel.notes.at + 1]
-    yield from _unit_lines(Fraction(1), notes[0].unit)
-    starts = [place for place in range(len(notes) - 1) if place == 0 or notes[place + 1].begins]
-    for first, last in zip(starts, [*starts[1:], len(notes) - 1]):
-        yield from _step_lines(commands[first:last], notes[first:last + 1])
-    yield from chain(*commands[len(notes) - 1:], _unit_lines(notes[-1].unit, kernel.notes.now.unit))
-
-
-def _step_lines(commands: Sequence[List[str]], notes: Sequence[Note]) -> Iterator[str]:
-    """The lines of a step by its commands, with the note before it and that of each of them."""
-    if len(commands) > 1:
-        yield f'# step of {sum(map(len, commands))} commands'
-    for lines, before, after in zip(commands, notes, notes[1:]):
-        if len(lines) > 1:
+    commands: List[List[str]] = [[], *(text.splitlines() for text in kernel.commands())]
+    notes, unit = kernel.notes.all[:kernel.notes.at + 1], Fraction(1)
+    starts = [place for place, note in enumerate(notes) if place > 0 and (place == 1 or note.begins)]
+    steps = {first: commands[first:last] for first, last in zip(starts, [*starts[1:], len(notes)])}
+    for place, (lines, note) in enumerate(zip(commands, [*notes, kernel.notes.now])):
+        if len(steps.get(place, [])) > 1:
+            yield f'# step of {sum(map(len, steps[place]))} commands'
+        if len(lines) > 1 and place < len(notes):
             yield f'# draft of {len(lines)} commands'
-        yield from chain(lines, _unit_lines(before.unit, after.unit))
-
-
-def _unit_lines(before: Fraction, after: Fraction) -> List[str]:
-    return [] if before == after else [unit_line(after)]
+        yield from lines
+        if note.unit != unit:
+            yield unit_line(note.unit)
+        unit = note.unit
 
 
 def _script_in(file: Path, data: bytes) -> bytes:
