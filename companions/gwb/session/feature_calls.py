@@ -67,14 +67,14 @@ class FeatureKernel(Kernel):
         if said != OK:
             raise self._complaint(word, said, why)
 
-    def give(self, word: str, *values: Any, frees: bool = False) -> None:
-        """Gives a feature; `frees` where numbers may be free after it that were in use."""
-        self.giving(lambda: self._ask(word, *values), frees)
+    def give(self, word: str, *values: Any) -> None:
+        """Gives a feature."""
+        self.giving(word, lambda: self._ask(word, *values))
 
-    def written(self, word: str, room: int, *values: Any, frees: bool = False) -> Numbers:
+    def written(self, word: str, room: int, *values: Any) -> Numbers:
         """Gives a feature that writes so many numbers behind what it takes: these."""
         made = (WORD * room)()
-        self.give(word, *values, made, frees=frees)
+        self.give(word, *values, made)
         return tuple(made)
 
     def outline(self, word: str, number: int, points: Sequence[Vector], *more: Any, beside: Sequence[Any] = ()) -> Tuple[int, int, Numbers]:
@@ -120,7 +120,7 @@ class FeatureKernel(Kernel):
             flat = (self.find('find_faces', FaceQuery(solid=side, plane=pointer(level))) for side in (solid, above))
             return *(tuple(face for face in faces if face in made[0]) for faces in flat), *made
         try:
-            self.give(word, solid, level, *([above] if word == 'cut' else []), frees=True)
+            self.give(word, solid, level, *([above] if word == 'cut' else []))
         except Refused as error:
             if error.number:
                 self.advise(error, line, Reply((f'refused {error.number} {error.value}',)))

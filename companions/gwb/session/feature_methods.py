@@ -159,7 +159,7 @@ class FeatureMethods(Methods):
         Refused: NoMatch: no chain of matching faces joins a solid with the first; GluedTwice: two of them match along more than the one face that a
         gluing takes, so that the rest would touch."""
         numbers = self._bench.different('solids', solids, 'solid')
-        self._kernel.give('glue_all', words(numbers), len(numbers), frees=True)
+        self._kernel.give('glue_all', words(numbers), len(numbers))
         return numbers[0]
 
     def notch(self, face: arguments.Face, points: arguments.Points, depth: int) -> Notch:
@@ -217,7 +217,7 @@ class FeatureMethods(Methods):
         """Gives a feature in a face that leaves a floor and walls in its solid, whose labels the parts of its faces get. Refused: NoFace."""
         lengths = [arguments.positive(name, size) for name, size in sizes.items()]
         with self._bench.parting(FacePart(self._kernel, face).solid.number) as new:
-            self._kernel.give(word, face, *values, *lengths, frees=True)
+            self._kernel.give(word, face, *values, *lengths)
             made = Notch(self._kernel.made(FLOOR), self._kernel.made(WALLS))
             new.update(*made)
         return made
@@ -226,7 +226,7 @@ class FeatureMethods(Methods):
         """Gives a feature that makes slopes of edges, which are returned; the parts of faces get the labels of these."""
         solid, *_ = [EdgePart(self._kernel, edge).solid.number for edge in edges]
         with self._bench.parting(solid) as new:
-            made = self._kernel.written(word, len(edges), *values, frees=True)
+            made = self._kernel.written(word, len(edges), *values)
             new.update(made)
         return made
 

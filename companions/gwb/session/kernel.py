@@ -19,8 +19,9 @@ Said = TypeVar('Said')
 _NOTHING_TO_REDO = Reply(('refused 26 0',))
 # Of a larger model it isn't told what would do in the place of a refused command: that may take long.
 _MOST_EDGES = 20_000
-# The commands after which numbers may be free that were in use.
-_FREEING = ('kvfs', 'kev', 'kef', 'kemr', 'mekr', 'kfmrh', 'glue', 'undo', 'redo')
+# The commands and features after which numbers may be free that were in use.
+_FREEING = ('kvfs', 'kev', 'kef', 'kemr', 'mekr', 'kfmrh', 'glue', 'undo', 'redo', 'kill_solid', 'renumber', 'cut', 'trim', 'union', 'glue_all', 'notch',
+            'slot', 'groove', 'shoulder', 'chamfer', 'chamfer_edges')
 
 
 class Kernel(Turns):
@@ -115,12 +116,13 @@ class Kernel(Turns):
             # (what was given up in a group is undone in the library, and isn't to be redone)
             self.lines.require_open()
             return _NOTHING_TO_REDO
-        return self.giving(lambda: self.lines.ask(line), word in _FREEING, word not in ('undo', 'redo'))
+        return self.giving(word, lambda: self.lines.ask(line))
 
-    def giving(self, give: Callable[[], Said], frees: bool, is_new: bool = True) -> Said:
-        """Gives what may be a new command, or a step of the draft; `frees` where numbers may be free after it that were in use."""
+    def giving(self, word: str, give: Callable[[], Said]) -> Said:
+        """Gives a command or a feature of this word, which may be a step of the draft."""
         if self._is_giving:
             raise OutOfStep('another call is under way')
+        is_new = word not in ('undo', 'redo')
         if is_new and not self.lines.is_drafting:
             self.notes.expect()
         if is_new and self._may_have_gone and not self._has_given:
@@ -128,7 +130,7 @@ class Kernel(Turns):
             gone = [(thing, None) for thing in self.notes.labels if not self.lines.in_use(*thing)]
             self.notes.put(*gone)
             self._may_have_gone = bool(gone)    # (there still, where nothing comes of what is given)
-        if frees:
+        if word in _FREEING:
             self.expect_loss()
         self._is_giving = self._has_given = True
         try:

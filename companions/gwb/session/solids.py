@@ -76,7 +76,7 @@ class SolidMethods(Methods):
 
     def delete(self, solid: arguments.Solid) -> None:
         """The solid goes, with all that it has. Refused: NoSolid."""
-        self._kernel.give('kill_solid', self._bench.number('solid', solid), frees=True)
+        self._kernel.give('kill_solid', self._bench.number('solid', solid))
 
     def copy(self, solid: arguments.Solid, *, move: arguments.Point = ZERO, mirror: Optional[arguments.Point] = None) -> Copy:
         """A copy of the solid, mirrored in a plane where one is given, and then moved by the vector: the numbers of its things by those of
@@ -140,7 +140,7 @@ class SolidMethods(Methods):
         """All numbers become as low as they can be, from 1 on in the order that they have, and may be taken again when they are free: where none is left.
         Labels go along. Refused: NumbersSpent: a spare number is wanted on the way, and none is free."""
         with self._bench.step():
-            self._kernel.give('renumber', frees=True)
+            self._kernel.give('renumber')
             made = Renumbered(*(dict(self._kernel.pairs(which)) for which in (SOLIDS, FACES, LOOPS, EDGES, VERTICES)))
             self._kernel.notes.renumber({'solid': made.solids, 'face': made.faces})
         self._kernel.numbers.forget()
@@ -186,7 +186,7 @@ class SolidMethods(Methods):
         would touch itself; OffLattice: edges of two solids cross between whole coordinates."""
         numbers = self._bench.different('solids', solids, 'solid', 2)
         with self._bench.step():
-            self._kernel.give('union', words(numbers), len(numbers), frees=True)
+            self._kernel.give('union', words(numbers), len(numbers))
             merged: Dict[int, List[int]] = {}
             for face, part in self._kernel.pairs(INTO):
                 merged.setdefault(part, []).insert(0 if face == part else len(merged[part]), face)
@@ -217,7 +217,7 @@ class SolidMethods(Methods):
             return number
         after = _changed('move_solid', self._bench.solid_model(number), change)
         with self._bench.step():
-            self._kernel.give('kill_solid', number, frees=True)
+            self._kernel.give('kill_solid', number)
             self._kernel.load(after)
         return number
 
