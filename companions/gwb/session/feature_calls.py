@@ -37,9 +37,7 @@ _TEXTS = {
     'NotAlike': 'edge {} is of another solid than the first, or bends the other way',
     'NotClosed': "a side of face {} hasn't one side, of one face, that runs the other way",
     'NumbersSpent': 'too few numbers above all that are in use are left'}
-_PART_MEETS = 'a part of solid {} would touch itself in the plane'
 _MOST_TERM = 2 ** 64 - 1
-_TOO_MANY = 2 ** 62
 
 
 def rows(points: Sequence[Vector]) -> Any:
@@ -107,7 +105,7 @@ class FeatureKernel(Kernel):
         finally:
             self.lines.library.advice_free(advice)
         # (0 where it is too great to be said: out of range in any case)
-        return (factor.high << 64 | factor.low) or _TOO_MANY
+        return (factor.high << 64 | factor.low) or 2 ** 62
 
     def cut(self, word: str, solid: int, plane: Sequence[int], above: int) -> Sequence[Numbers]:
         """A split, cut or trim: the caps of both parts, and of a split all faces, edges and vertices. What is refused has the advice that a split with this
@@ -140,7 +138,7 @@ class FeatureKernel(Kernel):
         """The error of an answer, as it is said of a feature. A number past the greatest was chosen, except for a profile: none is left."""
         if said == IMPOSSIBLE:
             name = self.lines.library.misfit_name(why.number).decode()
-            text = _PART_MEETS if name == 'Meets' and word in _CUTS else _TEXTS[name]
+            text = 'a part of solid {} would touch itself in the plane' if name == 'Meets' and word in _CUTS else _TEXTS[name]
             return Impossible(name, why.value, text.format(why.value))
         if said == MEMORY:
             return memory_refused(word)

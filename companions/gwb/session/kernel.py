@@ -16,7 +16,6 @@ from .notes import Notes
 from .turns import Turns
 
 Said = TypeVar('Said')
-_NOTHING_TO_REDO = Reply(('refused 26 0',))
 # Of a larger model it isn't told what would do in the place of a refused command: that may take long.
 _MOST_EDGES = 20_000
 # The commands and features after which numbers may be free that were in use.
@@ -115,7 +114,7 @@ class Kernel(Turns):
         if line.split() == ['redo'] and not self.notes.ahead():
             # (what was given up in a group is undone in the library, and isn't to be redone)
             self.lines.require_open()
-            return _NOTHING_TO_REDO
+            return Reply((f'refused {NUMBERS["NothingToRedo"]} 0',))
         return self.giving(word, lambda: self.lines.ask(line))
 
     def giving(self, word: str, give: Callable[[], Said]) -> Said:
