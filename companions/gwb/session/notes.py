@@ -53,8 +53,13 @@ class Notes:
 
     def put(self, *looks: Tuple[Thing, Optional[Appearance]]) -> None:
         """Things have other looks, None for none, as part of what comes, or of the last command."""
-        self._labels = None
+        labels, self._labels = self.labels, None    # (which are read anew where an exception comes)
         self.now.looks += looks
+        for thing, look in looks:
+            labels.pop(thing, None)
+            if look:
+                labels[thing] = look
+        self._labels = labels
 
     def begin_with(self, labels: Mapping[Thing, Appearance]) -> None:
         """These labels were there before all commands."""

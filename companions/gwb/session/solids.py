@@ -222,8 +222,8 @@ class SolidMethods(Methods):
         return number
 
     def _cut_by(self, word: str, solid: int, plane: Plane, scale: object, above: object) -> Tuple[int, Sequence[Numbers]]:
-        """Cuts a solid by a plane, with the number for what is above it if one is given: this, and what is made. Where points of the cut aren't whole, that is
-        refused with the least factor by which they are, or it is done once the unit is the least finer one in which they are; both as one command.
+        """Cuts a solid by a plane, with the number for what is above it if one is given: this, and what is made. Where points of the cut aren't whole, it is
+        refused with the least factor by which they are, or done once the unit is the least finer one in which they are; both as one command.
 
         Refused: what the cut is refused for, with all as before; PointRange: in the finer unit a point would leave the range."""
         may_scale = arguments.flag('scale', scale)
