@@ -1,6 +1,7 @@
 """The session of the library, the notes on its commands, the drafts and groups that are open in it, and the numbers of new things."""
 
 from fractions import Fraction
+from threading import Condition
 from typing import Any, Callable, Dict, Iterable, Iterator, List, Optional, Sequence, Tuple, TypeVar
 
 from ..errors import Complaint, InDraft, InGroup, OutOfStep
@@ -13,9 +14,10 @@ from ..protocol.language import NUMBERS, first_word
 from ..protocol.replies import Reply
 from .library import Library
 from .notes import Notes
-from .turns import Turns
+from .turns import Holder
 
 Said = TypeVar('Said')
+_PATIENCE = 1.0
 # Of a larger model it isn't told what would do in the place of a refused command: that may take long.
 _MOST_EDGES = 20_000
 # The commands and features after which numbers may be free that were in use.
@@ -23,11 +25,13 @@ _FREEING = ('kvfs', 'kev', 'kef', 'kemr', 'mekr', 'kfmrh', 'glue', 'undo', 'redo
             'slot', 'groove', 'shoulder', 'chamfer', 'chamfer_edges')
 
 
-class Kernel(Turns):
-    """A session, and what is held beside it. Each turn begins with both in agreement."""
+class Kernel:
+    """A session, and what is held beside it. Each turn begins with both in agreement; one thread has the turn."""
 
     def __init__(self, path: str, unit: Fraction) -> None:
-        super().__init__()
+        # While something is held, all waits that isn't part of it.
+        self.lock, self.is_inside = Condition(), False
+        self.holder: Optional[Holder] = None
         self.lines = Library(path)
         self.notes = Notes(unit)
         self.numbers = NewNumbers(self.lines)
@@ -46,8 +50,13 @@ class Kernel(Turns):
         self.lines.close()
 
     def begin_turn(self) -> None:
-        """Then what an exception left half-way is put right: a draft that nobody has begun is given up, and the notes follow the commands."""
-        super().begin_turn()
+        """With the lock, waits for the end of what is held, unless what calls this is part of it. What an exception left half-way is put right: a draft
+        that nobody has begun is given up, and the notes follow the commands."""
+        if self.holder:
+            self.holder.leave_ended()
+        while self.holder and not self.holder.is_here:
+            self.holder.require_end()
+            self.lock.wait(_PATIENCE)
         self._is_giving = self._has_given = False
         if self.lines.is_drafting and not any(block.is_draft for block in self.blocks):
             self.lines.abandon()

@@ -32,7 +32,10 @@ class _Part:
                 finally:
                     blocks = self._kernel.blocks
                     if blocks[0] is self:
-                        self._kernel.let_go()
+                        holder, self._kernel.holder = self._kernel.holder, None
+                        if holder:
+                            holder.end()
+                        self._kernel.lock.notify_all()
                     self._kernel.notes.group_from = self._outer
                     del blocks[blocks.index(self):]
 

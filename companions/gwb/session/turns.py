@@ -8,14 +8,13 @@ from contextlib import suppress
 from contextvars import ContextVar
 from functools import wraps
 from inspect import CO_ASYNC_GENERATOR, CO_COROUTINE, CO_GENERATOR, isfunction
-from threading import Condition, current_thread
+from threading import current_thread
 from traceback import walk_stack
-from typing import Any, Callable, Optional, Tuple, TypeVar, cast
+from typing import Any, Callable, Tuple, TypeVar, cast
 
 from ..errors import OutOfStep
 
 Method = TypeVar('Method', bound=Callable[..., Any])
-_PATIENCE = 1.0
 # Functions that may wait half-way, and go on elsewhere.
 _CAN_WAIT = CO_GENERATOR | CO_COROUTINE | CO_ASYNC_GENERATOR
 _PACKAGE = __name__.rsplit('.', 1)[0]
@@ -54,31 +53,6 @@ class Holder:
             raise OutOfStep('another task of this thread has a draft or a group open')
         if not self._thread.is_alive():
             raise OutOfStep('a draft or a group is open, whose thread has ended')
-
-
-class Turns:
-    """What is shared by threads: one of them has the turn."""
-
-    def __init__(self) -> None:
-        self.lock = Condition()
-        self.is_inside = False
-        # All that isn't part of what it holds waits.
-        self.holder: Optional[Holder] = None
-
-    def begin_turn(self) -> None:
-        """With the lock, waits for the end of what is held, unless what calls this is part of it."""
-        if self.holder:
-            self.holder.leave_ended()
-        while self.holder and not self.holder.is_here:
-            self.holder.require_end()
-            self.lock.wait(_PATIENCE)
-
-    def let_go(self) -> None:
-        """Others need not wait any more."""
-        holder, self.holder = self.holder, None
-        if holder:
-            holder.end()
-        self.lock.notify_all()
 
 
 class TakesTurns:
