@@ -107,9 +107,10 @@ class Bench:
             looks = {face: [look for whole, look in wholes if _lies_in(parts, face, whole)] for face in parts.faces}
             self.kernel.notes.put(*((('face', face), look[0]) for face, look in looks.items() if look))
 
-    def solid_model(self, solid: int) -> Model:
-        """The model of one solid. Refused: NoSolid."""
-        return self.kernel.lines.model([face.number for face in SolidPart(self.kernel, solid).faces])
+    def alone(self, solid: object) -> Tuple[Model, int]:
+        """The model of one solid, and its number. Refused: NoSolid."""
+        number = self.number('solid', solid)
+        return self.kernel.lines.model(SolidPart(self.kernel, number).faces.numbers), number
 
 
 class Methods(TakesTurns):

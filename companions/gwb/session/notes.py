@@ -66,11 +66,6 @@ class Notes:
         self._labels = None
         self.all[0].looks += labels.items()
 
-    def renumber(self, numbers: Mapping[str, Mapping[int, int]]) -> None:
-        """All things have other numbers, said for each kind."""
-        looks = [((kind, numbers[kind][number]), look) for (kind, number), look in self.labels.items() if number in numbers[kind]]
-        self.put(*((thing, None) for thing in self.labels), *looks)
-
     # Commands
 
     def expect(self) -> None:

@@ -88,21 +88,21 @@ class Reading(Methods):
 
     def bounding_box(self, solid: arguments.Solid) -> solid_measures.BoundingBox:
         """The least box with sides along the axes around the solid. Refused: NoSolid."""
-        return solid_measures.bounding_box(*self._solid(solid))
+        return solid_measures.bounding_box(*self._bench.alone(solid))
 
     def centroid(self, solid: arguments.Solid) -> solid_measures.ExactPoint:
         """The centre of mass of the solid, of even density. Refused: NoSolid. Raises NoVolume where it encloses none."""
-        return solid_measures.centroid(*self._solid(solid))
+        return solid_measures.centroid(*self._bench.alone(solid))
 
     def inertia(self, solid: arguments.Solid, about: Optional[ExactVector] = None) -> solid_measures.Inertia:
         """The moments of inertia of the solid, of density one, about a point or else its centroid. Refused: NoSolid. Raises NoVolume where it
         encloses none and no point is given."""
         place = None if about is None else arguments.exact_point('about', about)
-        return solid_measures.inertia(*self._solid(solid), place)
+        return solid_measures.inertia(*self._bench.alone(solid), place)
 
     def surface_area(self, solid: arguments.Solid) -> float:
         """The area of all faces of the solid, rounded. Refused: NoSolid."""
-        return solid_measures.surface_area(*self._solid(solid))
+        return solid_measures.surface_area(*self._bench.alone(solid))
 
     def area(self, face: arguments.Face) -> float:
         """The area of the face, rounded: the root of square_area. Refused: NoFace."""
@@ -132,13 +132,13 @@ class Reading(Methods):
         """The polygons in which the plane a x + b y + c z + d = 0 cuts the solid, seen from above the plane: outlines run counterclockwise,
         holes clockwise; none where it misses the solid. Refused: NoSolid. Raises ValueError where a, b and c are zero."""
         coefficients = arguments.plane('plane', plane)
-        return sections.section(*self._solid(solid), coefficients)
+        return sections.section(*self._bench.alone(solid), coefficients)
 
     def off_lattice(self, solid: arguments.Solid, plane: arguments.Point) -> lattice_cuts.OffLatticeCut:
         """Where the plane cuts the edges of the solid, by which factor all of these points would be whole, and planes nearby that `split`
         takes. Refused: NoSolid; PlaneRange: a coefficient is out of range. Raises ValueError where a, b and c are zero."""
         coefficients = arguments.plane('plane', plane)
-        found, number = self._solid(solid)
+        found, number = self._bench.alone(solid)
         self._kernel.whole_factor(number, coefficients)    # (refused where one is out of range)
         return lattice_cuts.off_lattice_cut(found, number, coefficients)
 
@@ -165,11 +165,6 @@ class Reading(Methods):
     def _sought_in(self, solid: Optional[arguments.Solid]) -> int:
         """The number of a solid for a query, in which 0 stands for all."""
         return 0 if solid is None else arguments.positive('solid', self._bench.number('solid', solid))
-
-    def _solid(self, solid: arguments.Solid) -> Tuple[Model, int]:
-        """The solid alone, and its number."""
-        number = self._bench.number('solid', solid)
-        return self._bench.solid_model(number), number
 
     def _faces(self, **faces: arguments.Face) -> Tuple[Any, ...]:
         """The faces alone, and their numbers. Refused: NoFace."""

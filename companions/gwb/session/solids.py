@@ -89,7 +89,7 @@ class SolidMethods(Methods):
         motion = _motion(change)
         if motion is not None:
             return self._in_a_row('copy_solid', number, 1, motion)[0]
-        model = _changed('copy_solid', self._bench.solid_model(number), change)
+        model = _changed('copy_solid', self._bench.alone(number)[0], change)
         new = self._kernel.numbers.instead_of(model)
         with self._bench.step():
             self._kernel.load(renumbered(model, new))
@@ -142,7 +142,9 @@ class SolidMethods(Methods):
         with self._bench.step():
             self._kernel.give('renumber')
             made = Renumbered(*(dict(self._kernel.pairs(which)) for which in (SOLIDS, FACES, LOOPS, EDGES, VERTICES)))
-            self._kernel.notes.renumber({'solid': made.solids, 'face': made.faces})
+            new, labels = {'solid': made.solids, 'face': made.faces}, self._kernel.notes.labels
+            looks = [((kind, new[kind][number]), look) for (kind, number), look in labels.items() if number in new[kind]]
+            self._kernel.notes.put(*((thing, None) for thing in labels), *looks)
         self._kernel.numbers.forget()
         return made
 
@@ -215,7 +217,7 @@ class SolidMethods(Methods):
         if motion is not None:
             self._kernel.give('move_solid', number, motion)
             return number
-        after = _changed('move_solid', self._bench.solid_model(number), change)
+        after = _changed('move_solid', self._bench.alone(number)[0], change)
         with self._bench.step():
             self._kernel.give('kill_solid', number)
             self._kernel.load(after)
