@@ -16,8 +16,6 @@ from .feature_calls import rows, words
 from .reading import EdgePart, FacePart
 from .results import Hole, Notch, Numbers, Pocket, Polyhedron, Profile, Ring
 
-_AXES: Sequence[Vector] = ((1, 0, 0), (0, 1, 0), (0, 0, 1))
-
 
 class Sketch(NamedTuple):
     """Two coordinates in the plane of a face: (u, v) is the origin, u steps to the right and v steps up, as one looks at the face from outside.
@@ -92,7 +90,7 @@ class FeatureMethods(Methods):
         across, start = reduced(part.normal), start or min(points)
         if dot(across, start) != dot(across, points[0]):
             raise Impossible('NotInPlane', part.number, f'the origin {start} lies off the plane of face {part.number}')
-        axis = next((axis for axis in _AXES if dot(across, axis) == 0), ZERO)
+        axis = next((axis for axis in ((1, 0, 0), (0, 1, 0), (0, 0, 1)) if dot(across, axis) == 0), ZERO)
         to_right = wanted or axis
         if to_right == ZERO or dot(across, to_right) != 0:
             raise Impossible('NotInPlane', part.number, f'a direction in the plane of face {part.number} is wanted, not {to_right}')

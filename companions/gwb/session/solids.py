@@ -202,8 +202,10 @@ class SolidMethods(Methods):
         """So many copies of the solid, which a feature makes of where each lies."""
         with self._bench.step():
             made = self._kernel.written(word, count, solid, *way)
-            shares = zip(made, *(_shares(self._kernel.pairs(which), count) for which in (FACES, LOOPS, EDGES, VERTICES)))
-            return tuple(self._labelled(Copy(number, faces, loops, edges, vertices, solid, self._bench)) for number, faces, loops, edges, vertices in shares)
+            lists = [self._kernel.pairs(which) for which in (FACES, LOOPS, EDGES, VERTICES)]
+            shares = [[dict(pairs[place * len(pairs) // count:(place + 1) * len(pairs) // count]) for pairs in lists] for place in range(count)]
+            copies = (Copy(number, faces, loops, edges, vertices, solid, self._bench) for number, (faces, loops, edges, vertices) in zip(made, shares))
+            return tuple(map(self._labelled, copies))
 
     def _labelled(self, copy: Copy) -> Copy:
         """A copy, with the labels that the solid and its faces have."""
@@ -268,12 +270,6 @@ def _motion(change: Change) -> Any:
         return None
     axes = [int(sum(number * image[axis] for number, image in enumerate(images, 1))) for axis in range(3)]
     return Motion((ctypes.c_int32 * 3)(*axes), Point(*map(int, start)))
-
-
-def _shares(pairs: Sequence[Tuple[int, int]], count: int) -> List[Dict[int, int]]:
-    """A list in so many parts of one length."""
-    share = len(pairs) // count
-    return [dict(pairs[place * share:(place + 1) * share]) for place in range(count)]
 
 
 def _changed(word: str, model: Model, change: Change) -> Model:

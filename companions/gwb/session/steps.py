@@ -1,6 +1,6 @@
 """Drafts, which are one command, and groups of commands, which are one step to undo: what isn't made whole leaves nothing behind."""
 
-from typing import List, Optional, Type
+from typing import Optional, Type
 
 from ..errors import MemoryRefused, NoDraft
 from .kernel import Kernel
@@ -88,7 +88,16 @@ class _Group(_Part):
 
     def __init__(self, kernel: Kernel) -> None:
         super().__init__(kernel)
-        self._before, self._ahead, self._notes = kernel.lines.depth, _ahead(kernel), kernel.notes.ahead()
+        self._before, self._notes = kernel.lines.depth, kernel.notes.ahead()
+        try:
+            # The lines of each command that can be redone.
+            kernel.go_to(self._before + len(self._notes))
+            self._ahead = [kernel.lines.script(place, 1) for place in range(self._before, kernel.lines.depth)]
+        finally:
+            try:
+                kernel.go_to(self._before)
+            finally:
+                kernel.go_to(self._before)    # (where an exception came on the way)
 
     def begin(self) -> None:
         """It begins with the next command."""
@@ -125,19 +134,6 @@ class _Group(_Part):
         given = lines.depth - self._before
         self._kernel.go_to(self._before)
         return given
-
-
-def _ahead(kernel: Kernel) -> List[str]:
-    """The lines of each command that can be redone."""
-    before = kernel.lines.depth
-    try:
-        kernel.go_to(before + len(kernel.notes.ahead()))
-        return [kernel.lines.script(place, 1) for place in range(before, kernel.lines.depth)]
-    finally:
-        try:
-            kernel.go_to(before)
-        finally:
-            kernel.go_to(before)    # (where an exception came on the way)
 
 
 class Block:
