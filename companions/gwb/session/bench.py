@@ -13,7 +13,6 @@ from ..geometry.plane_figures import Exact, Place
 from ..geometry.vectors import same_direction
 from . import arguments
 from .feature_calls import FeatureKernel
-from .kernel import Kernel
 from .library import find_path
 from .reading import EdgePart, Part, SolidPart
 from .steps import Block

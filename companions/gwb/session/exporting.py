@@ -4,13 +4,12 @@ import os
 from fractions import Fraction
 from pathlib import Path
 from types import MappingProxyType
-from typing import List, Optional, Union
+from typing import Optional, Union
 
 from ..drawing.page import page_of
 from ..errors import Unfit
 from ..formats.appearance import LONGEST_NAME, Appearance, Appearances, Colour, Said, colour_of
 from ..formats.importing import read_file
-from ..formats.models_of_parts import Imported
 from ..formats.mesh import Mesh, mesh_of
 from ..formats.mesh_files import FORMS
 from ..formats.obj import mtl_text, obj_text
@@ -98,18 +97,13 @@ class Exporting(Methods):
                           rounded=round_all, keep_triangles=keep, repair=mend, flat=flat_alone, within=most)
         for wrong in found.wrong:
             warn(f'{file}: {wrong}')
-        solids = self._take_in(found)
-        return Selection('solid', '', [SolidPart(self._kernel, solid) for solid in solids])
-
-    def _take_in(self, found: Imported) -> List[int]:
-        """Makes the solids of a file as one command, and labels what has a name or a colour: their numbers."""
         new = self._kernel.numbers.instead_of(found.model)
         with self._bench.step():
             if found.model.solids:
                 self._kernel.load(renumbered(found.model, new))
             looks = [((kind, new[kind][number]), look._replace(name=look.name[:LONGEST_NAME])) for (kind, number), look in found.looks.items()]
             self._kernel.notes.put(*looks)
-        return [new['solid'][solid] for solid in found.model.solids]
+        return Selection('solid', '', [SolidPart(self._kernel, new['solid'][solid]) for solid in found.model.solids])
 
 
 def _colour(text: str) -> Optional[Colour]:

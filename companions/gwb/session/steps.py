@@ -118,22 +118,17 @@ class _Group(_Part):
         kernel.go_to(self._before)
         kernel.notes.go_back(self._place)
         if kernel.lines.ahead != len(self._ahead) or kernel.notes.ahead() != self._notes:
-            kernel.notes.all[kernel.notes.at + 1:] = self._notes[:self._give_ahead()]
-
-    def _give_ahead(self) -> int:
-        """Gives commands anew that could be redone before others were given and undone, and undoes them: how many there was memory for."""
-        lines = self._kernel.lines
-        try:
-            for text in self._ahead:
-                lines.open_draft()
-                for line in text.splitlines():
-                    lines.asked(line)
-                lines.commit()
-        except MemoryRefused:
-            lines.abandon()
-        given = lines.depth - self._before
-        self._kernel.go_to(self._before)
-        return given
+            # They are given anew, as many as there is memory for, and undone.
+            try:
+                for text in self._ahead:
+                    kernel.lines.open_draft()
+                    for line in text.splitlines():
+                        kernel.lines.asked(line)
+                    kernel.lines.commit()
+            except MemoryRefused:
+                kernel.lines.abandon()
+            kernel.notes.all[kernel.notes.at + 1:] = self._notes[:kernel.lines.depth - self._before]
+            kernel.go_to(self._before)
 
 
 class Block:

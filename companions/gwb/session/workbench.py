@@ -138,7 +138,7 @@ class Workbench(SolidMethods, FeatureMethods, Commands, Reading, Exporting):
 
     def _take(self, file: Path, lines: Iterator[Tuple[int, bytes]], within: bytes = b'', most: int = maxsize) -> int:
         """Gives the lines of a script, up to so many commands, which are a step or a draft where `within` says so: how many were given. A complaint
-        is raised."""
+        is raised, which names the file and the line."""
         given = 0
         for number, line in lines:
             mark, unit = _MARK.fullmatch(line.rstrip(b'\r')), unit_in(line)
@@ -148,19 +148,16 @@ class Workbench(SolidMethods, FeatureMethods, Commands, Reading, Exporting):
                 with Block(self._kernel, mark[1] == b'step'):
                     given += self._take(file, lines, mark[1], min(int(mark[2]), most - given))
             elif is_answered(line):
-                self._take_line(file, number, line.decode('utf-8', 'surrogateescape'))
+                text = line.decode('utf-8', 'surrogateescape')
+                try:
+                    self._kernel.do(text)
+                except (Complaint, InDraft) as error:
+                    error.args = (f'{file}, line {number}: {error.args[0]}{_hint(file, text)}',)
+                    raise
                 given += 1
             if given == most:
                 break
         return given
-
-    def _take_line(self, file: Path, number: int, line: str) -> None:
-        """Gives a line of a script; a complaint names the file and the line."""
-        try:
-            self._kernel.do(line)
-        except (Complaint, InDraft) as error:
-            error.args = (f'{file}, line {number}: {error.args[0]}{_hint(file, line)}',)
-            raise
 
     def show(self) -> Path:
         """Writes the page to a file of its own and opens it in the browser, where there is one: the file's path."""
