@@ -19,7 +19,7 @@ from gwb import Complaint, Ended, InDraft, InGroup, OutOfStep, Workbench
 FOLDER = str(Path(gwb.__file__).parent / 'session')
 # The modules in which an exception may come at each line.
 TRACED = {f'{FOLDER}/{name}.py' for name in (
-    'workbench', 'bench', 'kernel', 'notes', 'library', 'steps', 'turns', 'commands', 'feature_methods', 'feature_calls',
+    'workbench', 'bench', 'kernel', 'notes', 'library', 'steps', 'turns', 'commands', 'feature_methods',
     'selection', 'solids')}
 # Python looks for signals where a call begins or returns: not between a line and the `try:` after it, nor between a block and its `finally`.
 NOT_BEFORE = ('try:', '.is_inside =', 'group_from = outer')

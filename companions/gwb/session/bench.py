@@ -12,7 +12,7 @@ from ..geometry.model import Model
 from ..geometry.plane_figures import Exact, Place
 from ..geometry.vectors import same_direction
 from . import arguments
-from .feature_calls import FeatureKernel
+from .kernel import Kernel
 from .library import find_path
 from .reading import EdgePart, Part, SolidPart
 from .steps import Block
@@ -27,7 +27,7 @@ class Bench:
     def __init__(self, library: Optional[arguments.Path] = None, unit: Exact = 1) -> None:
         """Opens a session, as a workbench does."""
         size = arguments.factor('unit', unit)
-        self.kernel = FeatureKernel(find_path() if library is None else arguments.path('library', library), size)
+        self.kernel = Kernel(find_path() if library is None else arguments.path('library', library), size)
 
     def number(self, name: str, value: object, kind: str = '') -> int:
         """The number of a thing of the kind, by default the one that the argument is named after, as the language reads it: 0 to 4,294,967,295. Those
@@ -116,7 +116,7 @@ class Methods(TakesTurns):
     """Methods of a workbench on one subject, over what they share."""
 
     _bench: Bench
-    _kernel: FeatureKernel
+    _kernel: Kernel
 
 
 def _lies_in(model: Model, face: int, shape: FlatFace) -> bool:

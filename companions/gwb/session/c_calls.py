@@ -1,7 +1,10 @@
-"""The calls of gwb.h and gwb_features.h as ctypes has them: kinds of answers, structs, and what each call returns and takes."""
+"""The calls of gwb.h and gwb_features.h as ctypes has them: kinds of answers, structs, what each call returns and takes, and values for them."""
 
 import ctypes
-from typing import Any, Dict, List, Tuple
+from fractions import Fraction
+from typing import Any, Dict, List, Sequence, Tuple
+
+from ..geometry.vectors import Vector
 
 WORD, SIZE, LENGTH, ADDRESS = ctypes.c_uint32, ctypes.c_size_t, ctypes.c_int64, ctypes.c_void_p
 OK, REFUSED, MEMORY, PLANE, NO_CALL, IMPOSSIBLE = 1, 2, 4, 5, 10, 13
@@ -69,3 +72,19 @@ PROTOTYPES: Dict[str, Tuple[Any, List[Any]]] = {
     **{f'gwb_{name}': (result, [_HANDLE, *taken]) for name, (result, taken) in _CALLS.items()},
     **{f'gwb_{name}': (WORD, [_HANDLE, *taken, _REFUSAL]) for name, taken in _FEATURES.items()},
     'gwb_advice_factor': (Wide, [ADDRESS]), 'gwb_advice_free': (None, [ADDRESS]), 'gwb_misfit_name': (ctypes.c_char_p, [WORD])}
+_MOST_TERM = 2 ** 64 - 1
+
+
+def rows(points: Sequence[Vector]) -> Any:
+    """Points as the library takes them."""
+    return (LENGTH * (3 * len(points)))(*[part for point in points for part in point])
+
+
+def words(numbers: Sequence[int]) -> Any:
+    """Numbers alike."""
+    return (WORD * len(numbers))(*numbers)
+
+
+def ratio(value: Fraction) -> Any:
+    """A fraction above zero. The terms of lengths and areas fit; in the place of one whose terms don't stands one that is none of theirs either."""
+    return Ratio(value.numerator, value.denominator) if max(value.numerator, value.denominator) <= _MOST_TERM else Ratio(1, _MOST_TERM)

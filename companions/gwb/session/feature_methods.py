@@ -11,8 +11,7 @@ from ..protocol.complaints import refused
 from ..protocol.language import NUMBERS
 from . import arguments
 from .bench import Methods
-from .c_calls import FLOOR, WALLS, WORD, Pair, Point
-from .feature_calls import rows, words
+from .c_calls import FLOOR, WALLS, WORD, Pair, Point, rows, words
 from .reading import EdgePart, FacePart
 from .results import Hole, Notch, Numbers, Pocket, Polyhedron, Profile, Ring
 

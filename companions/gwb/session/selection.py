@@ -11,8 +11,7 @@ from ..geometry.model import Model
 from ..geometry.plane_figures import Exact
 from . import arguments
 from .bench import Methods
-from .c_calls import LENGTH, WORD, CutPlane, EdgeQuery, FaceQuery, Point
-from .feature_calls import ratio
+from .c_calls import LENGTH, WORD, CutPlane, EdgeQuery, FaceQuery, Point, ratio
 from .reading import EdgePart, FacePart, Found, LoopPart, Selection, SolidPart, VertexPart
 
 # The letters that types of numbers have in buffers.

@@ -18,8 +18,7 @@ from ..protocol.complaints import refused
 from ..protocol.language import NUMBERS
 from . import arguments
 from .bench import Bench, Methods, warn
-from .c_calls import EDGES, FACES, INTO, LOOPS, SOLIDS, VERTICES, Motion, Point
-from .feature_calls import words
+from .c_calls import EDGES, FACES, INTO, LOOPS, SOLIDS, VERTICES, Motion, Point, words
 from .reading import Found, Part
 from .results import Cut, Numbers, Renumbered, Split
 
