@@ -7,7 +7,7 @@ from ..errors import Unfit
 from .flat_face import ExactVector
 from .free_numbers import from_least
 from .model import Loop, Model
-from .vectors import Vector, ZERO, add, dot, subtract
+from .vectors import Vector, ZERO, add, dot, scaled, subtract
 
 FARTHEST = 1_000_000_000
 
@@ -36,7 +36,7 @@ def moving(by: Vector) -> Change:
 
 def scaling(factor: int) -> Change:
     """Multiplies the coordinates of points."""
-    return Change(lambda point: (point[0] * factor, point[1] * factor, point[2] * factor))
+    return Change(lambda point: scaled(point, factor))
 
 
 def turning(axis: str, times: int = 1, about: Vector = ZERO) -> Change:

@@ -35,6 +35,11 @@ def negative(a: Vector) -> Vector:
     return (-a[0], -a[1], -a[2])
 
 
+def scaled(a: Vector, factor: int) -> Vector:
+    """The vector, longer by a factor."""
+    return (a[0] * factor, a[1] * factor, a[2] * factor)
+
+
 def total(vectors: Iterable[Vector]) -> Vector:
     """The sum of all."""
     result = ZERO

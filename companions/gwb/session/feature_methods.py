@@ -6,7 +6,7 @@ from typing import Any, Iterable, List, NamedTuple, Optional, Sequence, Tuple
 from ..geometry.free_numbers import LARGEST
 from ..geometry.measures import why_unfit
 from ..geometry.outlines import Impossible
-from ..geometry.vectors import Vector, ZERO, cross, dot, reduced
+from ..geometry.vectors import Vector, ZERO, cross, dot, reduced, scaled
 from ..protocol.complaints import refused
 from ..protocol.language import NUMBERS
 from . import arguments
@@ -93,8 +93,8 @@ class FeatureMethods(Methods):
         to_right = wanted or axis
         if to_right == ZERO or dot(across, to_right) != 0:
             raise Impossible('NotInPlane', part.number, f'a direction in the plane of face {part.number} is wanted, not {to_right}')
-        way, upward = _times(1 if wanted else isqrt(dot(across, across)), to_right), reduced(cross(across, to_right))
-        up = _times(isqrt(dot(way, way) // dot(upward, upward)), upward)
+        way, upward = scaled(to_right, 1 if wanted else isqrt(dot(across, across))), reduced(cross(across, to_right))
+        up = scaled(upward, isqrt(dot(way, way) // dot(upward, upward)))
         if dot(up, up) != dot(way, way):
             raise Impossible('OffLattice', part.number, f'no whole vector in face {part.number} is as long as {way} and across it')
         return Sketch(start, way, up)
@@ -226,7 +226,3 @@ class FeatureMethods(Methods):
             made = self._kernel.written(word, len(edges), *values)
             new.update(made)
         return made
-
-
-def _times(times: int, way: Vector) -> Vector:
-    return (times * way[0], times * way[1], times * way[2])

@@ -96,7 +96,6 @@ class Kernel:
 
     def listing(self) -> Model:
         """The model held."""
-        self.lines.require_open()
         state = self.lines.state()
         if self._listing is None or self._listing[0] != state:
             self._listing = state, self.lines.model(self.lines.numbers('face'))
@@ -117,12 +116,10 @@ class Kernel:
         line = ' '.join(map(str, words))
         reply = self.ask(line)
         if reply.is_complaint:
-            error = complaint(line, reply)
-            self.advise(error, line, reply)
-            raise error
+            raise self.advised(complaint(line, reply), line, reply)
 
-    def advise(self, error: Complaint, line: str, reply: Reply) -> None:
-        """Says how the advice of an error is found: as that of a line with this reply, while the model is as it is now."""
+    def advised(self, error: Complaint, line: str, reply: Reply) -> Complaint:
+        """The error, with how its advice is found: as that of a line with this reply, while the model is as it is now."""
         state = self.lines.state()
 
         def as_it_was() -> Model:
@@ -137,6 +134,7 @@ class Kernel:
             raise OutOfStep('the model is another one, is large, or others have the turn')
 
         error.advised(lambda: advice(line, reply, as_it_was))
+        return error
 
     def ask(self, line: str) -> Reply:
         """The reply to any line. What it makes, undoes or redoes is taken account of. In a draft or a group nothing is undone or redone."""
@@ -258,7 +256,7 @@ class Kernel:
             self.give(word, solid, level, *([above] if word == 'cut' else []))
         except Refused as error:
             if error.number:
-                self.advise(error, line, Reply((f'refused {error.number} {error.value}',)))
+                self.advised(error, line, Reply((f'refused {error.number} {error.value}',)))
             raise
         return self.made(LOWER_CAPS), self.made(UPPER_CAPS)
 
@@ -297,12 +295,9 @@ class NewNumbers:
     """The numbers of new things: above all that are or were in use, or in gaps."""
 
     def __init__(self, lines: Library) -> None:
-        self._lines = lines
-        self.forget()
-
-    def forget(self) -> None:
-        """What was in use may be taken again."""
-        self._ever, self._unseen = dict.fromkeys(KINDS, 0), {kind: iter(range(1, LARGEST + 1)) for kind in KINDS}
+        self._lines, self._ever = lines, dict.fromkeys(KINDS, 0)
+        # Those that aren't yet looked at as gaps.
+        self._unseen = {kind: iter(range(1, LARGEST + 1)) for kind in KINDS}
 
     def note(self) -> None:
         """The numbers that are in use now may be free after what comes."""
@@ -315,12 +310,10 @@ class NewNumbers:
 
     def instead_of(self, model: Model) -> Dict[str, Dict[int, int]]:
         """For each kind a free number for each of the model's: those that were never in use, then those in gaps. Refused: NumbersSpent."""
-        return {kind: self._several(kind, sorted(numbers)) for kind, numbers in numbers_of(model).items()}
-
-    def _several(self, kind: str, numbers: Sequence[int]) -> Dict[int, int]:
-        new = dict(zip(numbers, self._free(kind)))
-        if len(new) < len(numbers):
-            raise refused('load', NUMBERS['NumbersSpent'], KINDS.index(kind) + 1, f'no {kind} number is free, and one is needed')
+        new = {kind: dict(zip(sorted(numbers), self._free(kind))) for kind, numbers in numbers_of(model).items()}
+        for place, (kind, numbers) in enumerate(numbers_of(model).items(), 1):
+            if len(new[kind]) < len(numbers):
+                raise refused('load', NUMBERS['NumbersSpent'], place, f'no {kind} number is free, and one is needed')
         return new
 
     def _free(self, kind: str, gaps: Iterable[int] = ()) -> Iterator[int]:

@@ -138,7 +138,7 @@ class Library:
         assert said == OK, 'a draft is open'
 
     def abandon(self) -> None:
-        """Takes the steps of the draft back. A closed session has no steps."""
+        """Takes the steps of the draft back, if one is open. A closed session has no steps."""
         self._taken_back += self.mark() > 0
         self.library.abandon(self.handle)
 

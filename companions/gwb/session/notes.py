@@ -6,9 +6,6 @@ from typing import Dict, List, Mapping, Optional, Tuple
 
 from ..formats.appearance import Appearance, Thing
 
-Looks = List[Tuple[Thing, Optional[Appearance]]]
-# A place among labels and units, to which there is a way back: how many labels the note had, and its unit.
-Place = Tuple[int, Fraction]
 
 
 @dataclass(eq=False)
@@ -18,7 +15,7 @@ class Note:
 
     begins: bool
     unit: Fraction
-    looks: Looks = field(default_factory=list)
+    looks: List[Tuple[Thing, Optional[Appearance]]] = field(default_factory=list)
 
 
 class Notes:
@@ -89,17 +86,17 @@ class Notes:
         self.all[self.at].looks += self.now.looks
         self._coming = None
 
-    def place(self) -> Place:
-        """Where it is now."""
+    def place(self) -> Tuple[int, Fraction]:
+        """Where it is now, to which there is a way back: how many labels the note has, and its unit."""
         return len(self.now.looks), self.now.unit
 
-    def go_back(self, place: Place) -> None:
+    def go_back(self, place: Tuple[int, Fraction]) -> None:
         """It is as it was at a place, of the same draft or after the same command."""
         self._labels = None
         looks, self.now.unit = place
         del self.now.looks[looks:]
 
-    def hand_on(self, command: int, place: Place) -> None:
+    def hand_on(self, command: int, place: Tuple[int, Fraction]) -> None:
         """The labels that were given after a place of the note of a command go with the next command, if one is held."""
         if self.at > command:
             looks = self.all[command].looks
@@ -118,5 +115,4 @@ class Notes:
 
     def step_ahead(self) -> int:
         """How many commands are left of the step that would be redone: 1 where there is none."""
-        ahead = self.ahead()
-        return next((count for count, note in enumerate(ahead) if count > 0 and note.begins), max(len(ahead), 1))
+        return next((count for count, note in enumerate(self.ahead()) if count > 0 and note.begins), max(len(self.ahead()), 1))

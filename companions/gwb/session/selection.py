@@ -14,9 +14,6 @@ from .bench import Methods
 from .c_calls import LENGTH, WORD, CutPlane, EdgeQuery, FaceQuery, Point, ratio
 from .reading import EdgePart, FacePart, Found, LoopPart, Selection, SolidPart, VertexPart
 
-# The letters that types of numbers have in buffers.
-_LETTERS = {WORD: 'I', LENGTH: 'q'}
-
 
 class Reading(Methods):
     """Parts of the model by their numbers, and by where they lie.
@@ -143,18 +140,18 @@ class Reading(Methods):
 
     def vertices_array(self) -> memoryview:
         """A row for each vertex, rising: its number, x, y and z, in 64 bits each."""
-        return self._rows('read_vertices', [], self._kernel.lines.greatest('vertex'), 4, LENGTH)
+        return self._rows('read_vertices', [], self._kernel.lines.greatest('vertex'), 4, 'q')
 
     def half_edges_array(self, solid: Optional[arguments.Solid] = None) -> memoryview:
         """A row for each half-edge, of a solid or of all, in 32 bits each: it, the vertex at which it starts, the half-edge after it in its loop, its
         loop and its face. A half-edge is here twice the number of its edge, and 1 more for `-`. Those of a loop come one after another, the outer loop of
         a face before its rings."""
-        return self._rows('read_half_edges', [self._of(solid)], 2 * self._kernel.lines.greatest('edge'), 5, WORD)
+        return self._rows('read_half_edges', [self._of(solid)], 2 * self._kernel.lines.greatest('edge'), 5, 'I')
 
     def triangles_array(self, solid: Optional[arguments.Solid] = None) -> memoryview:
         """A row for each triangle of the faces of a solid, or of all, in 32 bits each: the face, and three vertices, counterclockwise as seen from outside.
         A face that isn't flat, or whose loops cross, has none."""
-        return self._rows('read_triangles', [self._of(solid)], 6 * self._kernel.lines.greatest('edge'), 4, WORD)
+        return self._rows('read_triangles', [self._of(solid)], 6 * self._kernel.lines.greatest('edge'), 4, 'I')
 
     def _selected(self, kind: Type[Found], numbers: Iterable[int], **criteria: object) -> 'Selection[Found]':
         """Things of a kind, and what was asked of them."""
@@ -182,12 +179,12 @@ class Reading(Methods):
         """The number of a solid that is there, 0 for all. Refused: NoSolid."""
         return 0 if solid is None else self.solid(solid).faces[0].solid.number
 
-    def _rows(self, name: str, solid: List[int], room: int, width: int, kind: Any) -> memoryview:
-        """What a call writes, which has room for so many rows, at least as many as there are. Raises MemoryError."""
-        lines = self._kernel.lines
+    def _rows(self, name: str, solid: List[int], room: int, width: int, letter: str) -> memoryview:
+        """What a call writes of numbers that have this letter in buffers, with room for so many rows, at least as many as there are. Raises MemoryError."""
+        lines, kind = self._kernel.lines, WORD if letter == 'I' else LENGTH
         rows = (kind * (width * room or 1))()
         count: int = getattr(lines.library, name)(lines.handle, *solid, rows, room)
         if count > room:
             raise MemoryError(f'{name}: memory was refused')
         flat = memoryview(rows).cast('B')[:count * width * sizeof(kind)]
-        return flat.cast(_LETTERS[kind], (count, width)) if count else flat.cast(_LETTERS[kind])
+        return flat.cast(letter, (count, width)) if count else flat.cast(letter)

@@ -19,6 +19,7 @@ from ..protocol.language import NUMBERS
 from . import arguments
 from .bench import Bench, Methods, warn
 from .c_calls import EDGES, FACES, INTO, LOOPS, SOLIDS, VERTICES, Motion, Point, words
+from .kernel import NewNumbers
 from .reading import Found, Part
 from .results import Cut, Numbers, Renumbered, Split
 
@@ -144,7 +145,7 @@ class SolidMethods(Methods):
             new, labels = {'solid': made.solids, 'face': made.faces}, self._kernel.notes.labels
             looks = [((kind, new[kind][number]), look) for (kind, number), look in labels.items() if number in new[kind]]
             self._kernel.notes.put(*((thing, None) for thing in labels), *looks)
-        self._kernel.numbers.forget()
+        self._kernel.numbers = NewNumbers(self._kernel.lines)
         return made
 
     def split(self, solid: arguments.Solid, plane: arguments.Point, *, above: Optional[int] = None, scale: bool = False) -> Split:

@@ -78,8 +78,7 @@ class _Draft(_Part):
         kernel.settle()
 
     def take_back(self) -> None:
-        if self._kernel.lines.is_drafting:
-            self._kernel.lines.abandon()
+        self._kernel.lines.abandon()
         self._kernel.settle()
 
 
@@ -113,8 +112,7 @@ class _Group(_Part):
     def take_back(self) -> None:
         """Its commands are undone, and what could be redone before them can be redone."""
         kernel = self._kernel
-        if kernel.lines.is_drafting:
-            kernel.lines.abandon()
+        kernel.lines.abandon()
         kernel.go_to(self._before)
         kernel.notes.go_back(self._place)
         if kernel.lines.ahead != len(self._ahead) or kernel.notes.ahead() != self._notes:
