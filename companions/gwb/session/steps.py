@@ -91,7 +91,7 @@ class _Group(_Part):
         try:
             # The lines of each command that can be redone.
             kernel.go_to(self._before + len(self._notes))
-            self._ahead = [kernel.lines.script(place, 1) for place in range(self._before, kernel.lines.depth)]
+            self._ahead = tuple(kernel.lines.script(place, 1) for place in range(self._before, kernel.lines.depth))
         finally:
             try:
                 kernel.go_to(self._before)
