@@ -97,7 +97,7 @@ fn parts_known(arena: &Arena, solid: u32, made: u32, faces: &FaceList) -> Result
 /// Refused, in this order: NumberRange of the solids, then of the list; NoSolid; SolidTaken; NoFace with the first listed face that isn't
 /// there; DifferentSolids with the first listed face of another solid; BadPart with the solid, where the list is empty, doesn't rise or has
 /// all faces of the solid, or where an edge lies between a listed face and another. It walks once round each loop of the listed faces.
-#[tactic(auto, using(crate::proofs::Borders::are_faces, crate::proofs::Borders::part_left), unfolding(euler_operators::specs::Conditions::conditions, euler_operators::specs::Conditions::first_false))]
+#[tactic(auto, using(crate::proofs::Borders::part_left), unfolding(euler_operators::specs::Conditions::conditions, euler_operators::specs::Conditions::first_false))]
 pub(crate) fn check_part(
     arena: &Arena,
     solid: u32,
