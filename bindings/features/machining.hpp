@@ -252,21 +252,29 @@ inline Plane plane_of(const Bench &bench, Face face)
 /// or in the other one where it ends there. In these only what is on the outline counts.
 inline void require_room(const Bench &bench, const Surface &surface, const Vector &across, const Path &path, const Path &far, Face face, Face other)
 {
-    const std::vector<Shape> lids = {{Plane::through(path[0], across), {cycle_of(path)}}, {Plane::through(far[0], across), {cycle_of(far)}}};
     const Vector way = subtract(far[0], path[0]);
-    const Box box = box_of(lids);
-    std::vector<Shape> walls;
-    for (const Side &side : lids[0].sides)
-        walls.push_back(Shape({cycle_of({side.start, side.end, add(side.end, way), add(side.start, way)})}));
-    if (other == Face())
-        walls.push_back(lids[1]);
+    Box box = box_of(path);
+    box.take(box_of(far));
+    std::vector<Shape> lids, walls;
+    const auto need_shapes = [&] { // where something is near
+        if (!lids.empty())
+            return;
+        lids = {{Plane::through(path[0], across), {cycle_of(path)}}, {Plane::through(far[0], across), {cycle_of(far)}}};
+        for (const Side &side : lids[0].sides)
+            walls.push_back(Shape({cycle_of({side.start, side.end, add(side.end, way), add(side.start, way)})}));
+        if (other == Face())
+            walls.push_back(lids[1]);
+    };
     const auto is_between = [&](const Vector &at) {
         return lids[0].hit({at}, negative(way)) != Place::outside && lids[1].hit({at}, way) != Place::outside;
     };
     const auto meets = [&](const Side &edge) { // has a point within, or on a wall
         const auto touches = [&](const Shape &wall) { return wall.meets(edge); };
         const auto passes = [&](const Shape &lid) { return sign(lid.height({edge.start})) * sign(lid.height({edge.end})) < 0 && lid.meets(edge); };
-        return box_of(edge).meets(box) && (any(walls, touches) || any(lids, passes) || is_between(edge.start));
+        if (!box_of(edge).meets(box))
+            return false;
+        need_shapes();
+        return any(walls, touches) || any(lids, passes) || is_between(edge.start);
     };
     const auto is_met = [&](const auto &beside) {
         const auto &[of, loops] = beside;
@@ -274,6 +282,7 @@ inline void require_room(const Bench &bench, const Surface &surface, const Vecto
             return true;
         if (of == face || of == other || surface.plane(of) == nullptr)
             return false;
+        need_shapes();
         const Shape shape = surface.shape(of, loops);
         return any(walls, [&](const Shape &wall) { return any(wall.sides, [&](const Side &side) { return shape.meets(side); }); });
     };
