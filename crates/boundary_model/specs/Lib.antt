@@ -1,4 +1,5 @@
 pub mod HalfEdge
+pub mod Corner
 pub mod Table
 pub mod Model
 pub mod Sound

@@ -1,5 +1,5 @@
 -- A boundary model: solids, faces, loops, edges and vertices, each by its number.
-use Rattle.std.specs.Prelude.{◌≡◌, ℕ, zero, suc, ◌+◌, ◌*◌, Bool, true, false, cond, not, ◌&&◌, ◌||◌, nat_eq, nat_le, nat_lt, List, [], ◌∷◌, ◌++◌, length, is_some, unwrap_or, Option, Some, None, pos}
+use Rattle.std.specs.Prelude.{ℕ, ◌*◌, Bool, cond, not, ◌&&◌, nat_eq, nat_le, nat_lt, List, [], length, unwrap_or, pos}
 use Rattle.lattice.specs.declared.Point.{Point}
 use Rattle.cyclic_list.specs.Items.{count}
 use Rattle.cyclic_list.specs.Rings.{successor, predecessor}

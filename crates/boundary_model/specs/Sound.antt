@@ -1,5 +1,5 @@
 -- When a model is sound.
-use Rattle.std.specs.Prelude.{◌≡◌, ◌≢◌, ◌⊎◌, ℕ, Bool, true, false, List, [], Option, Some}
+use Rattle.std.specs.Prelude.{◌≡◌, ◌≢◌, ◌⊎◌, ℕ, true, List, [], Some}
 use Rattle.lattice.specs.declared.Point.{Point}
 use Rattle.lattice.specs.Point.{IsInRange}
 use Rattle.cyclic_list.specs.Items.{IsApart}
@@ -7,7 +7,7 @@ use Rattle.cyclic_list.specs.Rings.{canonical}
 use Rattle.boundary_model.specs.HalfEdge.{mate}
 use Rattle.boundary_model.specs.Table as table
 use Rattle.boundary_model.specs.Table.{Table}
-use Rattle.boundary_model.specs.Model.{Model, LoopContent, LoopRow, lone, cycle, holds, tail, has_half, content, face_of, solid_of, outer, loop_of, after, round, is_number}
+use Rattle.boundary_model.specs.Model.{Model, lone, cycle, holds, tail, has_half, content, face_of, solid_of, outer, loop_of, after, round, is_number}
 
 -- half-edge h stands in loop l
 abbrev pub StandsIn : Model → ℕ → ℕ → Type 0

@@ -4,18 +4,21 @@
 //!
 //! # What is proved
 //!
-//! Of half-edges: `mate`, `code` and `of_code`, and `plus` and `minus`, which are the two half-edges of an edge. The model and its soundness are
-//! definitions.
+//! Of half-edges: `mate`, `code` and `of_code`, and `plus` and `minus`, which are the two half-edges of an edge. A corner is packed as it is. The
+//! model and its soundness are definitions.
 
 ghost use Rattle.std.specs.Prelude.{◌≡◌, ◌≤◌};
 ghost use Rattle.boundary_model.specs.HalfEdge as half_edge;
 ghost use Rattle.boundary_model.specs.HalfEdge.{code, half, mate};
 ghost use Rattle.boundary_model.specs.Model.{is_number};
 
+mod packed;
+
 pub use lattice::{
     COORDINATE_LIMIT, PackedPoint, Plane, Point, Sign, cross_add, cut_point, dot, lex_cmp,
     point_in_range, side, sum, sum_in_range,
 };
+pub use packed::PackedCorner;
 
 /// The greatest number that a solid, a face, a loop, an edge or a vertex can have.
 pub const NUMBER_LIMIT: u32 = 1_000_000;

@@ -11,7 +11,7 @@ fn wire(alloc: Global) -> Result<Session, Failure> {
     let end = Point { x: 5, y: 0, z: 0 };
     let corner = Corner::Lone(1);
     session.act(Op::Mvfs(1, 1, 1, 1, start))?;
-    session.act(Op::Mev(corner, corner, HalfEdge::plus(1), 2, end))?;
+    session.act(Op::Mev(corner.packed(), corner.packed(), HalfEdge::plus(1), 2, end))?;
     Ok(session)
 }
 

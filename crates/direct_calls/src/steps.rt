@@ -21,7 +21,7 @@ fn same(op: &Op) -> Option<Op> {
     match op {
         Op::Merge(s, t) => Some(Op::Merge(*s, *t)),
         Op::Kfmrh(f, g) => Some(Op::Kfmrh(*f, *g)),
-        Op::Mekr(a, b, h) => Some(Op::Mekr(*a, *b, *h)),
+        Op::Mekr(a, b, h) => Some(Op::Mekr(a.corner().packed(), b.corner().packed(), *h)),
         Op::Kev(h) => Some(Op::Kev(*h)),
         Op::Mef(a, b, h, f, l) => Some(Op::Mef(*a, *b, *h, *f, *l)),
         Op::Kef(h) => Some(Op::Kef(*h)),

@@ -1,7 +1,6 @@
 -- The conditions of each operator, in the order in which they are tested.
 -- A condition is a test on a model, with the refusal that is given if it is false.
-use Rattle.std.specs.Prelude.{◌≡◌, ℕ, Bool, true, false, cond, not, ◌&&◌, ◌||◌, nat_eq, nat_lt, List, [], ◌∷◌, ◌++◌, length, Option, Some, None, is_some, Result, Ok, Err}
-use Rattle.boundary_model.specs.declared.Point.{Point}
+use Rattle.std.specs.Prelude.{◌≡◌, ℕ, Bool, true, false, cond, not, ◌&&◌, ◌||◌, nat_eq, nat_lt, List, [], ◌∷◌, ◌++◌, Option, Some, None, Result, Ok, Err}
 use Rattle.boundary_model.specs.Points.{is_in_range}
 use Rattle.boundary_model.specs.declared.Corner.{Corner}
 use Rattle.boundary_model.specs.declared.Corner.TheVariants.{At, Lone}

@@ -1,10 +1,10 @@
 -- What model each operator makes, and which operator takes it back.
-use Rattle.std.specs.Prelude.{◌≡◌, ℕ, Bool, true, false, cond, not, ◌&&◌, ◌||◌, nat_eq, nat_lt, List, [], ◌∷◌, ◌++◌}
+use Rattle.std.specs.Prelude.{ℕ, Bool, cond, ◌&&◌, ◌||◌, nat_eq, nat_lt, List, [], ◌∷◌, ◌++◌}
 use Rattle.boundary_model.specs.declared.Point.{Point}
 use Rattle.boundary_model.specs.declared.Corner.{Corner}
 use Rattle.boundary_model.specs.declared.Corner.TheVariants.{At, Lone}
 use Rattle.boundary_model.specs.Items.{count}
-use Rattle.boundary_model.specs.Rings.{rotate_to, canonical, rest, between, beyond, upto, onward}
+use Rattle.boundary_model.specs.Rings.{canonical, rest, between, beyond, upto, onward}
 use Rattle.boundary_model.specs.Edits.{insert_before, without}
 use Rattle.boundary_model.specs.HalfEdge.{code, half, mate, edge_of, is_first, plus, minus}
 use Rattle.boundary_model.specs.Table as table

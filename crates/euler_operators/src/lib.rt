@@ -10,8 +10,9 @@ ghost use Rattle.std.specs.Prelude.{◌≡◌, ℕ, List, [], ◌++◌, ◌∷�
 ghost use Rattle.euler_operators.specs.Refusal.{code_of};
 
 pub use boundary_model::{
-    COORDINATE_LIMIT, Content, Corner, HALF_EDGE_CODES, HalfEdge, Kind, NUMBER_LIMIT, Plane, Point,
-    Sign, cross_add, cut_point, dot, is_number, lex_cmp, point_in_range, side, sum, sum_in_range,
+    COORDINATE_LIMIT, Content, Corner, HALF_EDGE_CODES, HalfEdge, Kind, NUMBER_LIMIT, PackedCorner,
+    Plane, Point, Sign, cross_add, cut_point, dot, is_number, lex_cmp, point_in_range, side, sum,
+    sum_in_range,
 };
 use std::alloc::{AllocError, Global};
 use std::marker::Model;
@@ -75,14 +76,14 @@ pub enum Op {
     Mvfs(u32, u32, u32, u32, Point),
     Kvfs(u32),
     /// Two corners, the new half-edge that starts at the old vertex, the new vertex and its point.
-    Mev(Corner, Corner, HalfEdge, u32, Point),
+    Mev(PackedCorner, PackedCorner, HalfEdge, u32, Point),
     Kev(HalfEdge),
     /// Two corners, the new half-edge, the new face and its loop.
     Mef(HalfEdge, HalfEdge, HalfEdge, u32, u32),
     Kef(HalfEdge),
     /// The half-edge, and the new ring.
     Kemr(HalfEdge, u32),
-    Mekr(Corner, Corner, HalfEdge),
+    Mekr(PackedCorner, PackedCorner, HalfEdge),
     Kfmrh(u32, u32),
     /// The ring, and the new face.
     Mfkrh(u32, u32),

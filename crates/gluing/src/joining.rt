@@ -9,7 +9,7 @@ ghost use Rattle.undo_journal.specs.Journal.{after_steps, IsFurther};
 
 use crate::rims::{first_item, item_at};
 use euler_conditions::Arena;
-use euler_operators::{Corner, HalfEdge, Kind, Op};
+use euler_operators::{HalfEdge, Kind, Op};
 use std::alloc::AllocError;
 use undo_journal::Draft;
 
@@ -76,7 +76,7 @@ fn open_seam(
     let other_solid = draft.arena().solid_of(other);
     draft.step_accepted(Op::Merge(solid, other_solid))?;
     draft.step_accepted(Op::Kfmrh(f, other))?;
-    draft.step_accepted(Op::Mekr(Corner::At(first), Corner::At(partner), HalfEdge::plus(edge)))?;
+    draft.step_accepted(Op::Mekr(first.corner(), partner.corner(), HalfEdge::plus(edge)))?;
     draft.step_accepted(Op::Kev(HalfEdge::plus(edge)))
 }
 

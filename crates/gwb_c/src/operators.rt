@@ -75,8 +75,8 @@ pub extern "C" fn gwb_mev(
         alloc,
         gwb,
         Op::Mev(
-            corner(from),
-            corner(to),
+            corner(from).packed(),
+            corner(to).packed(),
             plus(edge),
             vertex,
             Point { x, y, z },
@@ -139,7 +139,11 @@ pub extern "C" fn gwb_kemr(alloc: Global, gwb: &mut Gwb, half_edge: u32, ring: u
 pub extern "C" fn gwb_mekr(alloc: Global, gwb: &mut Gwb, from: u32, to: u32, edge: u32) -> u32
     ensures { Acts gwb.old.kept.value (Op.Mekr (corner_of from) (corner_of to) (plus edge)) gwb.new.kept.value result }
 {
-    act(alloc, gwb, Op::Mekr(corner(from), corner(to), plus(edge)))
+    act(
+        alloc,
+        gwb,
+        Op::Mekr(corner(from).packed(), corner(to).packed(), plus(edge)),
+    )
 }
 
 /// Kills a face, and makes its outer loop a ring of another face.

@@ -150,7 +150,15 @@ pub fn advance(alloc: Global, arena: &mut Arena, op: &Op, back: &mut Op) -> Resu
             Ok(())
         }
         Op::Mev(from, to, half, vertex, point) => {
-            mev(arena, *from, *to, *half, *vertex, *point, back)
+            mev(
+                arena,
+                from.corner(),
+                to.corner(),
+                *half,
+                *vertex,
+                *point,
+                back,
+            )
         }
         Op::Kev(half) => {
             kev(arena, *half, back);

@@ -63,7 +63,7 @@ pub(crate) fn kev(arena: &Arena, h: HalfEdge) -> Op
     let point = arena.point(killed);
     reading::in_use(arena, Kind::Edge, h.edge);
     reading::in_use(arena, Kind::Vertex, killed);
-    Op::Mev(first, second, h, killed, point)
+    Op::Mev(first.packed(), second.packed(), h, killed, point)
 }
 
 #[tactic(auto, using(crate::proofs::Prelude::kef_goes, crate::proofs::Prelude::of_half, crate::proofs::Prelude::mate_edge_there))]
@@ -95,7 +95,7 @@ fn kemr(arena: &Arena, h: HalfEdge, ring: u32) -> Op
     let first = reading::corner_after(arena, mate, h, kept);
     let second = reading::corner_after(arena, h, mate, ring);
     reading::in_use(arena, Kind::Edge, h.edge);
-    Op::Mekr(first, second, h)
+    Op::Mekr(first.packed(), second.packed(), h)
 }
 
 fn mekr(arena: &Arena, first: Corner, second: Corner, h: HalfEdge) -> Op
@@ -187,7 +187,7 @@ pub(crate) fn inverse_of(arena: &Arena, op: &Op, room: MovedFaces) -> Op
         Op::Mef(_, _, h, _, _) => Op::Kef(*h),
         Op::Kef(h) => kef(arena, *h),
         Op::Kemr(h, ring) => kemr(arena, *h, *ring),
-        Op::Mekr(first, second, h) => mekr(arena, *first, *second, *h),
+        Op::Mekr(first, second, h) => mekr(arena, first.corner(), second.corner(), *h),
         Op::Kfmrh(kept, killed) => kfmrh(arena, *kept, *killed),
         Op::Mfkrh(ring, face) => mfkrh(arena, *ring, *face),
         Op::RingIn(ring, face) => ring_in(arena, *ring, *face),

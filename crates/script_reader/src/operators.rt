@@ -51,7 +51,7 @@ fn mev(words: &mut Words<'_>) -> Result<Op, Fault>
     let vertex = words.number()?;
     let place = words.point()?;
     words.finish()?;
-    Ok(Op::Mev(from, to, plus(edge), vertex, place))
+    Ok(Op::Mev(from.packed(), to.packed(), plus(edge), vertex, place))
 }
 
 #[inline(never)]
@@ -108,7 +108,7 @@ fn mekr(words: &mut Words<'_>) -> Result<Op, Fault>
     let to = words.corner()?;
     let edge = words.number()?;
     words.finish()?;
-    Ok(Op::Mekr(from, to, plus(edge)))
+    Ok(Op::Mekr(from.packed(), to.packed(), plus(edge)))
 }
 
 #[inline(never)]

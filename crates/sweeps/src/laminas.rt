@@ -139,7 +139,13 @@ pub(crate) fn draw_lamina(
         let edge = taken.edges + i as u32;
         let vertex = taken.vertices + 1 + i as u32;
         let next = point_at(points, i);
-        draft.step_accepted(Op::Mev(end, end, HalfEdge::plus(edge), vertex, next))?;
+        draft.step_accepted(Op::Mev(
+            end.packed(),
+            end.packed(),
+            HalfEdge::plus(edge),
+            vertex,
+            next,
+        ))?;
         end = Corner::At(HalfEdge::minus(edge));
     }
     let last = taken.edges + points.len() as u32;

@@ -12,7 +12,7 @@ ghost use Rattle.solid_walks.specs.Counters.{taken_of};
 ghost use Rattle.sweeps.specs.Raising.{CanRise};
 
 use euler_conditions::Arena;
-use euler_operators::{Corner, HalfEdge, Kind, Op, Point, sum};
+use euler_operators::{HalfEdge, Kind, Op, Point, sum};
 use solid_walks::{Counters, items_from, rings_of, some_item};
 use std::alloc::{AllocError, Global};
 use undo_journal::Draft;
@@ -74,7 +74,7 @@ fn raise_item(
     let top = sum(arena.point(arena.tail(item)), shift);
     let edge = HalfEdge::plus(riser(taken, at));
     let vertex = taken.vertices + 1 + at;
-    draft.step_accepted(Op::Mev(Corner::At(item), Corner::At(item), edge, vertex, top))
+    draft.step_accepted(Op::Mev(item.corner(), item.corner(), edge, vertex, top))
 }
 
 /// Closes the side over the item with this place in its loop, between the edges that rise at its start and at that of the next item.

@@ -6,7 +6,7 @@ ghost use Rattle.split_drawing.specs.Counters.{taken_of};
 ghost use Rattle.split_opening_laws.specs.strips.StripOps as ops;
 ghost use Rattle.plane_split.specs.solid_opening.Stages.{AreStripped};
 
-use euler_operators::{Corner, HalfEdge, Op};
+use euler_operators::{HalfEdge, Op};
 use split_drawing::Counters;
 use split_sections::start;
 use std::alloc::AllocError;
@@ -43,8 +43,8 @@ fn raise_copy(
     let riser = HalfEdge::plus(from.edges + count + at + 1);
     let point = start(draft.arena(), halves[at as usize]);
     draft.step_accepted(Op::Mev(
-        Corner::At(back),
-        Corner::At(before),
+        back.corner(),
+        before.corner(),
         riser,
         from.vertices + at + 1,
         point,

@@ -26,10 +26,16 @@ fn command(number: u32) -> Op {
         return Op::Mvfs(1, 1, 1, 1, point);
     }
     if number == 2 {
-        return Op::Mev(Corner::Lone(1), Corner::Lone(1), plus(1), 2, point);
+        return Op::Mev(
+            Corner::Lone(1).packed(),
+            Corner::Lone(1).packed(),
+            plus(1),
+            2,
+            point,
+        );
     }
     let end = Corner::At(minus(number - 2));
-    Op::Mev(end, end, plus(number - 1), number, point)
+    Op::Mev(end.packed(), end.packed(), plus(number - 1), number, point)
 }
 
 fn act(rt: &impl Abort, session: &mut Session, op: Op) {
@@ -168,7 +174,7 @@ fn a_draft_abandoned(rt: HostRuntime) -> Result<(), Fail> {
     step(
         &rt,
         &mut draft,
-        Op::Mev(lone, lone, plus(5), 5, Point::default()),
+        Op::Mev(lone.packed(), lone.packed(), plus(5), 5, Point::default()),
     );
     let mut session = draft.abandon();
     let no_solid = Refusal {

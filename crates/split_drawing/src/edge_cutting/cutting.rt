@@ -9,7 +9,7 @@ ghost use Rattle.split_drawing_laws.specs.crossings.CrossingOps.{crossing_ops};
 ghost use Rattle.split_drawing.specs.edge_cutting.Begins.{CanBeCut, cut_op};
 
 use euler_conditions::next;
-use euler_operators::{Corner, HalfEdge, Op, Plane};
+use euler_operators::{HalfEdge, Op, Plane};
 use solid_walks::{Counters, counters_of};
 use split_checks::CutEdge;
 use std::alloc::AllocError;
@@ -33,13 +33,7 @@ fn cut_edge(draft: &mut Draft, taken: Counters, cut: CutEdge) -> Result<Counters
     let first = HalfEdge::plus(cut.edge);
     let next = next(draft.arena(), HalfEdge::minus(cut.edge));
     let made = HalfEdge::plus(edges);
-    draft.step_accepted(Op::Mev(
-        Corner::At(first),
-        Corner::At(next),
-        made,
-        vertices,
-        cut.point,
-    ))?;
+    draft.step_accepted(Op::Mev(first.corner(), next.corner(), made, vertices, cut.point))?;
     Ok(Counters {
         edges,
         vertices,

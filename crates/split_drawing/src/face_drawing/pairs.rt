@@ -6,7 +6,7 @@ ghost use Rattle.shapes.specs.Common.{in_one_loop, join_pair};
 ghost use Rattle.split_checks.specs.Cuts.{codes};
 
 use euler_conditions::Arena;
-use euler_operators::{Corner, HalfEdge, Op};
+use euler_operators::{HalfEdge, Op};
 use split_checks::Pair;
 
 /// Whether the two stand in one loop.
@@ -37,8 +37,8 @@ pub(crate) fn join_op(arena: &Arena, pair: Pair, edge: u32) -> Op
 {
     let made = HalfEdge { edge, first: true };
     if starts_in_ring(arena, pair) {
-        Op::Mekr(Corner::At(pair.down), Corner::At(pair.up), made)
+        Op::Mekr(pair.down.corner(), pair.up.corner(), made)
     } else {
-        Op::Mekr(Corner::At(pair.up), Corner::At(pair.down), made)
+        Op::Mekr(pair.up.corner(), pair.down.corner(), made)
     }
 }
