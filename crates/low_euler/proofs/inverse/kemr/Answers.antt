@@ -1,4 +1,4 @@
-use Rattle.low_euler.proofs.Prelude.{kemr_goes, of_half, mate_edge_there}
+use Rattle.low_euler.proofs.Prelude.{◌∙◌, kemr_goes, of_half, mate_edge_there}
 use Rattle.low_euler.proofs.Inverses.{kemr_inverse}
 use Rattle.low_euler.proofs.inverse.kemr.Goals as goal
 
@@ -17,4 +17,4 @@ in_use-requires c = of_half c.args.arena.now.model c.args.h (kemr_goes c.args.ar
 
 pub returns-clause-is : goal.returns-clause-is
 returns-clause-is c =
-    kemr_inverse c.args.arena.now.model c.requires.ready.sound c.args.h c.mate-mate.result c.args.ring c.corner_after-first.result c.corner_after-second.result c.loop_of-kept.result c.requires.accepted c.mate-mate.ensures c.loop_of-kept.ensures.is c.corner_after-first.ensures c.corner_after-second.ensures
+    kemr_inverse c.args.arena.now.model c.requires.ready.sound c.args.h c.mate-mate.result c.args.ring c.packed.result c.packed-2.result c.loop_of-kept.result c.requires.accepted c.mate-mate.ensures c.loop_of-kept.ensures.is (c.packed.ensures ∙ c.corner_after-first.ensures) (c.packed-2.ensures ∙ c.corner_after-second.ensures)

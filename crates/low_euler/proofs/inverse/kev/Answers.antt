@@ -21,4 +21,4 @@ in_use-requires-2 c =
 
 pub returns-clause-is : goal.returns-clause-is
 returns-clause-is c =
-    kev_inverse c.args.arena.now.model c.args.h c.mate.result c.kev_corners-first.result.0 c.kev_corners-first.result.1 c.tail-killed.result c.point-point.result c.mate.ensures c.kev_corners-first.ensures.first c.kev_corners-first.ensures.second c.tail-killed.ensures c.point-point.ensures.point
+    kev_inverse c.args.arena.now.model c.args.h c.mate.result c.packed.result c.packed-2.result c.tail-killed.result c.point-point.result c.mate.ensures (c.packed.ensures ∙ c.kev_corners-first.ensures.first) (c.packed-2.ensures ∙ c.kev_corners-first.ensures.second) c.tail-killed.ensures c.point-point.ensures.point
