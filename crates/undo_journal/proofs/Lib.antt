@@ -6,5 +6,6 @@ pub mod Consistent
 pub mod Rooms
 pub mod Turns
 pub mod Marks
+pub mod Corners
 pub mod Kept
 pub mod Seen

@@ -1,6 +1,7 @@
 use Rattle.sweeps.proofs.Prelude.{rules, arith, ◌≡◌, ◌<◌, ◌+◌, length, ap, refl, ◌∙◌, on_ok_weaker, Mef, half-plus, half-minus, DraftJournal, operators_make_lamina, further_on}
 use Rattle.std.proofs.lemmas.Bool.Decides.{nat_tests}
 use Rattle.sweeps.proofs.Drawing.{begun, first_is, first_goes, first_along, next_goes, next_along, last_goes, last_steps}
+use Rattle.undo_journal.proofs.Corners.{same_mev}
 use Rattle.sweeps.proofs.laminas.draw_lamina.Goals as goal
 
 pub point_at-first-requires : goal.point_at-first-requires
@@ -22,13 +23,13 @@ pub step_accepted-requires-in-further : goal.step_accepted-requires-in-further
 step_accepted-requires-in-further c =
     let g = begun c.args.draft.now.model c.args.taken.now c.args.solid c.args.points.now c.stays_consistent.ensures.model c.requires.taken c.requires.accepted in
     let l : c.further.i < length c.args.points.now = search rules in
-    next_goes c.args.draft.now _ c.args.solid c.args.points.now g c.further.i _ c.further.end c.further.invariant.0 _ _ _ _ refl (c.plus.ensures ∙ half-plus _) refl c.point_at-next.ensures l
+    next_goes c.args.draft.now _ c.args.solid c.args.points.now g c.further.i _ c.further.end c.further.invariant.0 _ _ _ _ (same_mev _ _ _ c.packed.ensures c.packed-in-further.ensures) (c.plus.ensures ∙ half-plus _) refl c.point_at-next.ensures l
 
 pub further-preserved : goal.further-preserved
 further-preserved c =
     let g = begun c.args.draft.now.model c.args.taken.now c.args.solid c.args.points.now c.stays_consistent.ensures.model c.requires.taken c.requires.accepted in
     let l : c.further.i < length c.args.points.now = search rules in (
-      next_along c.args.draft.now _ c.args.solid c.args.points.now g c.further.i _ c.further.end c.further.invariant.0 _ _ _ _ refl (c.plus.ensures ∙ half-plus _) refl c.point_at-next.ensures l _ _ c.in_ok-step_accepted-2.ensures.ok (c.minus.ensures ∙ half-minus _),
+      next_along c.args.draft.now _ c.args.solid c.args.points.now g c.further.i _ c.further.end c.further.invariant.0 _ _ _ _ (same_mev _ _ _ c.packed.ensures c.packed-in-further.ensures) (c.plus.ensures ∙ half-plus _) refl c.point_at-next.ensures l _ _ c.in_ok-step_accepted-2.ensures.ok (c.minus.ensures ∙ half-minus _),
       further_on _ _ _ c.further.invariant.1 c.in_ok-step_accepted-2.ensures.further,
     )
 
