@@ -1,5 +1,5 @@
 -- The conditions of a split: those that are tested first, and those that are tested once the faces are drawn.
-use Rattle.plane_split.proofs.Prelude.{◌≡◌, ℕ, Some, Result, Err, sym, ap, ◌∙◌, Plane, Model, Sound, first_refusal, Refusal, Drawing, with_drawings, faces_above, first_conditions, later_conditions, split_conditions, split_refusal, put_aside}
+use Rattle.plane_split.proofs.Prelude.{◌≡◌, ℕ, Bool, false, cond, nat_eq, ◌∷◌, Option, None, Some, Result, Err, sym, ap, ◌∙◌, Plane, Model, Sound, first_refusal, Refusal, CutCrossed, Drawing, with_drawings, below_halves, faces_above, first_conditions, later_conditions, no_such, section_conditions, split_conditions, split_refusal, put_aside}
 use Rattle.shapes.proofs.Common.{first_refusal-append, first_refusal-refused}
 use Rattle.split_drawing_laws.specs.crossings.Laws.{CanBegin}
 use Rattle.split_drawing_laws.proofs.face_sides.Begun.{none_straddles}
@@ -24,9 +24,20 @@ module _ (M : Model) (s : ℕ) (p : Plane) (t : ℕ) where
 
   module _ (begun : CanBegin M s p t) where
     -- after that the later conditions decide, in which the pairs left aren't read
-    pub later_decide : (d : Drawing) → d ≡ put_aside (with_drawings M s p) → first_refusal (later_conditions s p d) ≡ split_refusal M s p t
+    later_decide : (d : Drawing) → d ≡ put_aside (with_drawings M s p) → first_refusal (later_conditions s p d) ≡ split_refusal M s p t
     unfolding split_conditions
     later_decide d e = ap (λ x. first_refusal (later_conditions s p x)) e ∙ sym (first_refusal-append (first_conditions M s p t) (later_conditions s p (with_drawings M s p)) begun)
+
+    abbrev later_if : Drawing → Bool → Option Refusal
+    later_if d b = first_refusal (no_such (cond b None (Some d.stuck)) CutCrossed ∷ section_conditions d.model s p d.taken (below_halves d.model (faces_above d.model p s) s))
+
+    -- where a face is stuck, that is the refusal
+    pub stuck_decides : (d : Drawing) → d ≡ put_aside (with_drawings M s p) → nat_eq d.stuck 0 ≡ false → Some (record { why = CutCrossed; number = d.stuck }) ≡ split_refusal M s p t
+    stuck_decides d e stuck = sym (ap (later_if d) stuck) ∙ later_decide d e
+
+    -- where none is, the conditions of the section decide
+    pub section_decides : (d : Drawing) → d ≡ put_aside (with_drawings M s p) → d.stuck ≡ 0 → first_refusal (section_conditions d.model s p d.taken (below_halves d.model (faces_above d.model p s) s)) ≡ split_refusal M s p t
+    section_decides d e done = sym (ap (λ n. later_if d (nat_eq n 0)) done) ∙ later_decide d e
 
     -- where no face is stuck, none of them straddles, so the section lies on the plane
     pub section_lies : Sound M → (d : Drawing) → d ≡ put_aside (with_drawings M s p) → Sound d.model → d.stuck ≡ 0 → SectionLiesOn d.model s p

@@ -7,12 +7,13 @@ unfoldable pub use Rattle.euler_operators.specs.Common.{point_of}
 pub use Rattle.euler_operators.specs.declared.Op.{Op}
 pub use Rattle.euler_operators.specs.declared.Op.TheVariants.{Kef, Kemr, Kfmrh, Mef, Mev, Mfkrh, Part}
 pub use Rattle.euler_operators.specs.declared.Refusal.{Refusal}
+pub use Rattle.euler_operators.specs.declared.Why.TheVariants.{CutCrossed}
 pub use Rattle.plane_split.specs.declared.solid_opening.caps.Caps.{Caps}
 pub use Rattle.plane_split.specs.solid_opening.Capped.{all_caps, caps_of, opened_section, opening_of, unopened}
 pub use Rattle.plane_split.specs.solid_opening.Closing.{holes_ops, outer_uppers}
 pub use Rattle.plane_split.specs.solid_opening.Stages.{AreStripped, CanOpen}
-pub use Rattle.shapes.specs.Common.{Drawing, Opening, Taken, all_opened, below_halves, faces_above, first_conditions, is_hole, later_conditions, numbers_after, opened_along, opened_at, outer_caps, renamed, section_cycles, six_volume, some_above, some_below, split_refusal, upper_left, vertices_of, with_drawings}
-unfoldable pub use Rattle.shapes.specs.Common.{next_opened, split_conditions, split_model}
+pub use Rattle.shapes.specs.Common.{Drawing, Opening, Taken, all_opened, below_halves, faces_above, first_conditions, is_hole, later_conditions, no_such, numbers_after, opened_along, opened_at, outer_caps, renamed, section_cycles, six_volume, some_above, some_below, split_refusal, upper_left, vertices_of, with_drawings}
+unfoldable pub use Rattle.shapes.specs.Common.{next_opened, section_conditions, split_conditions, split_model}
 pub use Rattle.split_checks.proofs.begin_checks_laws.Stages.{none_early}
 pub use Rattle.split_checks.specs.begin_checks.Conditions.{early_refusal}
 pub use Rattle.split_drawing.proofs.CutPlaces.{others, parts}
@@ -34,7 +35,8 @@ pub use Rattle.split_opening_laws.specs.strips.Strips.{copied, copies_raised, co
 unfoldable pub use Rattle.split_opening_laws.specs.strips.Strips.{strips_cut}
 pub use Rattle.split_sections.specs.section_checks.Sections.{IsSection, cycles_of}
 pub use Rattle.split_sections.specs.section_cycles.Halves.{halves_of}
-pub use Rattle.std.proofs.Common.{Bool, Err, IfErr, List, None, Ok, OnOk, Result, Some, [], ap, append_assoc, arith, cond, drop, false, filter, get_or, inl, inr, length, map, not, refl, slice_index_or, subst, suc, sym, true, unwrap_or, w64, zero, ℕ, ℤ, ◌&&◌, ◌*◌, ◌++◌, ◌+ℤ◌, ◌+◌, ◌-◌, ◌<◌, ◌∙◌, ◌∷◌, ◌≡◌, ◌≢◌, ◌≤◌}
+pub use Rattle.std.proofs.Common.{Bool, Err, IfErr, List, None, Ok, OnOk, Option, Result, Some, [], ap, append_assoc, arith, cond, drop, false, filter, get_or, inl, inr, length, map, nat_eq, not, refl, slice_index_or, subst, suc, sym, true, unwrap_or, w64, zero, ℕ, ℤ, ◌&&◌, ◌*◌, ◌++◌, ◌+ℤ◌, ◌+◌, ◌-◌, ◌<◌, ◌∙◌, ◌∷◌, ◌≡◌, ◌≢◌, ◌≤◌}
+pub use Rattle.std.proofs.lemmas.Bool.Decides.{nat_tests}
 pub use Rattle.std.proofs.lemmas.List.{get_or-map, length-map, map-append}
 pub use Rattle.std.proofs.lemmas.Result.{on_ok_weaker}
 pub use Rattle.undo_journal.proofs.Marks.{further_none, further_on, further_recorded, further_session, no_steps, step_after, steps_after, steps_make, steps_recorded}

@@ -13,9 +13,9 @@ ghost use Rattle.plane_split.specs.Drawn.{IsDrawn};
 ghost use Rattle.undo_journal.specs.Journal.{after_steps, IsFurther};
 
 use crate::solid_opening::{open_section, part_upper};
-use euler_operators::{NUMBER_LIMIT, Plane, Refusal};
+use euler_operators::{NUMBER_LIMIT, Plane, Refusal, Why, refused};
 use split_drawing::{Cuts, Progress, Sides, draw_solid};
-use split_sections::{Section, check_later};
+use split_sections::{Section, find_section};
 use std::alloc::{AllocError, Global};
 use undo_journal::{Draft, Failure};
 
@@ -41,8 +41,8 @@ fn part_drawn(
 }
 
 /// Splits solid s of the draft's model by the plane, if that can begin and these are its cuts. It cuts the edges that cross the plane, and
-/// draws the faces that straddle it. Then, if the solid can be opened along its section, it parts what is above as solid `upper`; otherwise
-/// it answers the refusal. On a refusal or `AllocError` the draft may have taken some steps.
+/// draws the faces that straddle it. Then, if each of these could be drawn and the solid can be opened along its section, it parts what is
+/// above as solid `upper`; otherwise it answers the refusal. On a refusal or `AllocError` the draft may have taken some steps.
 #[tactic(auto, using(undo_journal::proofs::Marks::further_on))]
 fn take_steps(
     alloc: Global,
@@ -63,7 +63,10 @@ fn take_steps(
     ensures further { IsFurther draft.old draft.new }
 {
     let drawn = draw_solid(alloc, draft, s, plane, cuts, sides)?;
-    let section = match check_later(alloc, draft.arena(), s, plane, &drawn, sides)? {
+    if drawn.stuck != 0 {
+        return Ok(refused(Why::CutCrossed, drawn.stuck));
+    }
+    let section = match find_section(alloc, draft.arena(), s, plane, drawn.taken, sides)? {
         Ok(section) => section,
         Err(refusal) => return Ok(Err(refusal)),
     };

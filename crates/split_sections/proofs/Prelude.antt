@@ -1,12 +1,12 @@
 -- What the proofs here take from elsewhere, passed on from one place. Declares nothing.
 pub use Rattle.euler_laws.proofs.Common.{IsIn-from_listed, all_where-rises, all_where_has, half_below, listed-from_in, rises_on, rises_over, steps_are, verdict_failed, verdict_passed, within}
 pub use Rattle.euler_operators.proofs.Common.{IsApart-map, IsIn-filter, IsIn_or_not, SameItems-from_permutation, apart_within, coordinate_is, count-append, count-filter, edge_of-code, filter_passes, fits, from_map, half_number, held, held_is, held_short, least_in, least_le, less_or_same, loop_there, mate-mate, mate_there, number_tied, same_edge, tick_other, tick_same, vector_within, within_coordinate}
-pub use Rattle.euler_operators.specs.Common.{Above, Below, Condition, HalfEdge, Has, HasHalf, IsApart, IsIn, IsVectorWithin, IsWithin, Model, On, Plane, Point, SameItems, Sign, Sound, count, cross, direction, dot, face_at, face_of, faces_of, first_refusal, has, has_half, is_coordinate, least, lists, loop_of, mate, moved, need, no_face, normal_limit, numbers_of, orbit, strictly_rises, tail, tick, vector_of, walk_to}
+pub use Rattle.euler_operators.specs.Common.{Above, Below, HalfEdge, Has, HasHalf, IsApart, IsIn, IsVectorWithin, IsWithin, Model, On, Plane, Point, SameItems, Sign, Sound, count, cross, direction, dot, face_at, face_of, faces_of, first_refusal, has, has_half, is_coordinate, least, lists, loop_of, mate, moved, need, no_face, normal_limit, numbers_of, orbit, strictly_rises, tail, tick, vector_of, walk_to}
 unfoldable pub use Rattle.euler_operators.specs.Common.{code, edge_of, solid_of}
 pub use Rattle.euler_operators.specs.declared.Refusal.{Refusal}
-pub use Rattle.euler_operators.specs.declared.Why.TheVariants.{BranchedVertex, CutCrossed, NoFace, NumberRange, SectionHoles}
+pub use Rattle.euler_operators.specs.declared.Why.TheVariants.{BranchedVertex, NoFace, NumberRange, SectionHoles}
 pub use Rattle.shapes.proofs.Common.{AreHalves, different_items, face_of_loop, half_solid, halves_short, items_counted, items_joined, items_there, listed_face, loops_of_apart, solid_half, solid_loops}
-pub use Rattle.shapes.specs.Common.{Drawing, Taken, below_halves, cycle_conditions, cycle_from, faces_above, finish, first_such, has_stray_hole, items_in, later_conditions, least_branched, loops_in, loops_of, next_below, no_such, numbers_left, reaches_above, reaches_below, section_ends, start}
+pub use Rattle.shapes.specs.Common.{Taken, below_halves, cycle_conditions, cycle_from, faces_above, finish, first_such, has_stray_hole, items_in, least_branched, loops_in, loops_of, next_below, no_such, numbers_left, reaches_above, reaches_below, section_ends, start}
 unfoldable pub use Rattle.shapes.specs.Common.{boundary, face_is_above, is_hole, section_conditions, section_cycles}
 pub use Rattle.solid_walks.proofs.face_walks_laws.Above.{AllAbove, above, all_above_members}
 pub use Rattle.solid_walks.specs.Counters.{taken_of}

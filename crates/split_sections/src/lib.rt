@@ -1,5 +1,5 @@
 #![tactic(auto)]
-//! The section of a solid by a plane after its faces are drawn: its edges, its cycles, and the conditions that are tested then.
+//! The section of a solid by a plane: its edges, its cycles, and the conditions under which the solid can be opened along it.
 //!
 //! `section_edges` has the faces above the plane and the below halves of the section's edges. `section_cycles` has the cycles that these
 //! halves form, the vertices at which too many of them meet, and which cycles are holes. `section_checks` tests the conditions.
@@ -12,14 +12,14 @@
 //! faces that aren't above, by rising edge. Both may answer `AllocError`. `starts_of` answers the below half that starts at each vertex. If
 //! as many below halves start at each vertex as end there, it also answers the least vertex at which more than two section edges meet, or
 //! none. From these starts `cycles` answers the cycles of the below halves, each from its least half on, and which of them are holes: those
-//! whose cap below has a normal that points against the plane; or `AllocError`. `check_later` tests the conditions of a split that come
-//! after the faces are drawn. It answers the first false one with its value; or the faces above, the cycles of the section and which of
-//! them are holes; or `AllocError`.
+//! whose cap below has a normal that points against the plane; or `AllocError`. `find_section`, if the section lies on the plane: the first
+//! false one of the conditions under which the solid can be opened along it, with its value; or the faces above, the cycles of the section
+//! and which of them are holes; or `AllocError`.
 
 mod section_checks;
 mod section_cycles;
 mod section_edges;
 
-pub use section_checks::{Section, check_later};
+pub use section_checks::{Section, find_section};
 pub use section_cycles::Cycle;
 pub use solid_walks::start;

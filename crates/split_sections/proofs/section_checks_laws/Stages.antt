@@ -1,5 +1,5 @@
--- The conditions that are tested once the faces are drawn, part by part.
-use Rattle.split_sections.proofs.Prelude.{◌≡◌, ℕ, ◌+◌, ◌*◌, Bool, true, false, cond, not, nat_eq, List, ◌∷◌, length, Option, Some, None, Result, Ok, Err, refl, sym, ap, ◌∙◌, arith, Plane, Model, Condition, first_refusal, Refusal, CutCrossed, BranchedVertex, SectionHoles, Taken, numbers_left, no_such, Drawing, faces_above, below_halves, section_ends, least_branched, section_cycles, has_stray_hole, cycle_conditions, section_conditions, later_conditions}
+-- The conditions of a section, part by part.
+use Rattle.split_sections.proofs.Prelude.{◌≡◌, ℕ, ◌+◌, ◌*◌, true, false, cond, not, List, ◌∷◌, length, Option, Some, None, Result, Ok, Err, refl, sym, ap, ◌∙◌, arith, Plane, Model, first_refusal, Refusal, BranchedVertex, SectionHoles, Taken, numbers_left, no_such, section_ends, least_branched, section_cycles, has_stray_hole, cycle_conditions, section_conditions}
 
 module _ (M : Model) (s : ℕ) (p : Plane) (c : Taken) (bs : List ℕ) where
   abbrev numbers : Option Refusal
@@ -28,20 +28,6 @@ module _ (M : Model) (s : ℕ) (p : Plane) (c : Taken) (bs : List ℕ) where
 
     pub to_numbers : has_stray_hole M p (section_cycles M bs) ≡ false → first_refusal (section_conditions M s p c bs) ≡ numbers
     to_numbers e = to_cycles ∙ ap (λ b. cond (not b) numbers (Some (record { why = SectionHoles; number = s }))) e
-
-module _ (s : ℕ) (p : Plane) (d : Drawing) where
-  abbrev sections : List Condition
-  sections = section_conditions d.model s p d.taken (below_halves d.model (faces_above d.model p s) s)
-
-  -- what is refused where no face is stuck, and where one is
-  abbrev refused_if : Bool → Option Refusal
-  refused_if b = first_refusal (no_such (cond b None (Some d.stuck)) CutCrossed ∷ sections)
-
-  pub stuck : nat_eq d.stuck 0 ≡ false → first_refusal (later_conditions s p d) ≡ Some (record { why = CutCrossed; number = d.stuck })
-  stuck e = ap refused_if e
-
-  pub drawn : nat_eq d.stuck 0 ≡ true → first_refusal (later_conditions s p d) ≡ first_refusal (section_conditions d.model s p d.taken (below_halves d.model (faces_above d.model p s) s))
-  drawn e = ap refused_if e
 
 -- ---- what an answer holds
 

@@ -1,14 +1,13 @@
-//! The conditions of a split that are tested after the faces are drawn, in their order.
-ghost use Rattle.std.specs.Prelude.{◌≡◌, true, [], None, Some, Ok, Err, Vec, map};
+//! The section of a solid, and the conditions under which the solid can be opened along it, in their order.
+ghost use Rattle.std.specs.Prelude.{◌≡◌, true, None, Some, Ok, Err, Vec, map};
 ghost use Rattle.std.specs.declared.alloc.Global.{Global};
 ghost use Rattle.euler_conditions.specs.Ready.{IsReady};
 ghost use Rattle.euler_operators.specs.Common.{SameItems, code, faces_of, first_refusal, strictly_rises, IsCutPlane};
 ghost use Rattle.euler_operators.specs.declared.Refusal.{Refusal};
 ghost use Rattle.split_opening_laws.specs.cycles.SectionCycles.{AreOf};
-ghost use Rattle.shapes.specs.Common.{below_halves, later_conditions, section_conditions};
+ghost use Rattle.shapes.specs.Common.{below_halves, faces_above, section_conditions};
 ghost use Rattle.solid_walks.specs.Counters.{taken_of};
 ghost use Rattle.split_checks.specs.cut_places.Noted.{AreSides};
-ghost use Rattle.split_checks.specs.Progress.{drawing_of};
 ghost use Rattle.split_sections.specs.Common.{AreCyclesOf, IsSection, AreThere};
 ghost use Rattle.split_sections.specs.section_edges.BelowHalves.{below_met, leading_above};
 ghost use Rattle.split_sections.specs.section_edges.Level.{SectionLiesOn};
@@ -23,7 +22,7 @@ use crate::section_edges::{below_halves, look_at_faces};
 use euler_conditions::Arena;
 use euler_operators::{HalfEdge, Plane, Refusal, Why};
 use solid_walks::Counters;
-use split_checks::{Progress, Sides};
+use split_checks::Sides;
 use std::alloc::{AllocError, Global};
 
 /// The cycles of the section of solid s between these faces above, which rise, and its other faces, if the solid can be opened along them
@@ -68,33 +67,28 @@ fn check_cycles(
     }
 }
 
-/// The section of solid s by the plane after its faces are drawn, if the solid can be opened along it.
+/// The section of solid s by the plane, if the solid can be opened along it. It is asked that the section lies on the plane, as it does where no
+/// face of the solid straddles it.
 ///
-/// Refused, in this order: CutCrossed with the first face that could not be drawn; BranchedVertex with the least vertex at which more than
-/// two section edges meet; SectionHoles with s, where a cycle is a hole and not exactly one is outer; NumbersSpent with 2, 3, 4 or 5, where
-/// no numbers are left for the faces, loops, edges or vertices that the opening takes. It is asked that the edges of the section lie on the
-/// plane if each face could be drawn. Sides that aren't noted in `sides` are computed, and then noted. If memory is refused, the answer is `AllocError`.
-pub fn check_later(
+/// Refused, in this order: BranchedVertex with the least vertex at which more than two section edges meet; SectionHoles with s, where a
+/// cycle is a hole and not exactly one is outer; NumbersSpent with 2, 3, 4 or 5, where no numbers are left for the faces, loops, edges or
+/// vertices that the opening takes after those taken. Sides that aren't noted in `sides` are computed, and then noted. If memory is
+/// refused, the answer is `AllocError`.
+pub fn find_section(
     alloc: Global,
     arena: &Arena,
     s: u32,
     plane: &Plane,
-    drawn: &Progress,
+    taken: Counters,
     sides: &mut Sides,
 ) -> Result<Result<Section, Refusal>, AllocError>
     requires ready { IsReady arena.now }
     requires plane { IsCutPlane plane.now }
     requires sides { AreSides arena.now.model plane.now sides.old }
-    requires level { drawn.now.stuck ≡ 0 → SectionLiesOn arena.now.model s plane.now }
-    ensures refused { (refusal : Refusal) → (result ≡ Ok (Err refusal)) → (first_refusal (later_conditions s plane.now (drawing_of drawn.now arena.now.model [])) ≡ Some refusal) }
-    ensures open { (section : Section) → (result ≡ Ok (Ok section)) → ((first_refusal (later_conditions s plane.now (drawing_of drawn.now arena.now.model [])) ≡ None) × IsSection arena.now.model s plane.now section) }
+    requires lies { SectionLiesOn arena.now.model s plane.now }
+    ensures refused { (refusal : Refusal) → (result ≡ Ok (Err refusal)) → (first_refusal (section_conditions arena.now.model s plane.now (taken_of taken) (below_halves arena.now.model (faces_above arena.now.model plane.now s) s)) ≡ Some refusal) }
+    ensures open { (section : Section) → (result ≡ Ok (Ok section)) → ((first_refusal (section_conditions arena.now.model s plane.now (taken_of taken) (below_halves arena.now.model (faces_above arena.now.model plane.now s) s)) ≡ None) × IsSection arena.now.model s plane.now section) }
 {
-    if drawn.stuck != 0 {
-        return Ok(Err(Refusal {
-            why: Why::CutCrossed,
-            number: drawn.stuck,
-        }));
-    }
     let looked = look_at_faces(alloc, arena, *plane, sides, s)?;
     let above = looked.above;
     match check_cycles(
@@ -102,7 +96,7 @@ pub fn check_later(
         arena,
         s,
         *plane,
-        drawn.taken,
+        taken,
         above.as_slice(),
         looked.level,
     )? {
