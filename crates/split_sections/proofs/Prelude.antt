@@ -1,6 +1,6 @@
 -- What the proofs here take from elsewhere, passed on from one place. Declares nothing.
 pub use Rattle.euler_laws.proofs.Common.{IsIn-from_listed, all_where-rises, all_where_has, half_below, listed-from_in, rises_on, rises_over, steps_are, verdict_failed, verdict_passed, within}
-pub use Rattle.euler_operators.proofs.Common.{IsApart-map, IsIn-filter, IsIn_or_not, SameItems-from_permutation, apart_within, coordinate_is, count-append, count-filter, edge_of-code, filter_passes, fits, from_map, half_number, held, held_is, held_short, least_in, least_le, less_or_same, loop_there, mate-mate, mate_there, number_tied, same_edge, tick_other, tick_same, vector_within, within_coordinate}
+pub use Rattle.euler_operators.proofs.Common.{IsApart-map, IsIn-filter, IsIn-map, IsIn_or_not, SameItems-from_permutation, apart_within, coordinate_is, count-append, count-filter, edge_of-code, filter_passes, fits, from_map, half_number, held, held_is, held_short, least_in, least_le, less_or_same, loop_there, mate-mate, mate_there, number_real, number_tied, same_edge, tick_other, tick_same, vector_within, within_coordinate}
 pub use Rattle.euler_operators.specs.Common.{Above, Below, HalfEdge, Has, HasHalf, IsApart, IsIn, IsVectorWithin, IsWithin, Model, On, Plane, Point, SameItems, Sign, Sound, count, cross, direction, dot, face_at, face_of, faces_of, first_refusal, has, has_half, is_coordinate, least, lists, loop_of, mate, moved, need, no_face, normal_limit, numbers_of, orbit, strictly_rises, tail, tick, vector_of, walk_to}
 unfoldable pub use Rattle.euler_operators.specs.Common.{code, edge_of, solid_of}
 pub use Rattle.euler_operators.specs.declared.Refusal.{Refusal}
@@ -11,8 +11,8 @@ unfoldable pub use Rattle.shapes.specs.Common.{boundary, face_is_above, is_hole,
 pub use Rattle.solid_walks.proofs.face_walks_laws.Above.{AllAbove, above, all_above_members}
 pub use Rattle.solid_walks.specs.Counters.{taken_of}
 pub use Rattle.split_checks.proofs.Areas.{area_limited, area_push}
-pub use Rattle.split_checks.proofs.Searches.{IsLeast, least_either, least_row, least_same, one_least}
-pub use Rattle.split_checks.proofs.cut_places_laws.Lists.{fewer, last_code, no_half, of_picked, others, parts, picked_apart}
+pub use Rattle.split_checks.proofs.Searches.{IsLeast, least_row, least_same, one_least}
+pub use Rattle.split_checks.proofs.cut_places_laws.Lists.{no_half, of_picked, others, parts, picked_apart}
 pub use Rattle.split_checks.proofs.cut_places_laws.NotedSides.{told_down, told_up}
 pub use Rattle.split_checks.specs.Measure.{answer, area, area_limit, face_refusal, read}
 unfoldable pub use Rattle.split_checks.specs.Measure.{normal}
@@ -21,16 +21,16 @@ pub use Rattle.split_opening_laws.proofs.cycles.BelowHalves.{are_halves, halves_
 pub use Rattle.split_opening_laws.proofs.cycles.Orbits.{around_apart, around_here, around_same, around_within}
 pub use Rattle.split_opening_laws.specs.cycles.Permuting.{Permutes}
 pub use Rattle.split_opening_laws.specs.cycles.SectionCycles.{AreOf, IsBelowHalf, IsUnbranched}
-pub use Rattle.split_sections.specs.Common.{AreBalanced, AreCyclesOf, AreStarts, IsSection, code_or_none, half_at, has_stray}
+pub use Rattle.split_sections.specs.Common.{AreBalanced, AreCyclesOf, AreStarts, IsSection, has_stray, start_at, start_vertices, starting}
 pub use Rattle.split_sections.specs.declared.section_cycles.cycle.Cycle.{Cycle}
 pub use Rattle.split_sections.specs.section_cycles.Halves.{AreThere, halves_of}
 pub use Rattle.split_sections.specs.section_edges.BelowHalves.{below_in, below_met, is_below, leading_above, leads_above}
 pub use Rattle.split_sections.specs.section_edges.Level.{SectionLiesOn, level_in, level_met}
-pub use Rattle.std.proofs.Common.{BTreeMap, Bool, Err, FitsSigned, Global, IsPermutation, List, None, Ok, Option, Result, Some, Vec, [], ap, append-nil, append_assoc, arith, cond, drop, eq-eqb, eqb-true, false, filter, get_or, inl, inr, int_lt, is_eq, is_some, length, lt-ltb, map, nat_cmp, nat_eq, nat_lt, ne_eqb, not, pos, refl, rules, slice_index_or, subst, suc, sym, take, true, true≢false, unwrap_or, vec_len, zero, ℕ, ℤ, ◌&&◌, ◌*◌, ◌++◌, ◌+◌, ◌-◌, ◌<◌, ◌==◌, ◌||◌, ◌∙◌, ◌∷◌, ◌≡◌, ◌≢◌, ◌≤◌, ◌⊎◌}
+pub use Rattle.std.proofs.Common.{Bool, Err, FitsSigned, Global, IsPermutation, List, None, Ok, Option, Result, Some, Vec, [], ap, append-nil, append_assoc, arith, cond, drop, eq-eqb, eqb-true, false, filter, get_or, inl, inr, int_lt, is_eq, is_some, length, le-ltb, lt-ltb, map, nat_cmp, nat_eq, nat_lt, ne_eqb, not, pos, refl, rules, slice_index_or, subst, suc, sym, take, true, true≢false, unwrap_or, vec_len, zero, ℕ, ℤ, ◌&&◌, ◌*◌, ◌++◌, ◌+◌, ◌-◌, ◌<◌, ◌==◌, ◌||◌, ◌∙◌, ◌∷◌, ◌≡◌, ◌≢◌, ◌≤◌, ◌⊎◌}
 pub use Rattle.std.proofs.lemmas.Bool.{and_parts, not-true, or_right}
 pub use Rattle.std.proofs.lemmas.Bool.Decides.{eqb_tells, nat_tests}
 pub use Rattle.std.proofs.lemmas.List.{drop_more, length-map, map-append, take-append-le, take-map, take_all}
-pub use Rattle.std.proofs.lemmas.List.Elements.{filter-append}
+pub use Rattle.std.proofs.lemmas.List.Elements.{All-from_recursion, filter-append, recursion_from_All}
 pub use Rattle.std.proofs.lemmas.List.Filters.{FiltersInPlace, FiltersInPlace-more_no, FiltersInPlace-more_set}
-pub use Rattle.std.proofs.lemmas.List.Sorted.{IsNonDecreasingBy-from_sort_by_key, IsPermutation-map}
+pub use Rattle.std.proofs.lemmas.List.Sorted.{All-permutation, IsNonDecreasingBy-from_sort_by_key, IsPartitionPoint-from_clause, IsPartitionedBy-ltb, IsPermutation-map}
 pub use Rattle.std.specs.BTreeSet.{contains}

@@ -1,6 +1,6 @@
 pub mod Meetings
 pub mod Sums
-pub mod Chains
+pub mod Started
 pub mod Meeting
 pub mod Leads
 pub mod Rounds

@@ -3,7 +3,7 @@ use Rattle.split_sections.proofs.Prelude.{◌≡◌, ℕ, ◌+◌, ◌≤◌, �
 use Rattle.euler_operators.specs.Table as table
 use Rattle.solid_walks.proofs.face_walks_laws.TableWalks.{passes, member_passing}
 use Rattle.split_sections.specs.Common.{AreThere}
-use Rattle.split_sections.proofs.section_cycles_laws.Chains.{several}
+use Rattle.split_sections.proofs.section_cycles_laws.Started.{several}
 
 -- ---- the half-edges of a list, one by one
 

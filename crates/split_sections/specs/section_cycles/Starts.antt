@@ -1,22 +1,30 @@
--- Half-edges by the vertices at which they start.
-use Rattle.std.specs.Prelude.{◌≡◌, ℕ, nat_eq, List, map, Option, Some, None, unwrap_or}
-use Rattle.std.specs.BTreeMap.{BTreeMap, get}
-use Rattle.std.specs.Ordering.{nat_cmp}
-use Rattle.euler_operators.specs.Common.{count, HalfEdge, code, mate, Model, tail}
-use Rattle.shapes.specs.Common.{first_such}
+-- Half-edges with the vertices at which they start.
+use Rattle.std.specs.Prelude.{◌≡◌, ℕ, ◌<◌, List, map, length, slice_index_or}
+use Rattle.std.specs.List.Sorted.{IsNonDecreasingBy}
+use Rattle.euler_operators.specs.Common.{IsApart, SameItems, count, HalfEdge, code, mate, Model, tail}
+use Rattle.split_sections.specs.declared.section_cycles.starts.Start.{Start}
 
--- the code of a half-edge, or 0
-abbrev pub code_or_none : Option HalfEdge → ℕ
-code_or_none None = 0
-code_or_none (Some h) = code h
+-- a half-edge with the vertex at which it starts
+abbrev pub start_at : Model → HalfEdge → Start
+start_at M h = record { vertex = tail M (code h); half = h }
 
--- the half-edge that the map has at a vertex
-abbrev pub half_at : BTreeMap ℕ HalfEdge → ℕ → ℕ
-half_at starts v = code_or_none (get nat_cmp starts v)
+-- the half-edges of some starts, and their vertices
+abbrev pub starting : List Start → List ℕ
+starting starts = map (λ s. code s.half) starts
 
--- the map has at each vertex the first of these half-edges that starts there
-abbrev pub AreStarts : Model → List ℕ → BTreeMap ℕ HalfEdge → Type 0
-AreStarts M hs starts = (v : ℕ) → half_at starts v ≡ unwrap_or (first_such (λ h. nat_eq (tail M h) v) hs) 0
+abbrev pub start_vertices : List Start → List ℕ
+start_vertices starts = map (λ s. s.vertex) starts
+
+-- each of these half-edges stands there with the vertex at which it starts, by rising vertex, and no two of them start at one vertex
+pub record AreStarts (M : Model) (hs : List ℕ) (starts : List Start) : Type 0 where
+  pub halves : SameItems (starting starts) hs
+  pub tails : start_vertices starts ≡ map (tail M) (starting starts)
+  pub rising : IsNonDecreasingBy (λ s. s.vertex) starts
+  pub apart : IsApart (start_vertices starts)
+
+-- the start at this place is at that vertex
+abbrev pub IsPlaceOf : List Start → ℕ → ℕ → Type 0
+IsPlaceOf starts v i = (i < length starts) × ((d : Start) → (slice_index_or starts i d).vertex ≡ v)
 
 -- as many of these half-edges start at each vertex as end there
 abbrev pub AreBalanced : Model → List ℕ → Type 0

@@ -54,7 +54,7 @@ fn check_cycles(
             number: v,
         }));
     }
-    let cycles = cycles(alloc, arena, plane, listed, &found.0)?;
+    let cycles = cycles(alloc, arena, plane, listed, found.0.as_slice())?;
     if has_stray_hole(cycles.as_slice()) {
         return Ok(Err(Refusal {
             why: Why::SectionHoles,

@@ -10,18 +10,18 @@ ghost use Rattle.split_sections.specs.Common.{AreThere, halves_of, AreStarts};
 
 use crate::section_cycles::cycle::Cycle;
 use crate::section_cycles::holes::is_hole;
-use crate::section_cycles::starts::next_half;
+use crate::section_cycles::starts::{Start, next_half};
 use euler_conditions::{Arena, same};
 use euler_operators::{HalfEdge, Plane};
 use std::alloc::{AllocError, Global};
-use std::collections::{BTreeMap, BTreeSet};
+use std::collections::BTreeSet;
 
 /// The cycle of the halves from one of them on. Each of these halves leads to one of them.
 fn cycle_from(
     alloc: Global,
     arena: &Arena,
     halves: &[HalfEdge],
-    starts: &BTreeMap<u32, HalfEdge>,
+    starts: &[Start],
     first: HalfEdge,
 ) -> Result<Vec<HalfEdge>, AllocError>
     requires ready { IsReady arena.now }
@@ -50,7 +50,7 @@ fn cycle_with_hole(
     arena: &Arena,
     plane: Plane,
     halves: &[HalfEdge],
-    starts: &BTreeMap<u32, HalfEdge>,
+    starts: &[Start],
     first: HalfEdge,
 ) -> Result<Cycle, AllocError>
     requires ready { IsReady arena.now }
@@ -83,15 +83,15 @@ fn meet(met: &mut BTreeSet<u32>, halves: &[HalfEdge]) -> Result<(), AllocError>
     Ok(())
 }
 
-/// The cycles of these below halves, and which of them are holes. The map has the halves by the vertices at which they start. Each cycle
-/// goes from its least half on, and the cycles stand in the order of these. Each half leads to the half that starts where it ends, and no
+/// The cycles of these below halves, and which of them are holes. `starts` has the halves by the vertices at which they start. Each
+/// cycle goes from its least half on, and the cycles stand in the order of these. Each half leads to the half that starts where it ends, and no
 /// two lead to the same one. It takes n log n steps for n halves. If memory is refused, the answer is `AllocError`.
 pub(crate) fn cycles(
     alloc: Global,
     arena: &Arena,
     plane: Plane,
     halves: &[HalfEdge],
-    starts: &BTreeMap<u32, HalfEdge>,
+    starts: &[Start],
 ) -> Result<Vec<Cycle>, AllocError>
     requires ready { IsReady arena.now }
     requires plane { IsCutPlane plane }

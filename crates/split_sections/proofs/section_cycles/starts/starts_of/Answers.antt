@@ -1,23 +1,27 @@
-use Rattle.split_sections.proofs.Prelude.{◌∙◌, is_some, ap, no_half, last_code}
-use Rattle.split_sections.proofs.section_cycles_laws.Chains.{last_there, fewer_there, one_placed, all_placed, all_least}
-use Rattle.split_sections.proofs.section_cycles_laws.Meetings.{no_more, branched_is}
+use Rattle.split_sections.proofs.Prelude.{List, ◌∙◌, sym, ap, subst, count, map, code, IsApart, start_vertices}
+use Rattle.std.specs.List.Sorted.{IsNonDecreasingBy}
+use Rattle.split_sections.specs.declared.section_cycles.starts.Start.{Start}
+use Rattle.split_sections.proofs.section_cycles_laws.Started.{IsLeastShared, are_starts, least_several, starts_real}
+use Rattle.split_sections.proofs.section_cycles_laws.Meetings.{branched_is}
 use Rattle.split_sections.proofs.section_cycles.starts.starts_of.Goals as goal
 
-pub tail-vertex-requires : goal.tail-vertex-requires
-tail-vertex-requires c = last_there c.args.arena.now.model c.halves.rest.now no_half c.in-len1-up.len_at_least c.halves.invariant.there
+pub least_shared-branched-requires-clause-rising : goal.least_shared-branched-requires-clause-rising
+least_shared-branched-requires-clause-rising c = subst (IsNonDecreasingBy (λ (s : Start). s.vertex)) (sym c.as_slice.ensures.value) c.in_ok-starts.ensures.rising
 
-pub halves-preserved : goal.halves-preserved
-halves-preserved c =
-    let M = c.args.arena.now.model in record {
-      there = fewer_there M c.halves.rest.now no_half c.in-len1-up.len_at_least c.halves.invariant.there;
-      placed = one_placed M _ _ c.halves.starts c.insert.new.self _ c.halves.invariant.placed _ _ c.tail-vertex.result (last_code c.halves.rest.now no_half c.in-len1-up.len_at_least) c.tail-vertex.ensures c.in_ok-met.ensures.updates.0
-          c.only.result _ c.is_some.result (c.is_some.ensures ∙ ap is_some c.in_ok-met.ensures.old) c.only.ensures c.lesser-branched.ensures;
-    }
+pub least_shared-branched-requires-clause-real : goal.least_shared-branched-requires-clause-real
+least_shared-branched-requires-clause-real c =
+    ap (λ (ss : List Start). count 0 (start_vertices ss)) c.as_slice.ensures.value
+    ∙ starts_real c.args.arena.now.model c.requires.ready.sound c.args.halves.now c.requires.there c.in_ok-starts.starts.items c.in_ok-starts.ensures.same
 
 pub returns-clause-starts : goal.returns-clause-starts
-returns-clause-starts c = all_placed c.args.arena.now.model _ _ _ _ c.halves.invariant.placed (no_more c.halves.rest.now c.in_default.len_below)
+returns-clause-starts c = λ none.
+    are_starts c.args.arena.now.model c.requires.ready.sound c.args.halves.now c.requires.there c.in_ok-starts.starts.items c.in_ok-starts.ensures.same c.in_ok-starts.ensures.rising
+    (subst (λ (ss : List Start). IsApart (start_vertices ss)) c.as_slice.ensures.value (c.least_shared-branched.ensures.apart none))
 
 pub returns-clause-branched : goal.returns-clause-branched
-returns-clause-branched c =
-    let M = c.args.arena.now.model in
-    λ same. branched_is M c.requires.ready.sound _ c.requires.there same _ (all_least M _ _ _ _ c.halves.invariant.placed (no_more c.halves.rest.now c.in_default.len_below))
+returns-clause-branched c = λ same.
+    let M = c.args.arena.now.model in let o = c.least_shared-branched.result in
+    branched_is M c.requires.ready.sound (map code c.args.halves.now) c.requires.there same o
+    (least_several M c.requires.ready.sound c.args.halves.now c.requires.there c.in_ok-starts.starts.items c.in_ok-starts.ensures.same o
+    (subst (λ (ss : List Start). IsLeastShared (start_vertices ss) o) c.as_slice.ensures.value c.least_shared-branched.ensures.shared)
+    (λ none. subst (λ (ss : List Start). IsApart (start_vertices ss)) c.as_slice.ensures.value (c.least_shared-branched.ensures.apart none)))
