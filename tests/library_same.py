@@ -12,6 +12,7 @@ import subprocess
 import sys
 from collections import Counter
 from fractions import Fraction
+from itertools import chain
 from pathlib import Path
 from typing import Any, Callable, Counter as Counts, Dict, Iterator, List, Optional, Sequence, Tuple
 
@@ -22,6 +23,9 @@ sys.path.insert(0, str(TOP / 'companions'))
 from gwb import FacePart, InDraft, Refused, Workbench  # noqa: E402
 
 PARTS, LINES = 150, 11
+# A part before the random ones: a groove over the floor of a drilled hole takes corners away at the mouth of the hole, which is far from it.
+FIRST: List[Tuple[str, List[int]]] = [
+    ('part', []), ('block', [1, 2, 3, 1, 10, 7, 5]), ('drill', [2, 5, 6, 1, 1, 8, 2]), ('groove', [7, 4, 6, 3, 6, 6, 3, 2, 2])]
 Point = Tuple[int, int, int]
 # How often each word has to be accepted, so that it is tried.
 LEAST = 3
@@ -374,10 +378,9 @@ def written(library: str) -> Tuple[List[str], List[str]]:
     """The lines of the program, and what the session in Python gives for each."""
     session = Session(library)
     author, lines, given = Author(session), [], []
-    for _ in range(PARTS):
-        for word, numbers in author.part():
-            lines += [' '.join(map(str, [word, *numbers])), 'list']
-            given += [session.give(word, numbers), session.listing()]
+    for word, numbers in chain(FIRST, chain.from_iterable(author.part() for _ in range(PARTS))):
+        lines += [' '.join(map(str, [word, *numbers])), 'list']
+        given += [session.give(word, numbers), session.listing()]
     return lines, given
 
 

@@ -186,6 +186,7 @@ using Regions = std::map<Face, const Sheet *>;
 struct Combined {
     Model model;
     std::vector<Sheet> regions;
+    std::vector<HalfEdge> beyond = {}; ///< of the rest, where they should become one edge with the ones before them
 
     /// The faces that added sheets went into, rising, by the places of these among the added ones: so many from one on.
     [[nodiscard]] std::vector<Face> marked(std::size_t from, std::size_t count) const
@@ -229,14 +230,16 @@ public:
         pair_whole();
         if (!pair_along_lines())
             return std::nullopt;
+        std::vector<HalfEdge> beyond;
         for (Placed &placed : sides_)
-            placed.goes_on = divides(placed);
+            if ((placed.goes_on = divides(placed)) && placed.region == nullptr)
+                beyond.push_back(placed.side.half);
         Model made(solid);
         name_vertices(made);
         name_edges(made);
         for (std::size_t region = 0; region < regions_.size(); region++)
             name_face(made, regions_[region], starts_[region]);
-        return Combined{std::move(made), std::move(regions_)};
+        return Combined{std::move(made), std::move(regions_), std::move(beyond)};
     }
 
 private:

@@ -17,19 +17,31 @@ struct Part {
     std::set<Face> fast;
 };
 
-/// The faces of a solid whose boxes meet a box. Rings of theirs whose boxes don't are left out where the face looks the same way without them, and
-/// not all are wanted.
-inline Part part_near(const Bench &bench, const Surface &surface, Solid solid, const Box &box, bool all_rings)
+/// The loops of a solid that meet a box, and wanted ones, by faces.
+inline std::map<Face, std::vector<Loop>> loops_near(const Bench &bench, const Surface &surface, const Box &box, const std::set<Loop> &wanted)
+{
+    std::map<Face, std::vector<Loop>> found = surface.near(bench, box);
+    for (Loop loop : wanted) {
+        std::vector<Loop> &row = found[bench.face_of(loop)];
+        if (const auto place = std::lower_bound(row.begin(), row.end(), loop); place == row.end() || *place != loop)
+            row.insert(place, loop);
+    }
+    return found;
+}
+
+/// The faces of a solid whose outlines meet a box, or are wanted. Rings of theirs that don't, and aren't, are left out where the face looks the same way
+/// without them.
+inline Part part_near(const Bench &bench, const Surface &surface, Solid solid, const Box &box, const std::set<Loop> &wanted)
 {
     Part found{Model(solid), {}};
-    for (const auto &row : surface.near(bench, box)) {
+    for (const auto &row : loops_near(bench, surface, box, wanted)) {
         const Face face = row.first;
         const std::vector<Loop> &near = row.second;
         const Loop outer = bench.face(face).outer_loop;
         if (!std::binary_search(near.begin(), near.end(), outer))
             continue;
         const Plane *plane = surface.plane(face);
-        const bool needs_all = all_rings || plane == nullptr || dot(plane->across, area_of(surface.cycle(outer))) <= 0;
+        const bool needs_all = plane == nullptr || dot(plane->across, area_of(surface.cycle(outer))) <= 0;
         const auto rings = bench.rings(face);
         const auto is_far = [&](Loop ring) { return !std::binary_search(near.begin(), near.end(), ring); };
         const bool is_fast = !needs_all && any(rings, is_far);
@@ -145,19 +157,33 @@ inline void give(Bench &bench, const std::vector<Operator> &operators)
     }
 }
 
-/// Makes what comes of the faces of a solid near sheets that are added: by operators on those that differ, without the rings elsewhere, else with all
-/// rings; where that can't be, all of the solid is made anew. The solid whose faces are added, where they are any's, is taken away.
+/// The loops that are wanted besides those of a part, of which no operators make what is to come of it: those along which edges at its rim become one, and
+/// the outlines around them; where there are none, the rings that it lacks.
+inline std::set<Loop> wanted_besides(const Bench &bench, const Part &part, const Combined &combined)
+{
+    std::set<Loop> found;
+    for (HalfEdge half : combined.beyond)
+        found.insert({bench.loop_of(half), bench.face(bench.face_of(half)).outer_loop});
+    for (Face face : found.empty() ? part.fast : std::set<Face>()) {
+        const auto rings = bench.rings(face);
+        found.insert(rings.begin(), rings.end());
+    }
+    return found;
+}
+
+/// Makes what comes of the faces of a solid near sheets that are added: by operators on those that differ, without the loops elsewhere, else with what
+/// is wanted of these; where that can't be, all of the solid is made anew. The solid whose faces are added, where they are any's, is taken away.
 template <class Check>
 Combined make_near(Bench &bench, Solid solid, const std::vector<Sheet> &added, const Model &other, const Failure &why, Check check)
 {
     Surroundings &known = Surroundings::of(bench);
-    for (bool all_rings = false;; all_rings = true) {
+    for (std::set<Loop> wanted, more;; wanted.merge(more)) {
         const Surface &surface = known.surface(bench, solid);
-        const Part part = part_near(bench, surface, solid, box_of(added), all_rings);
+        const Part part = part_near(bench, surface, solid, box_of(added), wanted);
         AllNames names(bench);
         Combined found = combined(bench, part.model, added, other, names, why, check);
-        const auto operators = operators_for(bench, surface, part, found, names);
-        if (!operators && !part.fast.empty())
+        const auto operators = found.beyond.empty() ? operators_for(bench, surface, part, found, names) : std::nullopt;
+        if (!operators && !(more = wanted_besides(bench, part, found)).empty())
             continue;
         if (!other.faces.empty())
             take_away(bench, other.solid);
