@@ -24,12 +24,6 @@ template <class... Taken, class... Given> Operator operator_of(void (Bench::*cal
 /// Thrown where the faces that differ aren't of the kind.
 struct OtherKind {};
 
-inline void require(bool holds)
-{
-    if (!holds)
-        throw OtherKind();
-}
-
 /// Half-edges in their loops, from which edges are taken.
 class Links {
 public:
@@ -154,7 +148,7 @@ public:
             go_on();
             down(loops);
         }
-        require(!cores.empty());
+        require(!cores.empty(), OtherKind());
         for (const auto &[loop, vertex] : roots_)
             grow_in(loop, vertex);
     }
@@ -219,7 +213,7 @@ private:
         for (HalfEdge half : border)
             if (const Loop loop = loop_at(half); outlines.insert(loop).second)
                 cores[from_least(halves_.run(half, half))] = {face_of_.at(loop), loop};
-        require(std::max(outlines.size(), std::size_t{1}) == faces_);
+        require(std::max(outlines.size(), std::size_t{1}) == faces_, OtherKind());
         if (border.empty())
             roots_[loop_at(tree.front())] = start(plus(tree.front().edge()));
     }
@@ -239,7 +233,7 @@ private:
                     waiting.push_back(end);
                     tree.push_back(half);
                 }
-        require(all(vertices, [&](Vertex vertex) { return outer_.count(vertex) + seen.count(vertex) != 0; }));
+        require(all(vertices, [&](Vertex vertex) { return outer_.count(vertex) + seen.count(vertex) != 0; }), OtherKind());
         return tree;
     }
 
@@ -261,7 +255,7 @@ private:
     /// which the face has before and after.
     void bridge_out(HalfEdge half)
     {
-        require(halves_.after(half) != half.twin() && halves_.after(half.twin()) != half);
+        require(halves_.after(half) != half.twin() && halves_.after(half.twin()) != half, OtherKind());
         const Face face = face_at(half), spare = names_.faces.spare();
         const Loop ring = names_.loops.spare();
         const std::set<HalfEdge> outline = pair_.same_outline(face);
@@ -284,7 +278,7 @@ private:
             half = half.twin();
         const Loop gone = loop_at(half.twin());
         const Face face = face_of_.at(gone);
-        require(!is_fast(face));
+        require(!is_fast(face), OtherKind());
         faces_--;
         take_edge(half, operator_of(&Bench::kef, half),
                   [&](Edge edge) { return operator_of(&Bench::mef, halves_.after(half.twin()), halves_.after(half), edge, face, gone); });
@@ -295,7 +289,7 @@ private:
     void leaf_off(HalfEdge half)
     {
         const HalfEdge corner = halves_.after(half.twin());
-        require(halves_.after(half) == half.twin());
+        require(halves_.after(half) == half.twin(), OtherKind());
         const bool is_last = corner == half;
         if (is_last)
             half = plus(half.edge());
@@ -325,7 +319,7 @@ private:
         const auto &[outline, core] = *cores.begin();
         const Face face = face_of_.at(loop);
         const HalfEdge spare = plus(spare_edge());
-        require(!is_fast(face));
+        require(!is_fast(face), OtherKind());
         step(operator_of(&Bench::kfmrh, core.face, face), operator_of(&Bench::mfkrh, loop, face));
         step(operator_of(&Bench::mekr, outline[0], lone(loop), spare.edge()), operator_of(&Bench::kemr, spare, loop));
         step(operator_of(&Bench::kev, spare), grown(outline[0], spare.edge(), vertex));
@@ -394,15 +388,15 @@ inline std::vector<Operator> renamings(const Pair &pair, const Cores &old, const
     std::vector<Operator> first, last;
     for (const auto &[outline, core] : old) {
         const Core *other = look_up(made, outline);
-        require(other != nullptr);
+        require(other != nullptr, OtherKind());
         if (core.face == other->face && core.loop == other->loop)
             continue;
-        require(pair.fast.count(core.face) + pair.fast.count(other->face) == 0);
+        require(pair.fast.count(core.face) + pair.fast.count(other->face) == 0, OtherKind());
         if (is_wanted(core))
             rename(outline[0], pair.old.at(outline[0]), {names.faces.spare(), names.loops.spare()}, names, first);
         rename(outline[0], pair.old.at(outline[0]), *other, names, last);
     }
-    require(old.size() == made.size());
+    require(old.size() == made.size(), OtherKind());
     append(first, last);
     return first;
 }

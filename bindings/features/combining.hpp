@@ -102,11 +102,9 @@ Combined combined(const Bench &bench, const Model &part, const std::vector<Sheet
         throw impossible(Misfit::nothing_left, part.solid.number());
     const Held held(bench, part.with(Model(), other));
     const std::optional<Combined> found = Assembly(held, *regions, names).made(part.solid);
-    if (!found)
-        throw why;
+    require(found.has_value(), why);
     check(*found, sheets);
-    if (touch_anew({&part, &other}, {&found->model}, box_of(added)) || comes_into(sheets, added))
-        throw why;
+    require(!touch_anew({&part, &other}, {&found->model}, box_of(added)) && !comes_into(sheets, added), why);
     return *found;
 }
 

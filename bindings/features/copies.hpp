@@ -76,8 +76,7 @@ private:
 inline Model moved(Model model, const Motion &motion, Wide factor = 1)
 {
     for (auto &[vertex, at] : model.vertices)
-        if (at = image(times(at, factor), motion); !is_in_range(at))
-            throw refused(GWB_WHY_POINT_RANGE, vertex.number());
+        require(is_in_range(at = image(times(at, factor), motion)), refused(GWB_WHY_POINT_RANGE, vertex.number()));
     if (!motion.is_mirror())
         return model;
     for (auto &[loop, halves] : model.loops) {
@@ -123,8 +122,7 @@ inline Solid make(Bench &bench, const Model &model, Lists &lists)
         names.require_enough();
         throw refused(GWB_WHY_NUMBERS_SPENT, GWB_FACE + 1U);
     }
-    if (!made)
-        throw made.error();
+    require(has(made), made.error());
     numbers.tell(lists);
     return solid;
 }
@@ -136,8 +134,7 @@ template <class Place> std::vector<Solid> patterned(Bench &bench, Solid solid, s
 {
     const Model model = Model::whole(bench, solid);
     constexpr std::uint32_t most = 1'000'000;
-    if (count > most)
-        throw refused(GWB_WHY_NUMBERS_SPENT, GWB_SOLID + 1U);
+    require(count <= most, refused(GWB_WHY_NUMBERS_SPENT, GWB_SOLID + 1U));
     std::vector<Solid> row;
     for (std::uint32_t at = 1; at < count; at++)
         row.push_back(make(bench, moved(model, place(at)), lists));

@@ -82,8 +82,7 @@ inline Combined part_below(const Held &held, const std::vector<Sheet> &sheets, c
         caps.push_back({Shape(cycles), {Face()}, {caps.size()}});
     Result<std::vector<Sheet>> laid = tried([&] { return overlaid(left, caps); });
     const std::optional<Combined> made = laid ? Assembly(held, *laid, names).made(solid) : std::nullopt;
-    if (!made)
-        throw meets;
+    require(made.has_value(), meets);
     return *made;
 }
 
@@ -103,8 +102,7 @@ inline Path corners_in(const Bench &bench, Solid solid, const Plane &plane)
 /// solid lie in the plane.
 inline void require_apart(const Model &before, const Path &corners, std::initializer_list<const Model *> parts)
 {
-    if (!corners.empty() && touch_anew({&before}, parts, box_of(corners)))
-        throw impossible(Misfit::meets, before.solid.number());
+    require(corners.empty() || !touch_anew({&before}, parts, box_of(corners)), impossible(Misfit::meets, before.solid.number()));
 }
 
 /// The faces of a solid above a number that lie in a plane.
@@ -156,8 +154,7 @@ inline Caps cut(Bench &bench, Solid solid, const gwb_cut_plane &row, Solid above
     const Model before = corners.empty() ? Model() : Model::whole(bench, solid);
     Result<Caps> caps = tried([&] { return split(bench, solid, row, above); });
     constexpr std::array coped_with = {GWB_WHY_TOUCHED_FACE, GWB_WHY_CUT_OFTEN, GWB_WHY_CUT_CROSSED, GWB_WHY_BRANCHED_VERTEX, GWB_WHY_SECTION_HOLES};
-    if (!caps && !any(coped_with, [&](gwb_why why) { return caps.error().is(why); }))
-        throw caps.error();
+    require(has(caps) || any(coped_with, [&](gwb_why why) { return caps.error().is(why); }), caps.error());
     if (!caps)
         return cut_by_faces(bench, solid, plane, corners, above, is_wanted);
     if (!corners.empty()) {

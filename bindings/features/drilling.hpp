@@ -5,7 +5,7 @@
 
 namespace gwb_session::drilling {
 
-using namespace exact;
+using namespace machining;
 
 constexpr std::uint32_t most_sides = 1'000'000;
 
@@ -48,11 +48,9 @@ constexpr std::array<std::int64_t, 2> corner(std::uint32_t place, std::uint32_t 
 /// The corners of the polygon around a center in a face across an axis. Refused: NoFace, NotFlat. Not possible: NotAcross.
 inline std::vector<Point> polygon(const Bench &bench, Face face, Point center, std::int64_t radius, std::uint32_t sides)
 {
-    const Vector across = machining::plane_of(bench, face).across;
-    if (std::count(across.begin(), across.end(), 0) != 2)
-        throw machining::impossible(Misfit::not_across, face.number());
-    if (!is_in_range(vector(center)) || radius > 2 * farthest)
-        throw machining::refused(GWB_WHY_POINT_RANGE, 0);
+    const Vector across = plane_of(bench, face).across;
+    require(std::count(across.begin(), across.end(), 0) == 2, impossible(Misfit::not_across, face.number()));
+    require(is_in_range(vector(center)) && radius <= 2 * farthest, refused(GWB_WHY_POINT_RANGE, 0));
     const std::size_t axis = widest(across);
     std::vector<Point> points;
     for (std::uint32_t place = 0; place < sides; place++) {
@@ -68,10 +66,9 @@ inline std::vector<Point> polygon(const Bench &bench, Face face, Point center, s
 /// A hole through the solid of a face, or of a depth.
 inline Hole drill(Bench &bench, Face face, Point center, std::int64_t radius, std::uint32_t sides, std::int64_t depth)
 {
-    if (radius < 1 || sides < 3 || sides > most_sides || depth < 0)
-        throw machining::refused(GWB_WHY_SIZE_RANGE, radius < 1 ? 1 : depth < 0 ? 3 : 2);
+    require(radius >= 1 && sides >= 3 && sides <= most_sides && depth >= 0, refused(GWB_WHY_SIZE_RANGE, radius < 1 ? 1 : depth < 0 ? 3 : 2));
     std::vector<Point> points = polygon(bench, face, center, radius, sides);
-    Pocket made = depth == 0 ? machining::make_hole(bench, face, points) : machining::make_raised(bench, face, points, depth, false);
+    Pocket made = depth == 0 ? make_hole(bench, face, points) : make_raised(bench, face, points, depth, false);
     return Hole{made.face, made.loop, std::move(made.sides), std::move(points)};
 }
 

@@ -50,8 +50,7 @@ inline void glue_all(Bench &bench, Items<Solid> solids)
         joined.insert(next->second.solid);
     }
     for (Solid solid : solids)
-        if (joined.count(solid) == 0)
-            throw impossible(Misfit::no_match, solid.number());
+        require(joined.count(solid) != 0, impossible(Misfit::no_match, solid.number()));
     if (!left.empty())
         throw impossible(Misfit::glued_twice, left.front().first.face.number());
 }

@@ -15,16 +15,14 @@ namespace gwb_session::machining {
 inline void require_sizes(std::initializer_list<std::int64_t> sizes)
 {
     const auto small = std::find_if(sizes.begin(), sizes.end(), [](std::int64_t size) { return size < 1; });
-    if (small != sizes.end())
-        throw refused(GWB_WHY_SIZE_RANGE, place(static_cast<std::size_t>(small - sizes.begin())));
+    require(small == sizes.end(), refused(GWB_WHY_SIZE_RANGE, place(static_cast<std::size_t>(small - sizes.begin()))));
 }
 
 /// Points of the caller; refused where one lies out of range.
 inline Path path_of(Items<Point> points)
 {
     Path path = mapped(points, vector);
-    if (!all(path, is_in_range))
-        throw refused(GWB_WHY_POINT_RANGE, 0);
+    require(all(path, is_in_range), refused(GWB_WHY_POINT_RANGE, 0));
     return path;
 }
 
@@ -41,8 +39,7 @@ inline void require_simple(const Cycle &sides, Axes axes)
     for (std::size_t at = 0; at < sides.size(); at++) {
         go_on();
         for (std::size_t beyond = at + 1; beyond < sides.size(); beyond++)
-            if (box_of(sides[at]).meets(box_of(sides[beyond])) && clash(sides[at], sides[beyond]))
-                throw impossible(Misfit::outline_crossed, place(at));
+            require(!box_of(sides[at]).meets(box_of(sides[beyond])) || !clash(sides[at], sides[beyond]), impossible(Misfit::outline_crossed, place(at)));
     }
 }
 
@@ -50,23 +47,19 @@ inline void require_simple(const Cycle &sides, Axes axes)
 inline void require_in(const Plane &plane, const Path &path)
 {
     const auto off = std::find_if(path.begin(), path.end(), [&](const Vector &at) { return plane.height(at) != 0; });
-    if (off != path.end())
-        throw impossible(Misfit::not_in_plane, place(static_cast<std::size_t>(off - path.begin())));
+    require(off == path.end(), impossible(Misfit::not_in_plane, place(static_cast<std::size_t>(off - path.begin()))));
 }
 
 /// The normal of the flat simple outline through points.
 inline Vector simple_normal(const Path &path)
 {
-    if (path.size() < 3)
-        throw refused(GWB_WHY_FEW_POINTS, static_cast<std::uint32_t>(path.size()));
+    require(path.size() >= 3, refused(GWB_WHY_FEW_POINTS, static_cast<std::uint32_t>(path.size())));
     std::set<Vector> seen;
     for (std::size_t at = 0; at < path.size(); at++)
-        if (!seen.insert(path[at]).second)
-            throw refused(GWB_WHY_REPEATED_POINT, place(at));
+        require(seen.insert(path[at]).second, refused(GWB_WHY_REPEATED_POINT, place(at)));
     const Cycle sides = cycle_of(path);
     const Vector across = area_of(sides);
-    if (is_zero(across))
-        throw impossible(Misfit::no_area, 0);
+    require(!is_zero(across), impossible(Misfit::no_area, 0));
     require_in(Plane::through(path[0], across), path);
     require_simple(sides, flat_axes(across));
     return across;
@@ -89,8 +82,7 @@ inline Vector steps_along(Face face, const Vector &across, std::int64_t length)
     Wide root = 0;
     for (Wide bit = Wide{1} << 62; bit != 0; bit >>= 1)
         root += (root + bit) * (root + bit) <= square ? bit : 0;
-    if (!is_short || root * root != square || length % root != 0)
-        throw impossible(Misfit::off_lattice, face.number());
+    require(is_short && root * root == square && length % root == 0, impossible(Misfit::off_lattice, face.number()));
     return times(across, length / root);
 }
 
@@ -226,16 +218,14 @@ private:
 /// Refuses a solid that isn't there: NoSolid.
 inline void require_solid(const Bench &bench, Solid solid)
 {
-    if (bench.faces(solid).empty())
-        throw refused(GWB_WHY_NO_SOLID, solid.number());
+    require(!bench.faces(solid).empty(), refused(GWB_WHY_NO_SOLID, solid.number()));
 }
 
 /// The solid of a face. Refused: NoFace.
 inline Solid solid_of(const Bench &bench, Face face)
 {
     const Result<FaceRow> row = bench.attempt().face(face);
-    if (!row)
-        throw refused(GWB_WHY_NO_FACE, face.number());
+    require(has(row), refused(GWB_WHY_NO_FACE, face.number()));
     return row->solid;
 }
 
@@ -243,8 +233,7 @@ inline Solid solid_of(const Bench &bench, Face face)
 inline Plane plane_of(const Bench &bench, Face face)
 {
     const Plane *plane = Surroundings::of(bench).surface(bench, solid_of(bench, face)).plane(face);
-    if (plane == nullptr)
-        throw refused(GWB_WHY_NOT_FLAT, face.number());
+    require(plane != nullptr, refused(GWB_WHY_NOT_FLAT, face.number()));
     return *plane;
 }
 
@@ -286,15 +275,13 @@ inline void require_room(const Bench &bench, const Surface &surface, const Vecto
         const Shape shape = surface.shape(of, loops);
         return any(walls, [&](const Shape &wall) { return any(wall.sides, [&](const Side &side) { return shape.meets(side); }); });
     };
-    if (any(surface.near(bench, box), is_met))
-        throw impossible(Misfit::meets, face.number());
+    require(!any(surface.near(bench, box), is_met), impossible(Misfit::meets, face.number()));
 }
 
 /// The face that a ray from a point of a face goes out through, which is parallel, and the way to it.
 inline std::pair<Face, Vector> opposite(const Bench &bench, const Surface &surface, Face face, const Vector &across, const Vector &start)
 {
-    if (longest(across) > 2 * farthest)
-        throw impossible(Misfit::off_lattice, face.number());
+    require(longest(across) <= 2 * farthest, impossible(Misfit::off_lattice, face.number()));
     const Vector back = negative(across);
     Face nearest;
     ScaledPoint way{{}, 0}; // to the nearest one
@@ -306,10 +293,8 @@ inline std::pair<Face, Vector> opposite(const Bench &bench, const Surface &surfa
         if (nearest == Face() || own < way)
             std::tie(nearest, way) = std::tuple(other, own);
     }
-    if (nearest == Face())
-        throw impossible(Misfit::no_opposite, face.number());
-    if (!are_parallel(surface.plane(nearest)->across, back))
-        throw impossible(Misfit::not_parallel, nearest.number());
+    require(nearest != Face(), impossible(Misfit::no_opposite, face.number()));
+    require(are_parallel(surface.plane(nearest)->across, back), impossible(Misfit::not_parallel, nearest.number()));
     return {nearest, on_way({}, back, way.at[0], way.scale).whole_at(nearest)};
 }
 
@@ -353,11 +338,9 @@ inline Profile make_profile(Bench &bench, Solid solid, Items<Point> points, Poin
     const Path path = path_of(points);
     const Vector across = simple_normal(path);
     const Vector way = vector(along);
-    if (longest(way) > 2 * farthest)
-        throw refused(GWB_WHY_POINT_RANGE, 0);
+    require(longest(way) <= 2 * farthest, refused(GWB_WHY_POINT_RANGE, 0));
     const int side = sign(dot(across, way));
-    if (side == 0)
-        throw impossible(Misfit::along_plane, 0);
+    require(side != 0, impossible(Misfit::along_plane, 0));
     // two faces back to back, of which the one moves to where the points run counterclockwise
     const Path drawn = side > 0 ? path : turned(path);
     const Face far = bench.next_free<Face>();
@@ -430,8 +413,7 @@ inline Pocket make_raised(Bench &bench, Face face, Items<Point> points, std::int
     require_sizes({length});
     const Drawing drawn(bench, face, points);
     const Vector way = steps_along(face, drawn.across, is_boss ? length : -length);
-    if (!all(moved(drawn.path, way), is_in_range))
-        throw is_boss ? refused(GWB_WHY_POINT_RANGE, 0) : impossible(Misfit::meets, face.number());
+    require(all(moved(drawn.path, way), is_in_range), is_boss ? refused(GWB_WHY_POINT_RANGE, 0) : impossible(Misfit::meets, face.number()));
     return move_outline(bench, face, drawn, way);
 }
 

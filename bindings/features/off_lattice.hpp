@@ -442,8 +442,7 @@ inline OffLattice made(const Bench &bench, Solid solid, const gwb_cut_plane &row
     const Plane plane = Plane::of(row);
     const std::array<Wide, 4> parts = {row.a, row.b, row.c, row.d};
     for (std::uint32_t at = 0; at < 4; at++)
-        if (magnitude(parts[at]) > (at < 3 ? Wide{farthest} : farthest_offset))
-            throw refused(GWB_WHY_PLANE_RANGE, at + 1);
+        require(magnitude(parts[at]) <= (at < 3 ? Wide{farthest} : farthest_offset), refused(GWB_WHY_PLANE_RANGE, at + 1));
     const NearPlanes near(bench, solid, plane);
     OffLattice found{solid, row, mapped(near.cuts(), [&](const Side &side) { return cut_of(side, plane); }), 1, true, {}};
     const Wide factor = found.factor = least_factor(found.cuts);

@@ -13,8 +13,7 @@ public:
     Corners(const Bench &bench, Solid solid, Items<Point> points) : names_(bench), model_(solid)
     {
         for (const Point &at : points) {
-            if (!is_in_range(vector(at)))
-                throw refused(GWB_WHY_POINT_RANGE, place(vertices_.size()));
+            require(is_in_range(vector(at)), refused(GWB_WHY_POINT_RANGE, place(vertices_.size())));
             vertices_.push_back(names_.vertices.spare());
             model_.vertices[vertices_.back()] = vector(at);
         }
@@ -24,8 +23,7 @@ public:
     void put(Items<std::uint32_t> corners)
     {
         go_on();
-        if (corners.size() < 3)
-            throw refused(GWB_WHY_FEW_POINTS, static_cast<std::uint32_t>(corners.size()));
+        require(corners.size() >= 3, refused(GWB_WHY_FEW_POINTS, static_cast<std::uint32_t>(corners.size())));
         std::vector<HalfEdge> halves;
         for (std::size_t at = 0; at < corners.size(); at++)
             halves.push_back(side(corners.data()[at], corners.data()[(at + 1) % corners.size()]));
@@ -38,8 +36,7 @@ public:
     [[nodiscard]] const Model &closed() const
     {
         for (const auto &[ends, side] : sides_)
-            if (sides_.count({ends.second, ends.first}) == 0)
-                throw impossible(Misfit::not_closed, place(side.second));
+            require(sides_.count({ends.second, ends.first}) != 0, impossible(Misfit::not_closed, place(side.second)));
         names_.require_enough();
         return model_;
     }
@@ -51,8 +48,7 @@ private:
         const auto mate = sides_.find({to, from});
         const HalfEdge half = mate != sides_.end() ? mate->second.first.twin() : plus(names_.edges.spare());
         const std::size_t face = model_.faces.size();
-        if (from == to || !sides_.emplace(std::pair(from, to), std::pair(half, face)).second)
-            throw impossible(Misfit::not_closed, place(face));
+        require(from != to && sides_.emplace(std::pair(from, to), std::pair(half, face)).second, impossible(Misfit::not_closed, place(face)));
         if (!half.is_second())
             model_.edges[half.edge()] = {vertices_[from], vertices_[to]};
         return half;

@@ -12,6 +12,12 @@ using Path = std::vector<Vector>;
 
 inline Failure impossible(Misfit why, std::uint32_t value) { return {Problem::impossible, static_cast<std::uint32_t>(why), value}; }
 inline Failure refused(gwb_why why, std::uint32_t value) { return {Problem::refused, static_cast<std::uint32_t>(why), value}; }
+/// Throws why not, where something doesn't hold.
+template <class Why> void require(bool holds, const Why &why)
+{
+    if (!holds)
+        throw why;
+}
 /// The number of a place in a list, from 1 on.
 inline std::uint32_t place(std::size_t at) { return static_cast<std::uint32_t>(at) + 1; }
 
@@ -35,9 +41,9 @@ struct ScaledPoint {
     /// The same of a point at a face. Not possible: OffLattice.
     [[nodiscard]] Vector whole_at(Face face) const
     {
-        if (const std::optional<Vector> found = whole())
-            return *found;
-        throw impossible(Misfit::off_lattice, face.number());
+        const std::optional<Vector> found = whole();
+        require(found.has_value(), impossible(Misfit::off_lattice, face.number()));
+        return *found;
     }
     /// Negative where it comes before another one, by x, then y, then z.
     [[nodiscard]] int compare(const ScaledPoint &other) const
@@ -233,8 +239,7 @@ public:
         const auto is_met = [&](const Side &side) {
             return any(own, [&](const Side &other) { return box_of(side).meets(box_of(other)) && side.meets(other, axes_); });
         };
-        if (any(sides, is_met) || locate({path[0]}) != Place::inside)
-            throw impossible(Misfit::outline_outside, face.number());
+        require(!any(sides, is_met) && locate({path[0]}) == Place::inside, impossible(Misfit::outline_outside, face.number()));
         if (any(cycles, [&](const Contour &cycle) { return machining::locate(own, {cycle[0].start}, axes_) == Place::inside; }))
             throw impossible(Misfit::outline_around_ring, face.number());
     }

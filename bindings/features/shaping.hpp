@@ -64,12 +64,9 @@ inline Tool notch_tool(Face face, const Plane &plane, const Path &points, std::i
 inline Vector side_of_strip(Face face, const Plane &plane, const Path &ends, std::int64_t width)
 {
     const Vector line = subtract(ends[1], ends[0]);
-    if (is_zero(line))
-        throw refused(GWB_WHY_REPEATED_POINT, 2);
-    if (dot(line, plane.across) != 0)
-        throw impossible(Misfit::not_in_plane, 2);
-    if (width % 2 != 0)
-        throw impossible(Misfit::off_lattice, face.number());
+    require(!is_zero(line), refused(GWB_WHY_REPEATED_POINT, 2));
+    require(dot(line, plane.across) == 0, impossible(Misfit::not_in_plane, 2));
+    require(width % 2 == 0, impossible(Misfit::off_lattice, face.number()));
     return steps_along(face, reduced(cross(plane.across, line)), width / 2);
 }
 
@@ -108,8 +105,7 @@ inline std::array<Vector, 2> setbacks(const Bench &bench, HalfEdge half, std::in
         const Wide rise = dot(step, way), square = dot(step, step);
         if (!has_line && rise <= 0)
             return add(at, step);
-        if (has_line ? rise == 0 : square > rise)
-            throw impossible(Misfit::outline_outside, face.number());
+        require(has_line ? rise != 0 : square <= rise, impossible(Misfit::outline_outside, face.number()));
         return on_way(at, way, square, rise).whole_at(face);
     };
     const HalfEdge before = bench.previous(half), after = bench.next(half);
@@ -136,12 +132,9 @@ inline Vector common_point(const Bench &bench, const std::vector<End> &ends, con
     const Wide rise = dot(third, subtract(ends[2].corner->first, start));
     const bool is_steep = longest(line) > 4 * Wide{farthest}; // so far from the start lies no point in range
     const Wide slope = is_steep ? 1 : dot(third, line);
-    if (is_zero(line) || rise == 0 || slope == 0)
-        throw apart;
-    if (is_steep || rise % slope != 0)
-        throw impossible(Misfit::off_lattice, bench.face_of(ends[0].half).number());
-    if (magnitude(rise / slope) > 4 * Wide{farthest})
-        throw refused(GWB_WHY_POINT_RANGE, 0);
+    require(!is_zero(line) && rise != 0 && slope != 0, apart);
+    require(!is_steep && rise % slope == 0, impossible(Misfit::off_lattice, bench.face_of(ends[0].half).number()));
+    require(magnitude(rise / slope) <= 4 * Wide{farthest}, refused(GWB_WHY_POINT_RANGE, 0));
     return add(start, times(line, rise / slope));
 }
 
@@ -155,8 +148,7 @@ inline void join_slopes(const Bench &bench, Vertex vertex, const std::vector<End
         points.insert({end.corner->first, end.corner->second});
     }
     const auto edges = bench.around(ends[0].half);
-    if (std::distance(edges.begin(), edges.end()) > 3 || points.size() != ends.size())
-        throw apart;
+    require(std::distance(edges.begin(), edges.end()) <= 3 && points.size() == ends.size(), apart);
     if (ends.size() < 3)
         return;
     const Vector between = common_point(bench, ends, apart);
@@ -199,15 +191,13 @@ inline std::vector<Sheet> sheets_of(const Tool &tool, bool are_cut)
     std::vector<Path> paths;
     for (const std::vector<Path> &part : tool)
         append(paths, part);
-    if (!all(paths, [](const Path &path) { return all(path, is_in_range); }))
-        throw refused(GWB_WHY_POINT_RANGE, 0);
+    require(all(paths, [](const Path &path) { return all(path, is_in_range); }), refused(GWB_WHY_POINT_RANGE, 0));
     std::vector<Sheet> sheets;
     for (const Path &seen : paths) {
         const Path path = are_cut ? backwards(seen) : seen;
         const Cycle cycle = filtered(cycle_of(path), [](const Side &side) { return side.start != side.end; }); // (points may stand for others too)
         sheets.push_back({Shape({cycle}), {Face()}, {sheets.size()}});
-        if (!sheets.back().is_flat())
-            throw refused(GWB_WHY_NOT_FLAT, 0);
+        require(sheets.back().is_flat(), refused(GWB_WHY_NOT_FLAT, 0));
     }
     return sheets;
 }
@@ -224,12 +214,10 @@ inline Combined change(Bench &bench, Face face, const Tool &tool, bool is_cut)
         const Held nothing(bench, Model(solid));
         AllNames names(bench);
         const std::optional<Combined> made = Assembly(nothing, *added, names).made(solid);
-        if (!made || !Findings(made->model, box_of(*added)).found.empty())
-            throw meets;
+        require(made && Findings(made->model, box_of(*added)).found.empty(), meets);
     }
     return make_near(bench, solid, *added, Model(), meets, [&](const Combined &found, const std::vector<Sheet> &) {
-        if (!found.marked(0, tool[lids].size()).empty())
-            throw impossible(Misfit::outline_outside, face.number());
+        require(found.marked(0, tool[lids].size()).empty(), impossible(Misfit::outline_outside, face.number()));
     });
 }
 
@@ -254,10 +242,8 @@ inline auto cut_shoulder(Bench &bench, Face face, Edge edge, std::int64_t width,
     require_sizes({width, depth});
     const Plane plane = plane_of(bench, face);
     const auto faces = bench.attempt().faces_of(edge);
-    if (!faces)
-        throw refused(GWB_WHY_NO_EDGE, edge.number());
-    if ((*faces)[0] != face && (*faces)[1] != face)
-        throw impossible(Misfit::not_of_face, edge.number());
+    require(has(faces), refused(GWB_WHY_NO_EDGE, edge.number()));
+    require((*faces)[0] == face || (*faces)[1] == face, impossible(Misfit::not_of_face, edge.number()));
     const HalfEdge half = (*faces)[0] == face ? plus(edge) : minus(edge);
     const auto ends = setbacks(bench, half, width);
     const Path strip = {start_of(bench, half), start_of(bench, half.twin()), ends[1], ends[0]};
@@ -270,18 +256,15 @@ inline bool all_bend_outwards(const Bench &bench, const std::vector<Edge> &edges
 {
     std::optional<std::pair<Solid, bool>> first;
     for (Edge edge : edges) {
-        if (!has(bench.attempt().edge(edge)))
-            throw refused(GWB_WHY_NO_EDGE, edge.number());
+        require(has(bench.attempt().edge(edge)), refused(GWB_WHY_NO_EDGE, edge.number()));
         const Side side = side_at(bench, plus(edge));
         const Face face = bench.face_of(side.half);
         const Vector across = plane_of(bench, face).across, beyond = plane_of(bench, bench.face_of(side.half.twin())).across;
-        if (are_parallel(across, beyond))
-            throw impossible(Misfit::flat_edge, edge.number());
+        require(!are_parallel(across, beyond), impossible(Misfit::flat_edge, edge.number()));
         // (what is across both normals runs along the edge, so one part of it tells which way)
         const auto [x, y] = flat_axes(side.way());
         const std::pair<Solid, bool> own = {bench.face(face).solid, compare_products(across[x], beyond[y], across[y], beyond[x]) > 0};
-        if (first.value_or(own) != own)
-            throw impossible(Misfit::not_alike, edge.number());
+        require(first.value_or(own) == own, impossible(Misfit::not_alike, edge.number()));
         first = own;
     }
     return first->second;

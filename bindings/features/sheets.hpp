@@ -46,8 +46,7 @@ inline std::vector<Cycle> cycles_of(const std::vector<Side> &sides, Axes axes, c
     const auto starts_before = [](const Side &one, const Side &other) { return one.start < other.start; };
     const auto next = [&](const Side &side) { // the first of those that leave its end, clockwise from the way back
         const auto [first, last] = std::equal_range(sides.begin(), sides.end(), side.turned(), starts_before);
-        if (first == last)
-            throw why;
+        require(first != last, why);
         const auto found = std::min_element(first, last, [&, back = side.turned().way()](const Side &one, const Side &other) {
             return comes_before(back, one.way(), other.way(), axes);
         });
@@ -88,8 +87,7 @@ inline std::vector<std::vector<Cycle>> regions_of(const std::vector<Side> &sides
             const auto off = std::find_if(hole.begin(), hole.end(), [&](const Side &side) { return place(side) != Place::on; });
             return off != hole.end() && place(*off) == Place::inside;
         });
-        if (around == found.rend())
-            throw why;
+        require(around != found.rend(), why);
         around->push_back(hole);
     }
     return found;
@@ -275,8 +273,7 @@ private:
             if (!own.crosses(across, axes_))
                 continue;
             const std::optional<Vector> at_crossing = divided(own, across.area_beside(own.start, axes_), across.area_beside(own.end, axes_)).whole();
-            if (!at_crossing)
-                throw impossible(Misfit::off_lattice, one.side.half.edge().number());
+            require(at_crossing.has_value(), impossible(Misfit::off_lattice, one.side.half.edge().number()));
             points.insert(*at_crossing);
         }
         return one.side.end < one.side.start ? Path(points.rbegin(), points.rend()) : Path(points.begin(), points.end());

@@ -54,8 +54,7 @@ inline Combined add(Bench &bench, Solid solid, Solid gone)
     for (Sheet &sheet : added)
         sheet.marks = {0};
     return make_near(bench, solid, added, other, impossible(Misfit::overlap, solid.number()), [&](const Combined &found, const std::vector<Sheet> &sheets) {
-        if (size_of(found.regions) == size_of(sheets) + size_of(added))
-            throw impossible(Misfit::no_contact, gone.number());
+        require(size_of(found.regions) != size_of(sheets) + size_of(added), impossible(Misfit::no_contact, gone.number()));
     });
 }
 
