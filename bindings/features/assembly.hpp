@@ -433,12 +433,11 @@ private:
     static std::vector<const Placed *> edges_from(const Placed *start)
     {
         std::vector<const Placed *> found;
-        for (const Placed *at = start->after;; at = at->after) {
-            if (!at->goes_on)
+        const Placed *at = start;
+        do
+            if (at = at->after; !at->goes_on)
                 found.push_back(at);
-            if (at == start)
-                break;
-        }
+        while (at != start);
         std::rotate(found.begin(), found.end() - 1, found.end());
         return found;
     }

@@ -17,38 +17,26 @@ struct Part {
     std::set<Face> fast;
 };
 
-/// The loops of a solid that meet a box, and wanted ones, by faces.
-inline std::map<Face, std::vector<Loop>> loops_near(const Bench &bench, const Surface &surface, const Box &box, const std::set<Loop> &wanted)
-{
-    std::map<Face, std::vector<Loop>> found = surface.near(bench, box);
-    for (Loop loop : wanted) {
-        std::vector<Loop> &row = found[bench.face_of(loop)];
-        if (const auto place = std::lower_bound(row.begin(), row.end(), loop); place == row.end() || *place != loop)
-            row.insert(place, loop);
-    }
-    return found;
-}
-
 /// The faces of a solid whose outlines meet a box, or are wanted. Rings of theirs that don't, and aren't, are left out where the face looks the same way
 /// without them.
 inline Part part_near(const Bench &bench, const Surface &surface, Solid solid, const Box &box, const std::set<Loop> &wanted)
 {
     Part found{Model(solid), {}};
-    for (const auto &row : loops_near(bench, surface, box, wanted)) {
-        const Face face = row.first;
-        const std::vector<Loop> &near = row.second;
+    std::map<Face, std::set<Loop>> near = surface.near(bench, box);
+    for (Loop loop : wanted)
+        near[bench.face_of(loop)].insert(loop);
+    for (const auto &[face, loops] : near) {
         const Loop outer = bench.face(face).outer_loop;
-        if (!std::binary_search(near.begin(), near.end(), outer))
+        if (loops.count(outer) == 0)
             continue;
         const Plane *plane = surface.plane(face);
         const bool needs_all = plane == nullptr || dot(plane->across, area_of(surface.cycle(outer))) <= 0;
         const auto rings = bench.rings(face);
-        const auto is_far = [&](Loop ring) { return !std::binary_search(near.begin(), near.end(), ring); };
-        const bool is_fast = !needs_all && any(rings, is_far);
+        const bool is_fast = !needs_all && any(rings, [&near = loops](Loop ring) { return near.count(ring) == 0; });
         if (is_fast)
             found.fast.insert(face);
         found.model.read(bench, face, outer);
-        for (Loop ring : is_fast ? near : std::vector<Loop>(rings.begin(), rings.end()))
+        for (Loop ring : is_fast ? loops : std::set<Loop>(rings.begin(), rings.end()))
             if (ring != outer)
                 found.model.read(bench, face, ring);
     }

@@ -150,10 +150,7 @@ inline Motion turn(std::uint32_t axis, std::uint32_t quarters, const gwb_point &
 
 inline std::vector<Model> all_read(const Bench &bench)
 {
-    std::vector<Model> models;
-    for (Solid solid : bench.numbers<Solid>())
-        models.push_back(Model::whole(bench, solid));
-    return models;
+    return mapped(bench.numbers<Solid>(), [&](Solid solid) { return Model::whole(bench, solid); });
 }
 
 /// All numbers become as low as they can be, in their order.

@@ -108,10 +108,7 @@ inline void require_apart(const Model &before, const Path &corners, std::initial
 /// The faces of a solid above a number that lie in a plane.
 inline std::vector<Face> faces_in(const Bench &bench, Solid solid, Face above, const Plane &plane)
 {
-    const auto faces = bench.faces(solid);
-    return filtered(std::vector<Face>(faces.begin(), faces.end()), [&](Face face) {
-        return face > above && lie_in(joined(cycles_at(bench, face)), plane);
-    });
+    return filtered(bench.faces(solid), [&](Face face) { return face > above && lie_in(joined(cycles_at(bench, face)), plane); });
 }
 
 /// The faces that close the part below a plane, and those that close the one above.

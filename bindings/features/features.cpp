@@ -407,12 +407,10 @@ bool gwb_advice_fits(const gwb_advice *advice) { return advice->found.fits; }
 size_t gwb_advice_cuts(const gwb_advice *advice, gwb_edge_cut *to, size_t room)
 {
     return rows(advice->found.cuts, to, room, [](const cutting::EdgeCut &cut) {
-        gwb_edge_cut row{cut.edge.number(), {}, {}};
-        for (size_t axis = 0; axis < 3; axis++) {
-            row.numerators[axis] = wide(cut.point[axis].numerator);
-            row.denominators[axis] = wide(cut.point[axis].denominator);
-        }
-        return row;
+        const auto &[x, y, z] = cut.point;
+        return gwb_edge_cut{cut.edge.number(),
+                            {wide(x.numerator), wide(y.numerator), wide(z.numerator)},
+                            {wide(x.denominator), wide(y.denominator), wide(z.denominator)}};
     });
 }
 

@@ -94,13 +94,10 @@ inline Side side_at(const Bench &bench, HalfEdge half) { return {start_of(bench,
 /// The sides of the loops of a face, the outer one first; the vertex of a lone one, as a side of no length.
 inline std::vector<Cycle> cycles_at(const Bench &bench, Face face)
 {
-    std::vector<Cycle> found;
-    for (Loop loop : bench.loops_of(face))
-        if (const std::optional<Vertex> vertex = bench.lone_vertex(loop))
-            found.push_back(cycle_of({vector(bench.vertex(*vertex))}));
-        else
-            found.push_back(mapped(bench.half_edges(loop), [&](HalfEdge half) { return side_at(bench, half); }));
-    return found;
+    return mapped(bench.loops_of(face), [&](Loop loop) {
+        const std::optional<Vertex> vertex = bench.lone_vertex(loop);
+        return vertex ? cycle_of({vector(bench.vertex(*vertex))}) : mapped(bench.half_edges(loop), [&](HalfEdge half) { return side_at(bench, half); });
+    });
 }
 
 // ---- what lies near
@@ -151,19 +148,19 @@ public:
     /// The plane of a face, where that is plain and flat.
     [[nodiscard]] const Plane *plane(Face face) const { return look_up(planes_, face); }
     /// Such a face, so far as some of its loops tell.
-    [[nodiscard]] Shape shape(Face face, const std::vector<Loop> &loops) const
+    [[nodiscard]] Shape shape(Face face, const std::set<Loop> &loops) const
     {
         return {planes_.at(face), mapped(loops, [&](Loop loop) { return cycle(loop); })};
     }
     [[nodiscard]] const Cycle &cycle(Loop loop) const { return loops_.at(loop); }
 
     /// The loops that meet a box, by faces.
-    [[nodiscard]] std::map<Face, std::vector<Loop>> near(const Bench &bench, const Box &box) const
+    [[nodiscard]] std::map<Face, std::set<Loop>> near(const Bench &bench, const Box &box) const
     {
-        std::map<Face, std::vector<Loop>> found;
+        std::map<Face, std::set<Loop>> found;
         for (std::size_t number : boxes_.meeting(box)) {
             const Loop loop(static_cast<std::uint32_t>(number));
-            found[bench.face_of(loop)].push_back(loop);
+            found[bench.face_of(loop)].insert(loop);
         }
         return found;
     }

@@ -65,13 +65,10 @@ inline std::vector<Face> faces(const Bench &bench, const gwb_face_query &query)
     const Solid solid(query.solid);
     if (solid != Solid())
         require_solid(bench, solid);
-    std::vector<Face> found;
-    for (Face face : solid != Solid() ? bench.faces(solid) : bench.numbers<Face>()) {
+    return filtered(solid != Solid() ? bench.faces(solid) : bench.numbers<Face>(), [&](Face face) {
         go_on();
-        if (fits(bench, face, query))
-            found.push_back(face);
-    }
-    return found;
+        return fits(bench, face, query);
+    });
 }
 
 /// The half-edges of the edges among which others are sought. Refused: NoFace, NoSolid.

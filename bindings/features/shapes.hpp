@@ -125,10 +125,7 @@ inline ScaledPoint divided(const Side &side, Wide before, Wide after)
 using Cycle = std::vector<Side>;
 
 /// Points, so much further on.
-inline Path moved(const Path &path, const Vector &way)
-{
-    return mapped(path, [&](const Vector &at) { return add(at, way); });
-}
+inline Path moved(const Path &path, const Vector &way) { return mapped(path, [&](const Vector &at) { return add(at, way); }); }
 /// The cycle through points.
 inline Cycle cycle_of(const Path &path)
 {
@@ -181,10 +178,7 @@ inline bool lie_in(const std::vector<Side> &sides, const Plane &plane)
 {
     return all(sides, [&](const Side &side) { return plane.height(side.start) == 0; });
 }
-inline bool have_lengths(const std::vector<Side> &sides)
-{
-    return all(sides, [](const Side &side) { return side.start != side.end; });
-}
+inline bool have_lengths(const std::vector<Side> &sides) { return all(sides, [](const Side &side) { return side.start != side.end; }); }
 
 /// The plane of a face with these sides: none where one has no length, as that of a lone loop, the face has no area, or a vertex lies off its plane.
 inline std::optional<Plane> flat_plane(const std::vector<Side> &sides)

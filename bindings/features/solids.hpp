@@ -16,9 +16,9 @@ template <class Item, class Added> void append(std::vector<Item> &to, const Adde
 template <class All, class Test> bool all(const All &items, Test test) { return std::all_of(items.begin(), items.end(), test); }
 template <class All, class Test> bool any(const All &items, Test test) { return std::any_of(items.begin(), items.end(), test); }
 /// Those for which it holds.
-template <class Item, class Test> std::vector<Item> filtered(const std::vector<Item> &items, Test test)
+template <class All, class Test> auto filtered(const All &items, Test test)
 {
-    std::vector<Item> found;
+    std::vector<std::decay_t<decltype(*items.begin())>> found;
     std::copy_if(items.begin(), items.end(), std::back_inserter(found), test);
     return found;
 }
@@ -26,7 +26,8 @@ template <class Item, class Test> std::vector<Item> filtered(const std::vector<I
 template <class All, class Of> auto mapped(const All &items, Of of)
 {
     std::vector<std::decay_t<decltype(of(*items.begin()))>> found;
-    found.reserve(items.size());
+    if constexpr (std::is_convertible_v<typename std::iterator_traits<decltype(items.begin())>::iterator_category, std::forward_iterator_tag>)
+        found.reserve(items.size());
     std::transform(items.begin(), items.end(), std::back_inserter(found), of);
     return found;
 }

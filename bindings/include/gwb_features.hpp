@@ -45,6 +45,70 @@ inline std::vector<std::array<std::uint32_t, 2>> pairs(const gwb *g, gwb_list wh
     return rows<std::array<std::uint32_t, 2>>([&](auto *to, std::size_t room) { return gwb_made(g, which, to->data(), 2 * room) / 2; });
 }
 
+/// Gives a call of gwb_features.h with these arguments. `make` makes what it gives of what was written.
+template <class Policy, class Call, class Make, class... All> auto give(Commands<Policy> &bench, const char *command, Make make, Call call, All... arguments)
+{
+    return bench.feature(command, [&](gwb *g, gwb_refusal *why) { return call(g, arguments..., why); }, make);
+}
+
+/// The number of a new solid, where none is given for it.
+template <class Policy> Solid next_solid(Commands<Policy> &bench) { return bench.attempt().template next_free<Solid>().value_or(Solid()); }
+
+/// A row of solids, so many with the one that they are of: those that are new.
+template <class Policy, class Call, class... All>
+auto row(Commands<Policy> &bench, const char *command, Call call, Solid solid, std::uint32_t count, All... arguments)
+{
+    constexpr std::uint32_t most_solids = 1'000'000; // more are refused before any is written
+    std::vector<std::uint32_t> made(count > 0 && count <= most_solids ? count - 1 : 0);
+    return give(bench, command, [&] { return things<Solid>(made); }, call, solid.number(), count, arguments..., made.data());
+}
+
+/// A pocket or a boss.
+template <class Policy, class Call>
+auto raise(Commands<Policy> &bench, const char *command, Call call, Face face, Items<Point> points, std::int64_t length)
+{
+    gwb_outline_made made{};
+    std::vector<std::uint32_t> sides(points.size());
+    return give(bench, command, [&] { return Pocket{Face(made.face), Loop(made.loop), things<Face>(sides)}; }, call, face.number(), points.data(),
+                points.size(), length, &made, sides.data());
+}
+
+/// A notch, slot, groove or shoulder.
+template <class Policy, class Call, class... All> auto notch(Commands<Policy> &bench, const char *command, Call call, Face face, All... arguments)
+{
+    const auto made = [&] { return Notch{faces(bench.handle(), GWB_MADE_FLOOR), faces(bench.handle(), GWB_MADE_WALLS)}; };
+    return give(bench, command, made, call, face.number(), arguments...);
+}
+
+/// A split or a cut; where no number is given for the solid above, it takes the next one.
+template <class Policy, class Call>
+Answer<Policy, Split> split(Commands<Policy> &bench, const char *command, Call call, Solid solid, const gwb_cut_plane &plane, std::optional<Solid> above)
+{
+    const Solid upper = above ? *above : next_solid(bench);
+    const auto made = [&] { return Split{upper, faces(bench.handle(), GWB_MADE_LOWER_CAPS), faces(bench.handle(), GWB_MADE_UPPER_CAPS)}; };
+    return give(bench, command, made, call, solid.number(), &plane, upper.number());
+}
+
+template <class T> const T *pointer(const std::optional<T> &value) { return value ? &*value : nullptr; }
+
+/// What a query finds, which is asked for twice.
+template <class Kind, class Policy, class Query, class Call>
+Answer<Policy, std::vector<Kind>> found(const Commands<Policy> &bench, const char *reader, const Query &query, Call call)
+{
+    std::vector<std::uint32_t> numbers;
+    std::size_t count = 64;
+    gwb_refusal why{};
+    gwb_kind kind = GWB_OK;
+    while (kind == GWB_OK && count > numbers.size()) {
+        numbers.resize(count);
+        kind = call(bench.handle(), &query, numbers.data(), numbers.size(), &count, &why);
+    }
+    if (kind != GWB_OK)
+        return Policy::template failed<std::vector<Kind>>(reader, bench.feature_failure(kind, why));
+    numbers.resize(count);
+    return things<Kind>(numbers);
+}
+
 } // namespace features
 
 /// Which of the parts that were made last are of which.
@@ -98,54 +162,6 @@ public:
         return before;
     }
 };
-
-namespace features {
-
-/// Gives a call of gwb_features.h with these arguments. `make` makes what it gives of what was written.
-template <class Policy, class Call, class Make, class... All> auto give(Commands<Policy> &bench, const char *command, Make make, Call call, All... arguments)
-{
-    return bench.feature(command, [&](gwb *g, gwb_refusal *why) { return call(g, arguments..., why); }, make);
-}
-
-/// The number of a new solid, where none is given for it.
-template <class Policy> Solid next_solid(Commands<Policy> &bench) { return bench.attempt().template next_free<Solid>().value_or(Solid()); }
-
-/// A row of solids, so many with the one that they are of: those that are new.
-template <class Policy, class Call, class... All>
-auto row(Commands<Policy> &bench, const char *command, Call call, Solid solid, std::uint32_t count, All... arguments)
-{
-    constexpr std::uint32_t most_solids = 1'000'000; // more are refused before any is written
-    std::vector<std::uint32_t> made(count > 0 && count <= most_solids ? count - 1 : 0);
-    return give(bench, command, [&] { return things<Solid>(made); }, call, solid.number(), count, arguments..., made.data());
-}
-
-/// A pocket or a boss.
-template <class Policy, class Call>
-auto raise(Commands<Policy> &bench, const char *command, Call call, Face face, Items<Point> points, std::int64_t length)
-{
-    gwb_outline_made made{};
-    std::vector<std::uint32_t> sides(points.size());
-    return give(bench, command, [&] { return Pocket{Face(made.face), Loop(made.loop), things<Face>(sides)}; }, call, face.number(), points.data(),
-                points.size(), length, &made, sides.data());
-}
-
-/// A notch, slot, groove or shoulder.
-template <class Policy, class Call, class... All> auto notch(Commands<Policy> &bench, const char *command, Call call, Face face, All... arguments)
-{
-    const auto made = [&] { return Notch{faces(bench.handle(), GWB_MADE_FLOOR), faces(bench.handle(), GWB_MADE_WALLS)}; };
-    return give(bench, command, made, call, face.number(), arguments...);
-}
-
-/// A split or a cut; where no number is given for the solid above, it takes the next one.
-template <class Policy, class Call>
-Answer<Policy, Split> split(Commands<Policy> &bench, const char *command, Call call, Solid solid, const gwb_cut_plane &plane, std::optional<Solid> above)
-{
-    const Solid upper = above ? *above : next_solid(bench);
-    const auto made = [&] { return Split{upper, faces(bench.handle(), GWB_MADE_LOWER_CAPS), faces(bench.handle(), GWB_MADE_UPPER_CAPS)}; };
-    return give(bench, command, made, call, solid.number(), &plane, upper.number());
-}
-
-} // namespace features
 
 /// The solid goes, with all its parts.
 template <class Policy> Answer<Policy, void> kill_solid(Commands<Policy> &bench, Solid solid)
@@ -366,30 +382,6 @@ struct EdgeQuery {
     std::optional<Point> along; ///< one way or the other
     std::optional<Ratio> length;
 };
-
-namespace features {
-
-template <class T> const T *pointer(const std::optional<T> &value) { return value ? &*value : nullptr; }
-
-/// What a query finds, which is asked for twice.
-template <class Kind, class Policy, class Query, class Call>
-Answer<Policy, std::vector<Kind>> found(const Commands<Policy> &bench, const char *reader, const Query &query, Call call)
-{
-    std::vector<std::uint32_t> numbers;
-    std::size_t count = 64;
-    gwb_refusal why{};
-    gwb_kind kind = GWB_OK;
-    while (kind == GWB_OK && count > numbers.size()) {
-        numbers.resize(count);
-        kind = call(bench.handle(), &query, numbers.data(), numbers.size(), &count, &why);
-    }
-    if (kind != GWB_OK)
-        return Policy::template failed<std::vector<Kind>>(reader, bench.feature_failure(kind, why));
-    numbers.resize(count);
-    return things<Kind>(numbers);
-}
-
-} // namespace features
 
 /// The faces that are sought, rising. Refused: NoSolid. NoCall where a plane or a direction is zero.
 template <class Policy> Answer<Policy, std::vector<Face>> find_faces(const Commands<Policy> &bench, const FaceQuery &query)
