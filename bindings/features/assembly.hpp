@@ -99,14 +99,6 @@ struct Model {
         }
         return text + '\n';
     }
-
-private:
-    /// Writes a word, and numbers after it.
-    template <class... All> static void put(std::string &text, const char *word, std::int64_t number, All... numbers)
-    {
-        (text += word) += std::to_string(number);
-        ((text += ' ', text += std::to_string(numbers)), ...);
-    }
 };
 
 /// A solid becomes what a model of all of it says.
@@ -122,7 +114,7 @@ public:
     Held(const Bench &bench, Model parts) : model(std::move(parts)), bench_(bench)
     {
         for (const auto &[vertex, at] : model.vertices)
-            vertices_at.emplace(at, vertex);
+            vertices_at[at].push_back(vertex);
         put_rest();
     }
 
@@ -140,16 +132,16 @@ public:
     /// Whether a vertex at the point stays: it has two edges, so that somebody wanted it there, or one that is of the rest alone.
     [[nodiscard]] bool is_fixed(const Vector &point) const
     {
-        const auto [first, last] = vertices_at.equal_range(point);
-        return std::any_of(first, last, [&](const auto &row) {
-            const auto halves = bench_.around(row.second);
+        const std::vector<Vertex> *here = look_up(vertices_at, point);
+        return here != nullptr && any(*here, [&](Vertex vertex) {
+            const auto halves = bench_.around(vertex);
             return any(halves, [&](HalfEdge half) { return !is_held(half) && !is_held(half.twin()); }) || std::distance(halves.begin(), halves.end()) == 2;
         });
     }
 
     Model model;
     std::vector<Cycle> rest; ///< the half-edges of the rest at the open edges, in cycles
-    std::multimap<Vector, Vertex> vertices_at;
+    std::map<Vector, std::vector<Vertex>> vertices_at;
 
 private:
     [[nodiscard]] bool is_held(HalfEdge half) const { return loop_of(half) != Loop(); }
@@ -216,10 +208,8 @@ class Assembly {
 public:
     Assembly(const Held &held, const std::vector<Sheet> &regions, AllNames &names) : held_(held), regions_(regions), names_(names)
     {
-        for (const Sheet &region : regions_) {
-            go_on();
+        for (const Sheet &region : regions_)
             starts_.push_back(mapped(region.cycles, [&](const Cycle &cycle) { return put(cycle, &region); }));
-        }
         for (const Cycle &cycle : held.rest)
             put(cycle, nullptr);
     }
@@ -273,6 +263,7 @@ private:
     /// The first of the sides of a cycle, which follow each other.
     Placed *put(const Cycle &cycle, const Sheet *region)
     {
+        go_on();
         Placed *first = &sides_.emplace_back(Placed{cycle[0], region}), *last = first;
         for (std::size_t at = 1; at < cycle.size(); at++)
             last = last->after = &sides_.emplace_back(Placed{cycle[at], region});
@@ -391,9 +382,8 @@ private:
         for (const Placed *placed : fan)
             if (placed->side.is_old())
                 tails.insert(held_.model.start(placed->side.half));
-        std::vector<Vertex> found;
-        for (auto [old, end] = held_.vertices_at.equal_range(fan[0]->side.start); old != end; ++old)
-            found.push_back(old->second);
+        const std::vector<Vertex> *here = look_up(held_.vertices_at, fan[0]->side.start);
+        std::vector<Vertex> found = here != nullptr ? *here : std::vector<Vertex>();
         std::stable_partition(found.begin(), found.end(), [&](Vertex vertex) { return tails.count(vertex) != 0; });
         return found;
     }

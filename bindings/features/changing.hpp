@@ -144,10 +144,8 @@ public:
     void take(const std::set<Loop> &left, RingFaces &ring_faces)
     {
         rings_out(left, ring_faces);
-        for (const auto &[name, loops] : connected(left)) {
-            go_on();
+        for (const auto &[name, loops] : connected(left))
             down(loops);
-        }
         require(!cores.empty(), OtherKind());
         for (const auto &[loop, vertex] : roots_)
             grow_in(loop, vertex);
@@ -195,6 +193,7 @@ private:
     /// One connected part becomes a face for each of its outlines, or comes down to a vertex.
     void down(const std::vector<Loop> &loops)
     {
+        go_on();
         std::vector<HalfEdge> edges, border;
         std::set<Vertex> vertices;
         for (Loop loop : loops)

@@ -40,6 +40,7 @@ inline std::vector<Side> cuts_of(const Sheet &sheet, const Plane &plane)
 /// Puts in what is left of a face below the plane. A face in the plane is left where it looks upwards.
 inline void put_below(const Sheet &sheet, const Plane &plane, const Failure &why, std::vector<Sheet> &left)
 {
+    go_on();
     const bool is_below = any(sheet.sides, [&](const Side &side) { return plane.height(side.start) < 0; });
     const bool is_above = any(sheet.sides, [&](const Side &side) { return plane.height(side.start) > 0; });
     if (!is_above && (is_below || dot(sheet.plane.across, plane.across) > 0))
@@ -74,10 +75,8 @@ inline Combined part_below(const Held &held, const std::vector<Sheet> &sheets, c
 {
     const Failure meets = impossible(Misfit::meets, held.model.solid.number());
     std::vector<Sheet> left, caps;
-    for (const Sheet &sheet : sheets) {
-        go_on();
+    for (const Sheet &sheet : sheets)
         put_below(sheet, plane, meets, left);
-    }
     for (const std::vector<Cycle> &cycles : regions_of(open_sides(left, plane), plane.across, meets))
         caps.push_back({Shape(cycles), {Face()}, {caps.size()}});
     Result<std::vector<Sheet>> laid = tried([&] { return overlaid(left, caps); });

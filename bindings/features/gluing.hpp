@@ -24,7 +24,6 @@ inline std::vector<Match> matches(const Bench &bench, Items<Solid> solids)
     for (Solid solid : solids) {
         require_solid(bench, solid);
         for (Face face : bench.faces(solid)) {
-            go_on();
             if (!bench.rings(face).empty())
                 continue;
             const Path path = from_least(mapped(cycles_at(bench, face)[0], [](const machining::Side &side) { return side.start; }));

@@ -5,7 +5,6 @@
 #ifndef GWB_FEATURES_MACHINING_HPP
 #define GWB_FEATURES_MACHINING_HPP
 #include "shapes.hpp"
-#include <set>
 
 namespace gwb_session::machining {
 
@@ -94,6 +93,7 @@ inline Side side_at(const Bench &bench, HalfEdge half) { return {start_of(bench,
 /// The sides of the loops of a face, the outer one first; the vertex of a lone one, as a side of no length.
 inline std::vector<Cycle> cycles_at(const Bench &bench, Face face)
 {
+    go_on();
     return mapped(bench.loops_of(face), [&](Loop loop) {
         const std::optional<Vertex> vertex = bench.lone_vertex(loop);
         return vertex ? cycle_of({vector(bench.vertex(*vertex))}) : mapped(bench.half_edges(loop), [&](HalfEdge half) { return side_at(bench, half); });
@@ -107,10 +107,8 @@ class Surface {
 public:
     Surface(const Bench &bench, Solid solid)
     {
-        for (Face face : bench.faces(solid)) {
-            go_on();
+        for (Face face : bench.faces(solid))
             put(bench, face);
-        }
     }
 
     /// Takes in a face that is new.

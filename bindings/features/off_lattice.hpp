@@ -84,9 +84,8 @@ struct OffLattice {
 private:
     [[nodiscard]] std::string split(const gwb_cut_plane &by, Solid above) const
     {
-        std::string text = "split " + std::to_string(solid.number());
-        for (std::int64_t part : {by.a, by.b, by.c, by.d, static_cast<std::int64_t>(above.number())})
-            text += " " + std::to_string(part);
+        std::string text;
+        put(text, "split ", solid.number(), by.a, by.b, by.c, by.d, above.number());
         return text + "\n";
     }
 };
@@ -245,10 +244,7 @@ class NearPlanes {
 public:
     NearPlanes(const Bench &bench, Solid solid, const Plane &plane) : plane_(plane)
     {
-        for (Face face : bench.faces(solid)) {
-            go_on();
-            faces_.push_back(cycles_at(bench, face));
-        }
+        faces_ = mapped(bench.faces(solid), [&](Face face) { return cycles_at(bench, face); });
         edges_ = mapped(selection::edges(bench, {solid.number(), {}, nullptr, nullptr}), [&](Edge edge) { return side_at(bench, plus(edge)); });
         const auto others = std::stable_partition(edges_.begin(), edges_.end(), [&](const Side &side) {
             return sign(plane.height(side.start)) * sign(plane.height(side.end)) < 0;
@@ -260,11 +256,8 @@ public:
     /// How far a coordinate of the solid lies out at most.
     [[nodiscard]] Wide reach() const
     {
-        Wide reach = 0;
-        for (const std::vector<Cycle> &loops : faces_)
-            for (const Side &side : joined(loops))
-                reach = std::max(reach, longest(side.start));
-        return reach;
+        const Box box = box_of(joined(joined(faces_)));
+        return std::max(longest(box.low), longest(box.high));
     }
 
     /// The nearest plane with the same normal.

@@ -65,23 +65,19 @@ inline std::vector<Face> faces(const Bench &bench, const gwb_face_query &query)
     const Solid solid(query.solid);
     if (solid != Solid())
         require_solid(bench, solid);
-    return filtered(solid != Solid() ? bench.faces(solid) : bench.numbers<Face>(), [&](Face face) {
-        go_on();
-        return fits(bench, face, query);
-    });
+    return filtered(solid != Solid() ? bench.faces(solid) : bench.numbers<Face>(), [&](Face face) { return fits(bench, face, query); });
 }
 
 /// The half-edges of the edges among which others are sought. Refused: NoFace, NoSolid.
 inline std::vector<gwb_half_edge_row> candidates(const Bench &bench, const gwb_edge_query &query)
 {
     const Solid solid(query.solid);
-    const bool are_between = query.between[0] != 0;
     for (std::uint32_t face : query.between)
-        if (are_between)
+        if (face != 0)
             (void)solid_of(bench, Face(face));
     if (solid != Solid())
         require_solid(bench, solid);
-    if (are_between)
+    if (query.between[0] != 0)
         return bench.half_edge_rows(Face(query.between[0]));
     return solid != Solid() ? bench.half_edge_rows(solid) : bench.half_edge_rows();
 }

@@ -136,13 +136,13 @@ inline Cycle cycle_of(const Path &path)
     return cycle;
 }
 
-/// The sides of all of some cycles.
-inline std::vector<Side> joined(const std::vector<Cycle> &cycles)
+/// The items of lists, as of the sides of cycles, in a row.
+template <class Lists> auto joined(const Lists &lists)
 {
-    std::vector<Side> sides;
-    for (const Cycle &cycle : cycles)
-        append(sides, cycle);
-    return sides;
+    std::decay_t<decltype(*lists.begin())> items;
+    for (const auto &list : lists)
+        append(items, list);
+    return items;
 }
 
 /// Twice the area that the sides of cycles go round, as a vector.

@@ -188,9 +188,7 @@ inline Tool chamfer_tool(const Bench &bench, const std::vector<Edge> &edges, std
 /// The faces of a tool as sheets: the lids, the floors, and then the walls; seen from outside, or from inside where they cut.
 inline std::vector<Sheet> sheets_of(const Tool &tool, bool are_cut)
 {
-    std::vector<Path> paths;
-    for (const std::vector<Path> &part : tool)
-        append(paths, part);
+    const std::vector<Path> paths = joined(tool);
     require(all(paths, [](const Path &path) { return all(path, is_in_range); }), refused(GWB_WHY_POINT_RANGE, 0));
     std::vector<Sheet> sheets;
     for (const Path &seen : paths) {

@@ -3,7 +3,6 @@
 #ifndef GWB_FEATURES_SHEETS_HPP
 #define GWB_FEATURES_SHEETS_HPP
 #include "machining.hpp"
-#include <map>
 #include <unordered_map>
 
 namespace gwb_session::sheets {

@@ -32,6 +32,13 @@ template <class All, class Of> auto mapped(const All &items, Of of)
     return found;
 }
 
+/// Writes a word after a text, and numbers after it.
+template <class... All> void put(std::string &text, const char *word, std::int64_t number, All... numbers)
+{
+    (text += word) += std::to_string(number);
+    ((text += ' ', text += std::to_string(numbers)), ...);
+}
+
 // ---- free numbers
 
 /// Free numbers of a kind, above all in use.
@@ -53,21 +60,16 @@ public:
     {
         if (last_ < greatest_number)
             return spare();
+        std::uint32_t used = 0;
         do
             gap_++;
-        while (gap_ <= greatest_number && is_in_use(gap_));
+        while (gap_ <= greatest_number && gwb_number_after(bench_.handle(), Kind::kind, gap_ - 1, &used) == GWB_FOUND && used == gap_);
         return Kind(gap_);
     }
     [[nodiscard]] bool is_spent() const { return std::max(last_, gap_) > greatest_number; }
 
 private:
     static constexpr std::uint32_t greatest_number = 1'000'000;
-
-    [[nodiscard]] bool is_in_use(std::uint32_t number) const
-    {
-        std::uint32_t found = 0;
-        return gwb_number_after(bench_.handle(), Kind::kind, number - 1, &found) == GWB_FOUND && found == number;
-    }
 
     const Bench &bench_;
     std::uint32_t last_, gap_ = 0;
