@@ -202,8 +202,7 @@ struct Combined {
     }
 };
 
-/// A closed surface of regions put together: sides, what follows each in its loop, and the mate of each. What was there before keeps its numbers,
-/// as far as it still is.
+/// A closed surface of regions put together: sides, what follows each in its loop, and the mate of each.
 class Assembly {
 public:
     Assembly(const Held &held, const std::vector<Sheet> &regions, AllNames &names) : held_(held), regions_(regions), names_(names)
@@ -214,12 +213,11 @@ public:
             put(cycle, nullptr);
     }
 
-    /// The model of a solid, without the rest, once; none where the surface isn't closed, or faces lie back to back at an edge.
-    std::optional<Combined> made(Solid solid)
+    /// The model of a solid, without the rest, once. Throws `why` where the surface isn't closed, or faces lie back to back at an edge.
+    Combined made(Solid solid, const Failure &why)
     {
         pair_whole();
-        if (!pair_along_lines())
-            return std::nullopt;
+        require(pair_along_lines(), why);
         std::vector<HalfEdge> beyond;
         for (Placed &placed : sides_)
             if ((placed.goes_on = divides(placed)) && placed.region == nullptr)
@@ -323,8 +321,7 @@ private:
         }
     }
 
-    /// Mates among sides between the same two points: each that runs back with the next one round the line that runs along, which has the same
-    /// room of the solid between.
+    /// Mates among sides between the same two points: each that runs back with the next one round the line, which runs along; the solid lies between.
     bool pair(Row sides, const Vector &way)
     {
         if (sides.size() > 2)

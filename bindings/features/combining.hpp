@@ -17,8 +17,7 @@ struct Part {
     std::set<Face> fast;
 };
 
-/// The faces of a solid whose outlines meet a box, or are wanted. Rings of theirs that don't, and aren't, are left out where the face looks the same way
-/// without them.
+/// The faces of a solid whose outlines meet a box or are wanted, without the other rings where the face looks the same way without them.
 inline Part part_near(const Bench &bench, const Surface &surface, Solid solid, const Box &box, const std::set<Loop> &wanted)
 {
     Part found{Model(solid), {}};
@@ -89,15 +88,13 @@ Combined combined(const Bench &bench, const Model &part, const std::vector<Sheet
     if (regions->empty() && all(bench.faces(part.solid), [&](Face face) { return part.faces.count(face) != 0; }))
         throw impossible(Misfit::nothing_left, part.solid.number());
     const Held held(bench, part.with(Model(), other));
-    const std::optional<Combined> found = Assembly(held, *regions, names).made(part.solid);
-    require(found.has_value(), why);
-    check(*found, sheets);
-    require(!touch_anew({&part, &other}, {&found->model}, box_of(added)) && !comes_into(sheets, added), why);
-    return *found;
+    Combined found = Assembly(held, *regions, names).made(part.solid, why);
+    check(found, sheets);
+    require(!touch_anew({&part, &other}, {&found.model}, box_of(added)) && !comes_into(sheets, added), why);
+    return found;
 }
 
-/// The operators that move rings of a face that weren't looked at to those faces that it went into in which they lie; none where all corners of one
-/// lie on outlines.
+/// The operators that move rings of a face that weren't looked at to the faces that it went into; none where all corners of one lie on outlines.
 inline std::optional<std::vector<Operator>> moves(const Bench &bench, const Surface &surface, Face face, const std::vector<Loop> &looked_at,
                                                   const Regions &became)
 {
@@ -117,8 +114,7 @@ inline std::optional<std::vector<Operator>> moves(const Bench &bench, const Surf
     return found;
 }
 
-/// The operators that turn a part of a solid into what comes of it; none where they aren't of the kind, or rings that weren't looked at are in
-/// the way.
+/// The operators that turn a part of a solid into what comes of it; none where they aren't of the kind, or rings not looked at are in the way.
 inline std::optional<std::vector<Operator>> operators_for(const Bench &bench, const Surface &surface, const Part &part, const Combined &combined,
                                                           AllNames &names)
 {
@@ -143,8 +139,8 @@ inline void give(Bench &bench, const std::vector<Operator> &operators)
     }
 }
 
-/// The loops that are wanted besides those of a part, of which no operators make what is to come of it: those along which edges at its rim become one, and
-/// the outlines around them; where there are none, the rings that it lacks.
+/// The loops that are wanted besides a part's, where no operators make of it what is to come: those along which edges at its rim become one, and the
+/// outlines around them; where there are none, the rings that it lacks.
 inline std::set<Loop> wanted_besides(const Bench &bench, const Part &part, const Combined &combined)
 {
     std::set<Loop> found;
@@ -157,8 +153,8 @@ inline std::set<Loop> wanted_besides(const Bench &bench, const Part &part, const
     return found;
 }
 
-/// Makes what comes of the faces of a solid near sheets that are added: by operators on those that differ, without the loops elsewhere, else with what
-/// is wanted of these; where that can't be, all of the solid is made anew. The solid whose faces are added, where they are any's, is taken away.
+/// Makes what comes of the faces of a solid near sheets that are added: by operators on those that differ, without the loops elsewhere, else with the
+/// wanted ones; where that can't be, all of the solid is made anew. The solid whose faces are added, where they are any's, is taken away.
 template <class Check>
 Combined make_near(Bench &bench, Solid solid, const std::vector<Sheet> &added, const Model &other, const Failure &why, Check check)
 {

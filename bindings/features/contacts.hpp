@@ -25,18 +25,16 @@ inline bool comes_into(const std::vector<Sheet> &held, const std::vector<Sheet> 
     BoxIndex boxes;
     for (std::size_t at = 0; at < added.size(); at++)
         boxes.put(added[at].box, at);
-    for (const Sheet &sheet : held) {
+    return any(held, [&](const Sheet &sheet) {
         go_on();
         if (!sheet.is_flat())
-            continue;
+            return false;
         if (any(boxes.meeting(sheet.box), [&](std::size_t at) { return added[at].passes_through(sheet); }))
             return true;
         const bool is_within = all(sheet.sides, [&](const Side &side) { return box_of(side.start).meets(around); });
         const std::optional<ScaledPoint> inner = is_within ? sheet.inner_point() : std::nullopt;
-        if (inner && is_bound(added, *inner))
-            return true;
-    }
-    return false;
+        return inner && is_bound(added, *inner);
+    });
 }
 
 // ---- what meets or touches

@@ -71,8 +71,7 @@ private:
 
 // ---- models
 
-/// The model elsewhere, so many times as large first. Loops of a mirror image run the other way, by the mates of their half-edges. Refused:
-/// PointRange, with the least vertex.
+/// The model elsewhere, so many times as large first; loops of a mirror image run back, by mates. Refused: PointRange, with the least vertex.
 inline Model moved(Model model, const Motion &motion, Wide factor = 1)
 {
     for (auto &[vertex, at] : model.vertices)

@@ -11,8 +11,7 @@ using exact::Plane;
 
 // ---- what lies below
 
-/// The parts of a face's sides below the plane; those in it where the face beside them lies below. (That sides go through it at whole points split has
-/// seen to.)
+/// The parts of a face's sides below the plane, which split found to cut them at whole points; those in it where the face beside them lies below.
 inline std::vector<Side> sides_below(const Sheet &sheet, const Plane &plane)
 {
     std::vector<Side> found;
@@ -27,16 +26,6 @@ inline std::vector<Side> sides_below(const Sheet &sheet, const Plane &plane)
     return found;
 }
 
-/// The sides along which the plane cuts a face, as those of the part below it.
-inline std::vector<Side> cuts_of(const Sheet &sheet, const Plane &plane)
-{
-    const Vector along = cross(sheet.plane.across, plane.across);
-    return mapped(sheet.cut_by(plane), [&](const auto &span) {
-        const Side side{*span.first.whole(), *span.second.whole()};
-        return dot(along, side.way()) > 0 ? side : side.turned();
-    });
-}
-
 /// Puts in what is left of a face below the plane. A face in the plane is left where it looks upwards.
 inline void put_below(const Sheet &sheet, const Plane &plane, const Failure &why, std::vector<Sheet> &left)
 {
@@ -48,7 +37,10 @@ inline void put_below(const Sheet &sheet, const Plane &plane, const Failure &why
     if (!is_above || !is_below)
         return;
     std::vector<Side> sides = sides_below(sheet, plane);
-    append(sides, cuts_of(sheet, plane));
+    for (const auto &[first, last] : sheet.cut_by(plane)) { // the sides along which the plane cuts the face
+        const Side side{*first.whole(), *last.whole()};
+        sides.push_back(dot(cross(sheet.plane.across, plane.across), side.way()) > 0 ? side : side.turned());
+    }
     for (const std::vector<Cycle> &cycles : regions_of(sides, sheet.plane.across, why))
         left.push_back({Shape(cycles), {sheet.owners[0]}, {}});
 }
@@ -80,25 +72,13 @@ inline Combined part_below(const Held &held, const std::vector<Sheet> &sheets, c
     for (const std::vector<Cycle> &cycles : regions_of(open_sides(left, plane), plane.across, meets))
         caps.push_back({Shape(cycles), {Face()}, {caps.size()}});
     Result<std::vector<Sheet>> laid = tried([&] { return overlaid(left, caps); });
-    const std::optional<Combined> made = laid ? Assembly(held, *laid, names).made(solid) : std::nullopt;
-    require(made.has_value(), meets);
-    return *made;
+    require(has(laid), meets);
+    return Assembly(held, *laid, names).made(solid, meets);
 }
 
 // ---- what is cut
 
-/// The corners of a solid that lie in a plane.
-inline Path corners_in(const Bench &bench, Solid solid, const Plane &plane)
-{
-    const Path points = mapped(bench.half_edge_rows(solid), [&](const gwb_half_edge_row &row) {
-        go_on();
-        return vector(bench.vertex(Vertex(row.start)));
-    });
-    return filtered(points, [&](const Vector &at) { return plane.height(at) == 0; });
-}
-
-/// Refuses parts of a solid, each on one side of a plane, of which one meets or touches itself as the solid didn't: it does so where corners of the
-/// solid lie in the plane.
+/// Refuses parts of a solid, on either side of a plane, of which one meets or touches itself as the solid didn't: at corners that lie in the plane.
 inline void require_apart(const Model &before, const Path &corners, std::initializer_list<const Model *> parts)
 {
     require(corners.empty() || !touch_anew({&before}, parts, box_of(corners)), impossible(Misfit::meets, before.solid.number()));
@@ -146,7 +126,11 @@ inline Caps cut_by_faces(Bench &bench, Solid solid, const Plane &plane, const Pa
 inline Caps cut(Bench &bench, Solid solid, const gwb_cut_plane &row, Solid above, bool is_wanted)
 {
     const Plane plane = Plane::of(row);
-    const Path corners = corners_in(bench, solid, plane);
+    const Path points = mapped(bench.half_edge_rows(solid), [&](const gwb_half_edge_row &half) {
+        go_on();
+        return vector(bench.vertex(Vertex(half.start)));
+    });
+    const Path corners = filtered(points, [&](const Vector &at) { return plane.height(at) == 0; });
     const Model before = corners.empty() ? Model() : Model::whole(bench, solid);
     Result<Caps> caps = tried([&] { return split(bench, solid, row, above); });
     constexpr std::array coped_with = {GWB_WHY_TOUCHED_FACE, GWB_WHY_CUT_OFTEN, GWB_WHY_CUT_CROSSED, GWB_WHY_BRANCHED_VERTEX, GWB_WHY_SECTION_HOLES};

@@ -23,8 +23,7 @@ struct Ratios {
     }
 };
 
-/// The nearest whole number; of two that are equally near, the one farther from 0. (A product that should be a half may differ in its last digits:
-/// it counts as a half.)
+/// The nearest whole number; of two as near, the one farther from 0. (A product that should be a half may be off in its last digits: it is one.)
 constexpr std::int64_t nearest(long double number)
 {
     constexpr long double half = 0.5L + 1e-9L;
@@ -45,9 +44,10 @@ constexpr std::array<std::int64_t, 2> corner(std::uint32_t place, std::uint32_t 
     return at;
 }
 
-/// The corners of the polygon around a center in a face across an axis. Refused: NoFace, NotFlat. Not possible: NotAcross.
-inline std::vector<Point> polygon(const Bench &bench, Face face, Point center, std::int64_t radius, std::uint32_t sides)
+/// A hole through the solid of a face across an axis, or of a depth. Refused: NoFace, NotFlat. Not possible: NotAcross.
+inline Hole drill(Bench &bench, Face face, Point center, std::int64_t radius, std::uint32_t sides, std::int64_t depth)
 {
+    require(radius >= 1 && sides >= 3 && sides <= most_sides && depth >= 0, refused(GWB_WHY_SIZE_RANGE, radius < 1 ? 1 : depth < 0 ? 3 : 2));
     const Vector across = plane_of(bench, face).across;
     require(std::count(across.begin(), across.end(), 0) == 2, impossible(Misfit::not_across, face.number()));
     require(is_in_range(vector(center)) && radius <= 2 * farthest, refused(GWB_WHY_POINT_RANGE, 0));
@@ -60,14 +60,6 @@ inline std::vector<Point> polygon(const Bench &bench, Face face, Point center, s
         at[(axis + 2) % 3] += second;
         points.push_back(point(at));
     }
-    return points;
-}
-
-/// A hole through the solid of a face, or of a depth.
-inline Hole drill(Bench &bench, Face face, Point center, std::int64_t radius, std::uint32_t sides, std::int64_t depth)
-{
-    require(radius >= 1 && sides >= 3 && sides <= most_sides && depth >= 0, refused(GWB_WHY_SIZE_RANGE, radius < 1 ? 1 : depth < 0 ? 3 : 2));
-    std::vector<Point> points = polygon(bench, face, center, radius, sides);
     Pocket made = depth == 0 ? make_hole(bench, face, points) : make_raised(bench, face, points, depth, false);
     return Hole{made.face, made.loop, std::move(made.sides), std::move(points)};
 }

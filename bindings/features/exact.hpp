@@ -111,12 +111,6 @@ struct Plane {
     static Plane of(const gwb_cut_plane &row) { return {{row.a, row.b, row.c}, row.d}; }
     /// The one through a point.
     static Plane through(const Vector &at, const Vector &across) { return {across, -dot(across, at)}; }
-    /// As it was given, where its numbers are in range.
-    [[nodiscard]] gwb_cut_plane row() const
-    {
-        const Point way = point(across);
-        return {way.x, way.y, way.z, static_cast<std::int64_t>(offset)};
-    }
     [[nodiscard]] Wide height(const Vector &at) const { return dot(across, at) + offset; }
     [[nodiscard]] Plane turned() const { return {negative(across), -offset}; }
     friend bool operator<(const Plane &a, const Plane &b) { return std::tie(a.across, a.offset) < std::tie(b.across, b.offset); }

@@ -399,9 +399,7 @@ gwb_kind gwb_off_lattice(const gwb *g, uint32_t solid, const gwb_cut_plane *plan
 }
 
 void gwb_advice_free(gwb_advice *advice) { delete advice; }
-
 gwb_wide gwb_advice_factor(const gwb_advice *advice) { return wide(advice->found.factor); }
-
 bool gwb_advice_fits(const gwb_advice *advice) { return advice->found.fits; }
 
 size_t gwb_advice_cuts(const gwb_advice *advice, gwb_edge_cut *to, size_t room)

@@ -38,7 +38,8 @@ inline void require_simple(const Cycle &sides, Axes axes)
     for (std::size_t at = 0; at < sides.size(); at++) {
         go_on();
         for (std::size_t beyond = at + 1; beyond < sides.size(); beyond++)
-            require(!box_of(sides[at]).meets(box_of(sides[beyond])) || !clash(sides[at], sides[beyond]), impossible(Misfit::outline_crossed, place(at)));
+            if (box_of(sides[at]).meets(box_of(sides[beyond])) && clash(sides[at], sides[beyond]))
+                throw impossible(Misfit::outline_crossed, place(at));
     }
 }
 
@@ -72,8 +73,7 @@ template <class Item> std::vector<Item> turned(std::vector<Item> points)
     return points;
 }
 
-/// The whole vector of this length along a normal of a face that is as short as it can be. Not possible where there is none that reaches from one
-/// point to another: OffLattice.
+/// The whole vector of this length along a normal of a face that is as short as it can be. Not possible where there is none in range: OffLattice.
 inline Vector steps_along(Face face, const Vector &across, std::int64_t length)
 {
     const bool is_short = longest(across) <= 2 * farthest;
@@ -95,8 +95,9 @@ inline std::vector<Cycle> cycles_at(const Bench &bench, Face face)
 {
     go_on();
     return mapped(bench.loops_of(face), [&](Loop loop) {
-        const std::optional<Vertex> vertex = bench.lone_vertex(loop);
-        return vertex ? cycle_of({vector(bench.vertex(*vertex))}) : mapped(bench.half_edges(loop), [&](HalfEdge half) { return side_at(bench, half); });
+        if (const std::optional<Vertex> vertex = bench.lone_vertex(loop))
+            return cycle_of({vector(bench.vertex(*vertex))});
+        return mapped(bench.half_edges(loop), [&](HalfEdge half) { return side_at(bench, half); });
     });
 }
 

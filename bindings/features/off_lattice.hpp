@@ -62,9 +62,8 @@ struct OffLattice {
     {
         std::string text;
         for (const EdgeCut &cut : cuts)
-            if (!cut.is_whole())
-                text += "# edge " + std::to_string(cut.edge.number()) + " is cut at " + cut.point[0].text() + " " + cut.point[1].text() + " " +
-                        cut.point[2].text() + "\n";
+            if (const auto &[x, y, z] = cut.point; !cut.is_whole())
+                text += "# edge " + std::to_string(cut.edge.number()) + " is cut at " + x.text() + " " + y.text() + " " + z.text() + "\n";
         const std::string times = factor != 0 ? Fraction::digits(factor) : "more than 10^36";
         if (!fits)
             text += "# times " + times + " all points are whole, but the model would lie past 1,000,000,000\n";
@@ -213,9 +212,8 @@ inline bool is_drawn(const std::vector<Cycle> &loops, const Plane &plane)
     if (*least >= 0 || *greatest <= 0)
         return true;
     const auto counts = mapped(loops, [&](const Cycle &loop) { return cut_places(mapped(loop, place)); });
-    if (counts[0] == 0 || any(counts, [](int count) { return count < 0; }))
-        return false;
-    return std::accumulate(counts.begin(), counts.end(), 0) == 2 || all(counts, [](int count) { return count != 0; });
+    const bool is_touched = any(counts, [](int count) { return count < 0; }), are_all_cut = all(counts, [](int count) { return count != 0; });
+    return counts[0] != 0 && !is_touched && (are_all_cut || std::accumulate(counts.begin(), counts.end(), 0) == 2);
 }
 
 /// The square of how far a cut moves: as a fraction where that fits, and as what is nearest.
@@ -406,7 +404,9 @@ private:
     /// The plane with how far it moves the cut.
     static gwb_near_plane near(const Plane &plane, const SquareMoved &square, bool is_parallel)
     {
-        return {plane.row(), is_parallel, std::ceil(std::sqrt(square.value) * 100 - 1e-9) / 100}; // (less than what rounding adds is not rounded up)
+        const auto [a, b, c] = point(plane.across);
+        const double moved = std::ceil(std::sqrt(square.value) * 100 - 1e-9) / 100; // (less than what rounding adds is not rounded up)
+        return {{a, b, c, static_cast<std::int64_t>(plane.offset)}, is_parallel, moved};
     }
 
     Plane plane_;

@@ -85,6 +85,7 @@ inline std::vector<gwb_half_edge_row> candidates(const Bench &bench, const gwb_e
 /// Whether an edge fits a query, by a half-edge of its first face.
 inline bool fits(const Bench &bench, HalfEdge half, const gwb_edge_query &query)
 {
+    go_on();
     const Vector way = side_at(bench, half).way();
     return (query.between[0] == 0 || bench.face_of(half.twin()) == Face(query.between[1])) &&
            (query.solid == 0 || solid_of(bench, bench.face_of(half)) == Solid(query.solid)) &&
@@ -96,11 +97,9 @@ inline bool fits(const Bench &bench, HalfEdge half, const gwb_edge_query &query)
 inline std::vector<Edge> edges(const Bench &bench, const gwb_edge_query &query)
 {
     std::set<Edge> found;
-    for (const gwb_half_edge_row &row : candidates(bench, query)) {
-        go_on();
+    for (const gwb_half_edge_row &row : candidates(bench, query))
         if (const HalfEdge half(row.half_edge); (query.between[0] != 0 || !half.is_second()) && fits(bench, half, query))
             found.insert(half.edge());
-    }
     return {found.begin(), found.end()};
 }
 

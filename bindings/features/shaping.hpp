@@ -211,8 +211,8 @@ inline Combined change(Bench &bench, Face face, const Tool &tool, bool is_cut)
     if (tool[lids].size() > 1) { // whose parts may meet or touch each other elsewhere than at their sides
         const Held nothing(bench, Model(solid));
         AllNames names(bench);
-        const std::optional<Combined> made = Assembly(nothing, *added, names).made(solid);
-        require(made && Findings(made->model, box_of(*added)).found.empty(), meets);
+        const Combined made = Assembly(nothing, *added, names).made(solid, meets);
+        require(Findings(made.model, box_of(*added)).found.empty(), meets);
     }
     return make_near(bench, solid, *added, Model(), meets, [&](const Combined &found, const std::vector<Sheet> &) {
         require(found.marked(0, tool[lids].size()).empty(), impossible(Misfit::outline_outside, face.number()));

@@ -38,8 +38,7 @@ inline bool comes_before(const Vector &from, const Vector &one, const Vector &ot
     return quarters != 0 ? quarters < 0 : turned(one, other) < 0;
 }
 
-/// The cycles of sides, which rise: from each side on to the one that bounds the same corner of the region. Thrown is what the caller says where there
-/// is none.
+/// The cycles of sides, which rise: from each side on to the one that bounds the same corner of the region. Throws `why` where there is none.
 inline std::vector<Cycle> cycles_of(const std::vector<Side> &sides, Axes axes, const Failure &why)
 {
     const auto starts_before = [](const Side &one, const Side &other) { return one.start < other.start; };
@@ -64,8 +63,8 @@ inline std::vector<Cycle> cycles_of(const std::vector<Side> &sides, Axes axes, c
     return found;
 }
 
-/// The regions that sides bound, the outline of each and then its holes, the largest first; where they touch in a point they stay apart. Thrown is
-/// what the caller says where the sides make no outlines, or a hole lies in none.
+/// The regions that sides bound, the outline of each and then its holes, the largest first; where they touch in a point they stay apart. Throws `why`
+/// where the sides make no outlines, or a hole lies in none.
 inline std::vector<std::vector<Cycle>> regions_of(const std::vector<Side> &sides, const Vector &across, const Failure &why)
 {
     const Axes axes = flat_axes(across);
@@ -127,8 +126,7 @@ public:
             boxes_.put(sheets_[at].box, at);
     }
 
-    /// The regions that they come to. Refused: Overlap, as Meets: two that look one way have room in common; OffLattice: two sides cross
-    /// between whole coordinates.
+    /// The regions that they come to. Not possible: Meets: two that look one way have room in common; OffLattice: sides cross between whole points.
     std::vector<Sheet> regions()
     {
         std::map<Ends, Piece> pieces = cut_pieces();
@@ -161,8 +159,7 @@ private:
         std::size_t place;
         Side side;
     };
-    /// A part of sides of sheets that none of them cuts: as the part of each, in the order of the sheets; those beside it, seen from where the plane's
-    /// normal points.
+    /// A part of sides of sheets that none of them cuts, as the part of each, in their order; and those beside it, seen from before the plane.
     struct Piece {
         std::vector<Part> parts;
         Places left, right;
@@ -192,8 +189,7 @@ private:
             found.push_back({{made.plane, cycles}, made.owners, made.marks});
     }
 
-    /// The piece is a side of these sheets, which lie left of it as it runs, seen from where the plane's normal points; not of those that became one
-    /// with one beyond it.
+    /// The piece is a side of these sheets, left of it as it runs, seen from before the plane; not of those that became one with one beyond it.
     void keep(const Places &places, const Places &beyond, const std::vector<Part> &parts, const Side &piece)
     {
         for (std::size_t place : places) {
@@ -286,32 +282,25 @@ private:
     BoxIndex boxes_; ///< around the sheets, by their places
 };
 
-/// Sheets of one plane. The box is that of the added ones.
-struct InPlane {
-    std::vector<Sheet> held, added;
-    Box box{};
-};
-
 /// What sheets come to where others are added to them; what lies in no plane of an added one, or not near it, stays.
 inline std::vector<Sheet> overlaid(const std::vector<Sheet> &held, const std::vector<Sheet> &added)
 {
-    std::map<Plane, InPlane> planes;
+    std::map<Plane, Box> boxes; // of the added ones
     for (const Sheet &sheet : added)
-        planes[sheet.level()].added.push_back(sheet);
-    for (auto &[level, plane] : planes)
-        plane.box = box_of(plane.added);
+        boxes.try_emplace(sheet.level(), sheet.box).first->second.take(sheet.box);
+    std::map<Plane, std::vector<Sheet>> planes;
     std::vector<Sheet> found;
     for (const Sheet &sheet : held) {
         go_on();
-        const auto plane = planes.find(sheet.level());
-        const bool is_near = plane != planes.end() && sheet.is_flat() && sheet.box.meets(plane->second.box);
-        (is_near ? plane->second.held : found).push_back(sheet);
+        const Box *box = look_up(boxes, sheet.level());
+        const bool is_near = box != nullptr && sheet.is_flat() && sheet.box.meets(*box);
+        (is_near ? planes[sheet.level()] : found).push_back(sheet);
     }
+    for (const Sheet &sheet : added)
+        planes[sheet.level()].push_back(sheet);
     for (const Sheet &sheet : added) // plane by plane, in the order in which these come
-        if (auto plane = planes.extract(sheet.level())) {
-            append(plane.mapped().held, plane.mapped().added);
-            append(found, Overlay(std::move(plane.mapped().held), plane.mapped().box).regions());
-        }
+        if (auto plane = planes.extract(sheet.level()))
+            append(found, Overlay(std::move(plane.mapped()), boxes.at(sheet.level())).regions());
     return found;
 }
 

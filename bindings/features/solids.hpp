@@ -136,8 +136,7 @@ private:
         bench_.mfkrh(ring, spare_faces_.take());
     }
 
-    /// Edges between two faces go, and one of the faces with each; then those with a leaf at one end, and then those that open handles, with what has
-    /// a leaf after each.
+    /// Edges between two faces go, with one of these each; then those with a leaf at an end; then those that open handles, and what then has a leaf.
     void edges_out(const std::vector<Edge> &edges)
     {
         for (Edge edge : edges) {

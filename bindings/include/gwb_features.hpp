@@ -238,8 +238,7 @@ template <class Policy> Answer<Policy, std::vector<Face>> trim(Commands<Policy> 
 /// Faces that became one with others, or several, each with one that it went into.
 using Merged = std::vector<std::pair<Face, Face>>;
 
-/// The solids, which touch in faces, become the first (`union` is a word of the language). NoCall where one stands twice, or there are fewer than
-/// two.
+/// The solids, which touch in faces, become the first (`union` is a word of C++). NoCall where one stands twice, or there are fewer than two.
 template <class Policy> Answer<Policy, Merged> unite(Commands<Policy> &bench, Items<Solid> solids)
 {
     const std::vector<std::uint32_t> numbers = features::numbers(solids);
