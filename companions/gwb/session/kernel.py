@@ -105,9 +105,10 @@ class Kernel:
         """The labels of what is there, or was there when the session ended."""
         return self._ended[1] if self._ended else {thing: look for thing, look in self.notes.labels.items() if self.lines.in_use(*thing)}
 
-    def commands(self) -> List[str]:
-        """The lines of each command that is held, and then those of the draft, if one is open."""
-        return self._ended[0] if self._ended else [self.lines.script(place, 1) for place in range(self.lines.depth + self.lines.is_drafting)]
+    def commands(self, at_once: int = 1) -> List[str]:
+        """The lines of so many commands at once that are held, the draft that is open being the last one."""
+        held = range(0, self.lines.depth + self.lines.is_drafting, at_once)
+        return self._ended[0] if self._ended else [self.lines.script(place, at_once) for place in held]
 
     # Commands
 

@@ -109,7 +109,7 @@ class Workbench(SolidMethods, FeatureMethods, Commands, Reading, Exporting):
 
     def script(self) -> str:
         """The script of what is held: the accepted commands, a line each; undone ones are left out."""
-        return ''.join(self._kernel.commands())
+        return ''.join(self._kernel.commands(maxsize))
 
     def save(self, path: arguments.Path) -> None:
         """Writes the script to a file. Comments in it say which commands are one step, the unit, and the labels, so that `load` knows them
