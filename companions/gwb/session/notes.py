@@ -7,15 +7,15 @@ from typing import Dict, List, Mapping, Optional, Tuple
 from ..formats.appearance import Appearance, Thing
 
 
-
 @dataclass(eq=False)
 class Note:
-    """What goes with a command: whether a step to undo begins with it, the unit after it, and the labels that were given from it up to the next
-    one, None where one was taken away."""
+    """What goes with a command: whether a step to undo begins with it, the unit after it, the labels that were given from it up to the next
+    one, None where one was taken away, and its lines, once it was undone."""
 
     begins: bool
     unit: Fraction
     looks: List[Tuple[Thing, Optional[Appearance]]] = field(default_factory=list)
+    text: str = ''
 
 
 class Notes:
@@ -81,27 +81,17 @@ class Notes:
 
     # Drafts and groups
 
-    def end_empty(self) -> None:
-        """The draft that is open has no steps: its labels go with the last command."""
-        self.all[self.at].looks += self.now.looks
-        self._coming = None
-
-    def place(self) -> Tuple[int, Fraction]:
-        """Where it is now, to which there is a way back: how many labels the note has, and its unit."""
-        return len(self.now.looks), self.now.unit
-
-    def go_back(self, place: Tuple[int, Fraction]) -> None:
-        """It is as it was at a place, of the same draft or after the same command."""
-        self._labels = None
-        looks, self.now.unit = place
+    def go_back(self, looks: int, unit: Fraction) -> None:
+        """It is as it was when the same draft, or the same command, had so many labels, and this unit."""
+        self._labels, self.now.unit = None, unit
         del self.now.looks[looks:]
 
-    def hand_on(self, command: int, place: Tuple[int, Fraction]) -> None:
-        """The labels that were given after a place of the note of a command go with the next command, if one is held."""
+    def hand_on(self, command: int, place: int) -> None:
+        """The labels of the note of a command, from a place on, go with the next command, if one is held."""
         if self.at > command:
             looks = self.all[command].looks
-            self.all[command + 1].looks[:0] = looks[place[0]:]
-            del looks[place[0]:]
+            self.all[command + 1].looks[:0] = looks[place:]
+            del looks[place:]
 
     def ahead(self) -> List[Note]:
         """The notes of the commands that can be redone."""

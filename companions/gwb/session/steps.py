@@ -7,133 +7,99 @@ from .kernel import Kernel
 from .turns import Holder
 
 
-class _Part:
-    """Steps of a draft that is open, from a mark on."""
+class _Work:
+    """What is given in a draft, in a group, or in part of a draft that is open, from its begin on."""
 
-    is_draft = False
+    def __init__(self, kernel: Kernel, is_group: bool) -> None:
+        lines, notes = kernel.lines, kernel.notes
+        self._kernel, self._is_kept, self._outer = kernel, False, notes.group_from
+        self._is_part, self.is_draft = lines.is_drafting, not (is_group or lines.is_drafting)
+        self._before, self._mark, self._looks, self._unit, self._ahead = lines.depth, lines.mark(), len(notes.now.looks), notes.now.unit, notes.ahead()
 
-    def __init__(self, kernel: Kernel) -> None:
-        self._kernel, self._is_kept, self._outer = kernel, False, kernel.notes.group_from
-        self._place, self._mark = kernel.notes.place(), kernel.lines.mark()
+    def begin(self) -> None:
+        """It opens; a group begins with the next command."""
+        if self.is_draft:
+            self._kernel.lines.open_draft()
+            self._kernel.notes.expect()
+        elif self._outer is None:
+            self._kernel.notes.group_from = self._before
 
     def end(self, is_whole: bool) -> None:
         """It is over, with all within it that is still open. It is kept if it is whole; else all is as before, whatever exception comes meanwhile."""
         try:
             if is_whole:
                 self._kernel.lines.require_open()
-                self.keep()
+                self._keep()
                 self._is_kept = True
         finally:
             try:
                 self._unless_kept()
             finally:
                 try:
-                    self._unless_kept()
+                    self._unless_kept()    # (again, where an exception came on the way)
                 finally:
-                    blocks = self._kernel.blocks
-                    if blocks[0] is self:
-                        holder, self._kernel.holder = self._kernel.holder, None
-                        if holder:
-                            holder.end()
-                        self._kernel.lock.notify_all()
-                    self._kernel.notes.group_from = self._outer
-                    del blocks[blocks.index(self):]
+                    self._leave()
 
-    def _unless_kept(self) -> None:
-        if not self._is_kept and self._kernel.lines.is_open:
-            self._kernel.expect_loss()
-            self.take_back()
-
-    # What each kind does
-
-    def begin(self) -> None:
-        """It opens."""
-
-    def keep(self) -> None:
-        """What was given in it stays."""
-
-    def take_back(self) -> None:
-        """All is as it was before it. This may come twice, here and below."""
-        self._kernel.lines.back(self._mark)
-        self._kernel.notes.go_back(self._place)
-
-
-class _Draft(_Part):
-    """A draft of the library. One without steps leaves everything as it was."""
-
-    is_draft = True
-
-    def begin(self) -> None:
-        self._kernel.lines.open_draft()
-        self._kernel.notes.expect()
-
-    def keep(self) -> None:
-        """Its steps are one command."""
-        kernel = self._kernel
-        if kernel.lines.mark() == 0:
+    def _keep(self) -> None:
+        """What was given stays: in a draft as one command, if there are steps. Labels without a command of their own go with the one beside them."""
+        kernel, looks = self._kernel, self._kernel.notes.now.looks
+        is_empty = self.is_draft and kernel.lines.mark() == 0
+        if is_empty:
             kernel.lines.abandon()
-            kernel.notes.end_empty()
-        else:
+        elif self.is_draft:
             kernel.lines.commit()
         kernel.settle()
+        if is_empty:
+            kernel.notes.put(*looks)
+        elif self._outer is None:
+            kernel.notes.hand_on(self._before, self._looks)
 
-    def take_back(self) -> None:
-        self._kernel.lines.abandon()
-        self._kernel.settle()
-
-
-class _Group(_Part):
-    """Commands that are one step to undo, or within a group part of it."""
-
-    def __init__(self, kernel: Kernel) -> None:
-        super().__init__(kernel)
-        self._before, self._notes = kernel.lines.depth, kernel.notes.ahead()
-        try:
-            # The lines of each command that can be redone.
-            kernel.go_to(self._before + len(self._notes))
-            self._ahead = tuple(kernel.lines.script(place, 1) for place in range(self._before, kernel.lines.depth))
-        finally:
-            try:
-                kernel.go_to(self._before)
-            finally:
-                kernel.go_to(self._before)    # (where an exception came on the way)
-
-    def begin(self) -> None:
-        """It begins with the next command."""
-        if self._outer is None:
-            self._kernel.notes.group_from = self._before
-
-    def keep(self) -> None:
-        """Its commands stay as they are. What was labelled before the first of them goes with that."""
-        self._kernel.settle()
-        if self._outer is None:
-            self._kernel.notes.hand_on(self._before, self._place)
-
-    def take_back(self) -> None:
-        """Its commands are undone, and what could be redone before them can be redone."""
+    def _unless_kept(self) -> None:
+        """All is as it was before it, unless it is kept."""
         kernel = self._kernel
-        kernel.lines.abandon()
-        kernel.go_to(self._before)
-        kernel.notes.go_back(self._place)
-        if kernel.lines.ahead != len(self._ahead) or kernel.notes.ahead() != self._notes:
-            # They are given anew, as many as there is memory for, and undone.
-            try:
-                for text in self._ahead:
-                    kernel.lines.open_draft()
-                    for line in text.splitlines():
-                        kernel.lines.asked(line)
-                    kernel.lines.commit()
-            except MemoryRefused:
-                kernel.lines.abandon()
-            kernel.notes.all[kernel.notes.at + 1:] = self._notes[:kernel.lines.depth - self._before]
+        if self._is_kept or not kernel.lines.is_open:
+            return
+        kernel.expect_loss()
+        if self._is_part:
+            kernel.lines.back(self._mark)
+        else:
+            kernel.lines.abandon()
             kernel.go_to(self._before)
+        kernel.notes.go_back(self._looks, self._unit)
+        if not self._is_part and (kernel.lines.ahead != len(self._ahead) or kernel.notes.ahead() != self._ahead):
+            self._give_again()
+
+    def _give_again(self) -> None:
+        """What could be redone can be redone, as much as there is memory for."""
+        kernel = self._kernel
+        try:
+            for note in self._ahead:
+                kernel.lines.open_draft()
+                for line in note.text.splitlines():
+                    kernel.lines.asked(line)
+                kernel.lines.commit()
+        except MemoryRefused:
+            kernel.lines.abandon()
+        kernel.notes.all[kernel.notes.at + 1:] = self._ahead[:kernel.lines.depth - self._before]
+        kernel.go_to(self._before)
+
+    def _leave(self) -> None:
+        """Others have their turns again, where nothing is open any more."""
+        blocks = self._kernel.blocks
+        if blocks[0] is self:
+            holder, self._kernel.holder = self._kernel.holder, None
+            if holder:
+                holder.end()
+            self._kernel.lock.notify_all()
+        self._kernel.notes.group_from = self._outer
+        del blocks[blocks.index(self):]
 
 
 class Block:
     """What a `with` statement holds: a draft or a group, or a part of a draft that is open. It is used once. Where an exception comes before its end
     has begun, it ends when nothing refers to it any more."""
 
-    _work: Optional[_Part] = None
+    _work: Optional[_Work] = None
 
     def __init__(self, kernel: Kernel, is_group: bool) -> None:
         self._kernel, self._is_group = kernel, is_group
@@ -146,7 +112,7 @@ class Block:
             if not kernel.is_inside:
                 kernel.begin_turn()
             kernel.lines.require_open()
-            self._work = (_Part if kernel.lines.is_drafting else _Group if self._is_group else _Draft)(kernel)
+            self._work = _Work(kernel, self._is_group)
             kernel.blocks.append(self._work)
             try:
                 self._work.begin()
