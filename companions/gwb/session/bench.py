@@ -87,10 +87,6 @@ class Bench:
         labels = self.kernel.notes.labels
         self.kernel.notes.put(*(((kind, other), labels[kind, number]) for number, other in others if (kind, number) in labels))
 
-    def step(self) -> Block:
-        """The commands given in it are one command, or in a draft part of it. Where one isn't accepted, all is as before."""
-        return Block(self.kernel, False)
-
     @contextmanager
     def parting(self, *solids: int) -> Iterator[Set[int]]:
         """A step that cuts faces of the first solid into parts: new faces of the solids get the labels of the faces in which they lie, except those that
@@ -100,7 +96,7 @@ class Bench:
         model = lines.model(face for face in held if ('face', face) in labels)
         wholes = [(FlatFace(model, face), labels['face', face]) for face in model.faces if why_unfit(model, face) is None]
         made: Set[int] = set()
-        with self.step():
+        with Block(self.kernel, False):
             yield made
             parts = lines.model({face for solid in solids for face in lines.faces_of(solid)} - held - made if wholes else ())
             looks = {face: [look for whole, look in wholes if _lies_in(parts, face, whole)] for face in parts.faces}

@@ -17,37 +17,27 @@ def _struct(**fields: Any) -> Any:
     return type('Struct', (ctypes.Structure,), {'_fields_': list(fields.items())})
 
 
-# What the library keeps in its caller's memory.
-Handle = _struct(is_open=ctypes.c_bool, held=ADDRESS, beside=ADDRESS)
-# The condition that is false, and the value that goes with it.
-Refusal = _struct(number=WORD, value=WORD)
-# What there is of a face, of an edge, and of a vertex.
+# The structs of both headers, where it is said what they are for. A Pair stands for each that has two numbers of what is made.
+Handle, Refusal = _struct(is_open=ctypes.c_bool, held=ADDRESS, beside=ADDRESS), _struct(number=WORD, value=WORD)
 FaceRow, EdgeRow, Point = _struct(solid=WORD, outer_loop=WORD), _struct(start=WORD, end=WORD), _struct(x=LENGTH, y=LENGTH, z=LENGTH)
-# A number of 128 bits, and the plane of a face by four.
-Wide = _struct(high=LENGTH, low=ctypes.c_uint64)
-PlaneRow = _struct(numbers=Wide * 4, flat=WORD)
-# Where points go: by the axes, signed and counted from 1, and then by a vector.
-Motion = _struct(axes=ctypes.c_int32 * 3, by=Point)
-# The plane a x + b y + c z + d = 0.
+Wide, Pair = _struct(high=LENGTH, low=ctypes.c_uint64), _struct(first=WORD, second=WORD)
+PlaneRow, Motion = _struct(numbers=Wide * 4, flat=WORD), _struct(axes=ctypes.c_int32 * 3, by=Point)
 CutPlane = _struct(a=LENGTH, b=LENGTH, c=LENGTH, d=LENGTH)
 Ratio = _struct(numerator=ctypes.c_uint64, denominator=ctypes.c_uint64)
-# Two numbers of what is made: a face and a loop, two faces, or the first and the last of a kind.
-Pair = _struct(first=WORD, second=WORD)
 
 _TEXT, _WORDS, _ROWS = ctypes.c_char_p, ctypes.POINTER(WORD), ctypes.POINTER(LENGTH)
 _POINT, _PLANE, _RATIO, _MOTION, _PAIR = (ctypes.POINTER(kind) for kind in (Point, CutPlane, Ratio, Motion, Pair))
-# Which faces and which edges are sought.
 FaceQuery = _struct(solid=WORD, plane=_PLANE, normal=_POINT, containing=_POINT, area=_RATIO)
 EdgeQuery = _struct(solid=WORD, between=WORD * 2, along=_POINT, length=_RATIO)
 
-# What each reader returns, and what it takes after the handle; they are exported as gwb_lent_*.
-_READERS: Dict[str, Tuple[Any, List[Any]]] = {
-    'reply': (SIZE, [_TEXT, SIZE]), 'half_edges': (SIZE, [WORD, _WORDS, SIZE]), 'plane': (WORD, [WORD, ctypes.POINTER(PlaneRow), ctypes.POINTER(Refusal)]),
-    **dict.fromkeys(('depth', 'ahead', 'mark'), (SIZE, [])), **dict.fromkeys(('number_after', 'ring_after', 'face_after'), (WORD, [WORD, WORD, _WORDS])),
-    **dict.fromkeys(('loop', 'lone_vertex', 'half_edge_loop'), (WORD, [WORD, _WORDS])), 'face': (WORD, [WORD, ctypes.POINTER(FaceRow)]),
-    'edge': (WORD, [WORD, ctypes.POINTER(EdgeRow)]), 'vertex': (WORD, [WORD, _POINT]), 'fresh': (WORD, [WORD, _PAIR])}
-# The same of the other calls.
+_HANDLE, _REFUSAL = ctypes.POINTER(Handle), ctypes.POINTER(Refusal)
+# What each call returns, and what it takes after the handle. Readers are lent it.
 _CALLS: Dict[str, Tuple[Any, List[Any]]] = {
+    'lent_reply': (SIZE, [_TEXT, SIZE]), 'lent_half_edges': (SIZE, [WORD, _WORDS, SIZE]), 'lent_plane': (WORD, [WORD, ctypes.POINTER(PlaneRow), _REFUSAL]),
+    **dict.fromkeys(('lent_depth', 'lent_ahead', 'lent_mark'), (SIZE, [])), 'lent_fresh': (WORD, [WORD, _PAIR]), 'lent_vertex': (WORD, [WORD, _POINT]),
+    **dict.fromkeys(('lent_number_after', 'lent_ring_after', 'lent_face_after'), (WORD, [WORD, WORD, _WORDS])),
+    **dict.fromkeys(('lent_loop', 'lent_lone_vertex', 'lent_half_edge_loop'), (WORD, [WORD, _WORDS])),
+    'lent_face': (WORD, [WORD, ctypes.POINTER(FaceRow)]), 'lent_edge': (WORD, [WORD, ctypes.POINTER(EdgeRow)]),
     'open': (ctypes.c_bool, []), 'close': (None, []), 'line': (WORD, [_TEXT, SIZE]),
     **dict.fromkeys(('draft', 'commit', 'abandon', 'record'), (WORD, [])), 'back': (WORD, [SIZE]), 'recorded': (SIZE, []),
     'script': (SIZE, [SIZE, SIZE, _TEXT, SIZE]), 'greatest_number': (SIZE, [WORD]), 'stop_by': (None, [ADDRESS, ADDRESS]),
@@ -65,10 +55,8 @@ _FEATURES: Dict[str, List[Any]] = {
     'cut': [WORD, _PLANE, WORD], 'trim': [WORD, _PLANE], 'off_lattice': [WORD, _PLANE, SIZE, ctypes.POINTER(ADDRESS)],
     'find_faces': [ctypes.POINTER(FaceQuery), _WORDS, SIZE, ctypes.POINTER(SIZE)],
     'find_edges': [ctypes.POINTER(EdgeQuery), _WORDS, SIZE, ctypes.POINTER(SIZE)]}
-_HANDLE, _REFUSAL = ctypes.POINTER(Handle), ctypes.POINTER(Refusal)
 # Of each call by its export what it returns, and all that it takes.
 PROTOTYPES: Dict[str, Tuple[Any, List[Any]]] = {
-    **{f'gwb_lent_{name}': (result, [_HANDLE, *taken]) for name, (result, taken) in _READERS.items()},
     **{f'gwb_{name}': (result, [_HANDLE, *taken]) for name, (result, taken) in _CALLS.items()},
     **{f'gwb_{name}': (WORD, [_HANDLE, *taken, _REFUSAL]) for name, taken in _FEATURES.items()},
     'gwb_advice_factor': (Wide, [ADDRESS]), 'gwb_advice_free': (None, [ADDRESS]), 'gwb_misfit_name': (ctypes.c_char_p, [WORD])}

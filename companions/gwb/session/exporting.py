@@ -22,6 +22,7 @@ from ..geometry.touching_solids import touching_solids
 from . import arguments
 from .bench import Methods, warn
 from .reading import FacePart, Selection, SolidPart
+from .steps import Block
 
 _ENDINGS = ('.step', '.stp', '.3mf', '.glb', '.obj', '.off', '.stl', '.html')
 
@@ -98,7 +99,7 @@ class Exporting(Methods):
         for wrong in found.wrong:
             warn(f'{file}: {wrong}')
         new = self._kernel.numbers.instead_of(found.model)
-        with self._bench.step():
+        with Block(self._kernel, False):
             if found.model.solids:
                 self._kernel.load(renumbered(found.model, new))
             looks = [((kind, new[kind][number]), look._replace(name=look.name[:LONGEST_NAME])) for (kind, number), look in found.looks.items()]

@@ -6,7 +6,7 @@ from typing import Any, Iterable, List, NamedTuple, Optional, Sequence, Tuple
 from ..geometry.free_numbers import LARGEST
 from ..geometry.measures import why_unfit
 from ..geometry.outlines import Impossible
-from ..geometry.vectors import Vector, ZERO, cross, dot, reduced, scaled
+from ..geometry.vectors import Vector, ZERO, add, cross, dot, reduced, scaled
 from ..protocol.complaints import refused
 from ..protocol.language import NUMBERS
 from . import arguments
@@ -27,9 +27,8 @@ class Sketch(NamedTuple):
 
     def point(self, u: int, v: int) -> Vector:
         """The point at two coordinates."""
-        across, along = arguments.whole('u', u), arguments.whole('v', v)
-        x, y, z = (start + across * one + along * other for start, one, other in zip(self.origin, self.right, self.up))
-        return (x, y, z)
+        across, along = scaled(self.right, arguments.whole('u', u)), scaled(self.up, arguments.whole('v', v))
+        return add(self.origin, add(across, along))
 
     def points(self, spots: Iterable[Sequence[int]]) -> List[Vector]:
         """The points at these coordinates: an outline of straight sides."""
@@ -89,8 +88,7 @@ class FeatureMethods(Methods):
         across, start = reduced(part.normal), start or min(points)
         if dot(across, start) != dot(across, points[0]):
             raise Impossible('NotInPlane', part.number, f'the origin {start} lies off the plane of face {part.number}')
-        axis = next((axis for axis in ((1, 0, 0), (0, 1, 0), (0, 0, 1)) if dot(across, axis) == 0), ZERO)
-        to_right = wanted or axis
+        to_right = wanted or [*(axis for axis in ((1, 0, 0), (0, 1, 0), (0, 0, 1)) if dot(across, axis) == 0), ZERO][0]
         if to_right == ZERO or dot(across, to_right) != 0:
             raise Impossible('NotInPlane', part.number, f'a direction in the plane of face {part.number} is wanted, not {to_right}')
         way, upward = scaled(to_right, 1 if wanted else isqrt(dot(across, across))), reduced(cross(across, to_right))
@@ -223,6 +221,7 @@ class FeatureMethods(Methods):
         """Gives a feature that makes slopes of edges, which are returned; the parts of faces get the labels of these."""
         solid, *_ = [EdgePart(self._kernel, edge).solid.number for edge in edges]
         with self._bench.parting(solid) as new:
-            made = self._kernel.written(word, len(edges), *values)
+            made = (WORD * len(edges))()
+            self._kernel.give(word, *values, made)
             new.update(made)
-        return made
+        return tuple(made)

@@ -1,6 +1,5 @@
 """The session of the library, the notes on its commands, the drafts and groups that are open in it, features, and the numbers of new things."""
 
-from ctypes import pointer
 from fractions import Fraction
 from threading import Condition
 from typing import Any, Callable, Dict, Iterable, Iterator, List, Optional, Sequence, Tuple, TypeVar
@@ -17,7 +16,7 @@ from ..protocol.complaints import complaint, memory_refused, refused
 from ..protocol.language import NUMBERS, first_word, refusal
 from ..protocol.listing import listing_lines
 from ..protocol.replies import Reply
-from .c_calls import ADDRESS, IMPOSSIBLE, LOWER_CAPS, MEMORY, NO_CALL, OK, REFUSED, SIZE, UPPER_CAPS, WORD, CutPlane, FaceQuery, Pair, Refusal, rows
+from .c_calls import ADDRESS, IMPOSSIBLE, MEMORY, NO_CALL, OK, REFUSED, SIZE, WORD, CutPlane, Pair, Refusal, rows
 from .library import Library, filled
 from .notes import Notes
 from .results import Numbers
@@ -57,14 +56,14 @@ class Kernel:
         # While something is held, all waits that isn't part of it.
         self.lock, self.is_inside = Condition(), False
         self.holder: Optional[Holder] = None
-        self.lines = Library(path)
-        self.notes = Notes(unit)
+        self.lines, self.notes = Library(path), Notes(unit)
         self.numbers = NewNumbers(self.lines)
         # The drafts and groups that are open, each within the ones before it (steps.py).
         self.blocks: List[Any] = []
         # Whether a command is being given, whether this turn has given one, and whether things may have gone that have labels.
         self._is_giving = self._has_given = self._may_have_gone = False
-        self._listing: Optional[Tuple[Tuple[int, ...], Model]] = None
+        # The model that was read last, by the state in which it was.
+        self._listing: Dict[Tuple[int, ...], Model] = {}
         # The commands that were held when the session ended, and the labels.
         self._ended: Optional[Tuple[List[str], Dict[Thing, Appearance]]] = None
 
@@ -97,9 +96,9 @@ class Kernel:
     def listing(self) -> Model:
         """The model held."""
         state = self.lines.state()
-        if self._listing is None or self._listing[0] != state:
-            self._listing = state, self.lines.model(self.lines.numbers('face'))
-        return self._listing[1]
+        if state not in self._listing:
+            self._listing = {state: self.lines.model(self.lines.numbers('face'))}
+        return self._listing[state]
 
     def labels(self) -> Dict[Thing, Appearance]:
         """The labels of what is there, or was there when the session ended."""
@@ -207,12 +206,6 @@ class Kernel:
         """Gives a feature."""
         self.giving(word, lambda: self._ask(word, *values))
 
-    def written(self, word: str, room: int, *values: Any) -> Numbers:
-        """Gives a feature that writes so many numbers behind what it takes: these."""
-        made = (WORD * room)()
-        self.give(word, *values, made)
-        return tuple(made)
-
     def outline(self, word: str, number: int, points: Sequence[Vector], *more: Any, beside: Sequence[Any] = ()) -> Tuple[int, int, Numbers]:
         """Gives a feature of an outline in a face, or of a solid to be: two numbers of what it makes, and those that belong to the points."""
         made, along = Pair(), (WORD * len(points))()
@@ -238,30 +231,10 @@ class Kernel:
         """The least number by which the model must be multiplied for all points of a cut to be whole."""
         advice = ADDRESS()
         self._ask('off_lattice', solid, CutPlane(*plane), 0, advice)
-        try:
-            factor = self.lines.library.advice_factor(advice)
-        finally:
-            self.lines.library.advice_free(advice)
+        factor = self.lines.library.advice_factor(advice)
+        self.lines.library.advice_free(advice)
         # (0 where it is too great to be said: out of range in any case)
         return (factor.high << 64 | factor.low) or 2 ** 62
-
-    def cut(self, word: str, solid: int, plane: Sequence[int], above: int) -> Sequence[Numbers]:
-        """A split, cut or trim: the caps of both parts, and of a split all faces, edges and vertices. What is refused has the advice that a split with this
-        number above has."""
-        line, level = ' '.join(map(str, ('split', solid, *plane, above))), CutPlane(*plane)
-        if word == 'split':
-            self.do(line)
-            # (some fresh numbers are taken on the way)
-            made = [tuple(number for number in self.lines.fresh(kind) if self.lines.in_use(kind, number)) for kind in ('face', 'edge', 'vertex')]
-            flat = (self.find('find_faces', FaceQuery(solid=side, plane=pointer(level))) for side in (solid, above))
-            return *(tuple(face for face in faces if face in made[0]) for faces in flat), *made
-        try:
-            self.give(word, solid, level, *([above] if word == 'cut' else []))
-        except Refused as error:
-            if error.number:
-                self.advised(error, line, Reply((f'refused {error.number} {error.value}',)))
-            raise
-        return self.made(LOWER_CAPS), self.made(UPPER_CAPS)
 
     def made(self, which: int) -> Numbers:
         """A list of what the last feature made."""

@@ -16,12 +16,14 @@ from ..geometry.outlines import Impossible
 from ..geometry.vectors import ZERO, negative
 from ..protocol.complaints import refused
 from ..protocol.language import NUMBERS
+from ..protocol.replies import Reply
 from . import arguments
 from .bench import Bench, Methods, warn
-from .c_calls import EDGES, FACES, INTO, LOOPS, SOLIDS, VERTICES, Motion, Point, words
+from .c_calls import EDGES, FACES, INTO, LOOPS, LOWER_CAPS, SOLIDS, UPPER_CAPS, VERTICES, WORD, CutPlane, FaceQuery, Motion, Point, words
 from .kernel import NewNumbers
 from .reading import Found, Part
 from .results import Cut, Numbers, Renumbered, Split
+from .steps import Block
 
 _AXES = ('x', 'y', 'z')
 
@@ -91,7 +93,7 @@ class SolidMethods(Methods):
             return self._in_a_row('copy_solid', number, 1, motion)[0]
         model = _changed('copy_solid', self._bench.alone(number)[0], change)
         new = self._kernel.numbers.instead_of(model)
-        with self._bench.step():
+        with Block(self._kernel, False):
             self._kernel.load(renumbered(model, new))
             return self._labelled(Copy(new['solid'][number], new['face'], new['loop'], new['edge'], new['vertex'], number, self._bench))
 
@@ -139,7 +141,7 @@ class SolidMethods(Methods):
     def renumber(self) -> Renumbered:
         """All numbers become as low as they can be, from 1 on in the order that they have, and may be taken again when they are free: where none is left.
         Labels go along. Refused: NumbersSpent: a spare number is wanted on the way, and none is free."""
-        with self._bench.step():
+        with Block(self._kernel, False):
             self._kernel.give('renumber')
             made = Renumbered(*(dict(self._kernel.pairs(which)) for which in (SOLIDS, FACES, LOOPS, EDGES, VERTICES)))
             new, labels = {'solid': made.solids, 'face': made.faces}, self._kernel.notes.labels
@@ -187,7 +189,7 @@ class SolidMethods(Methods):
         Refused: NoSolid, NotFlat; NoContact: a solid touches the others in no face; Overlap: two have room in common, or the union
         would touch itself; OffLattice: edges of two solids cross between whole coordinates."""
         numbers = self._bench.different('solids', solids, 'solid', 2)
-        with self._bench.step():
+        with Block(self._kernel, False):
             self._kernel.give('union', words(numbers), len(numbers))
             merged: Dict[int, List[int]] = {}
             for face, part in self._kernel.pairs(INTO):
@@ -200,8 +202,9 @@ class SolidMethods(Methods):
 
     def _in_a_row(self, word: str, solid: int, count: int, *way: Any) -> Tuple[Copy, ...]:
         """So many copies of the solid, which a feature makes of where each lies."""
-        with self._bench.step():
-            made = self._kernel.written(word, count, solid, *way)
+        made = (WORD * count)()
+        with Block(self._kernel, False):
+            self._kernel.give(word, solid, *way, made)
             lists = [self._kernel.pairs(which) for which in (FACES, LOOPS, EDGES, VERTICES)]
             shares = [[dict(pairs[place * len(pairs) // count:(place + 1) * len(pairs) // count]) for pairs in lists] for place in range(count)]
             copies = (Copy(number, faces, loops, edges, vertices, solid, self._bench) for number, (faces, loops, edges, vertices) in zip(made, shares))
@@ -220,7 +223,7 @@ class SolidMethods(Methods):
             self._kernel.give('move_solid', number, motion)
             return number
         after = _changed('move_solid', self._bench.alone(number)[0], change)
-        with self._bench.step():
+        with Block(self._kernel, False):
             self._kernel.give('kill_solid', number)
             self._kernel.load(after)
         return number
@@ -235,13 +238,16 @@ class SolidMethods(Methods):
         try:
             return new, self._parted(word, solid, plane, new)
         except Refused as refused:
+            if refused.number:    # (what would do is what would for a split)
+                line, reply = ' '.join(map(str, ('split', solid, *plane, new))), Reply((f'refused {refused.number} {refused.value}',))
+                self._kernel.advised(refused, line, reply)
             if refused.name != 'NotLattice':
                 raise
             factor = self._kernel.whole_factor(solid, plane)
             if not may_scale:
                 refused.args = (f'{refused.args[0]}; times {factor} all its points are whole, as scale=True makes them; off_lattice() names planes near by',)
                 raise
-        with self._bench.step():
+        with Block(self._kernel, False):
             try:
                 self._kernel.give('scale', factor)
             except Refused as refused:
@@ -252,10 +258,20 @@ class SolidMethods(Methods):
             return new, self._parted(word, solid, without_common_factor((*plane[:3], plane[3] * factor)), new)
 
     def _parted(self, word: str, solid: int, plane: Plane, above: int) -> Sequence[Numbers]:
-        """Cuts a solid as one command. The part above, if it is kept, and parts of faces have the labels of what they were part of."""
+        """Cuts a solid as one command: the caps of both parts, and of a split all new faces, edges and vertices. The part above, if it is kept, and parts
+        of faces have the labels of what they were part of."""
+        kernel, level = self._kernel, CutPlane(*plane)
         with self._bench.parting(solid, above) as new:
-            made = self._kernel.cut(word, solid, plane, above)
-            if self._kernel.lines.in_use('solid', above):
+            if word == 'split':
+                kernel.do('split', solid, *plane, above)
+                # (some fresh numbers are taken on the way)
+                made = [tuple(number for number in kernel.lines.fresh(kind) if kernel.lines.in_use(kind, number)) for kind in ('face', 'edge', 'vertex')]
+                flat = [kernel.find('find_faces', FaceQuery(solid=side, plane=ctypes.pointer(level))) for side in (solid, above)]
+                made = [*(tuple(face for face in faces if face in made[0]) for faces in flat), *made]
+            else:
+                kernel.give(word, solid, level, *([above] if word == 'cut' else []))
+                made = [kernel.made(LOWER_CAPS), kernel.made(UPPER_CAPS)]
+            if kernel.lines.in_use('solid', above):
                 self._bench.label_alike('solid', [(solid, above)])
             new.update(*made[:2])
         return made

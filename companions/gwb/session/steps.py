@@ -38,16 +38,22 @@ class _Work:
                 try:
                     self._unless_kept()    # (again, where an exception came on the way)
                 finally:
-                    self._leave()
+                    blocks = self._kernel.blocks
+                    if blocks[0] is self:
+                        holder, self._kernel.holder = self._kernel.holder, None
+                        if holder:
+                            holder.end()
+                        self._kernel.lock.notify_all()
+                    self._kernel.notes.group_from = self._outer
+                    del blocks[blocks.index(self):]
 
     def _keep(self) -> None:
-        """What was given stays: in a draft as one command, if there are steps. Labels without a command of their own go with the one beside them."""
+        """What was given stays: of a draft as one command, or where it has no steps as labels that go with the command before it. What was labelled before
+        the first command of a group goes with that."""
         kernel, looks = self._kernel, self._kernel.notes.now.looks
         is_empty = self.is_draft and kernel.lines.mark() == 0
-        if is_empty:
-            kernel.lines.abandon()
-        elif self.is_draft:
-            kernel.lines.commit()
+        if self.is_draft:
+            (kernel.lines.abandon if is_empty else kernel.lines.commit)()
         kernel.settle()
         if is_empty:
             kernel.notes.put(*looks)
@@ -82,17 +88,6 @@ class _Work:
             kernel.lines.abandon()
         kernel.notes.all[kernel.notes.at + 1:] = self._ahead[:kernel.lines.depth - self._before]
         kernel.go_to(self._before)
-
-    def _leave(self) -> None:
-        """Others have their turns again, where nothing is open any more."""
-        blocks = self._kernel.blocks
-        if blocks[0] is self:
-            holder, self._kernel.holder = self._kernel.holder, None
-            if holder:
-                holder.end()
-            self._kernel.lock.notify_all()
-        self._kernel.notes.group_from = self._outer
-        del blocks[blocks.index(self):]
 
 
 class Block:
