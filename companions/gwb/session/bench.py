@@ -14,7 +14,7 @@ from ..geometry.vectors import same_direction
 from . import arguments
 from .kernel import Kernel
 from .library import find_path
-from .reading import EdgePart, Part, SolidPart
+from .reading import Part, SolidPart
 from .steps import Block
 from .turns import TakesTurns
 
@@ -29,24 +29,20 @@ class Bench:
         size = arguments.factor('unit', unit)
         self.kernel = Kernel(find_path() if library is None else arguments.path('library', library), size)
 
-    def number(self, name: str, value: object, kind: str = '') -> int:
-        """The number of a thing of the kind, by default the one that the argument is named after, as the language reads it: 0 to 4,294,967,295. Those
+    def number(self, name: str, value: object, kind: str = '', least: int = 0) -> int:
+        """The number of a thing of the kind, by default the one that the argument is named after, as the language reads it: up to 4,294,967,295. Those
         past 1,000,000 are for the kernel to refuse.
 
         A thing of this workbench may be given too, and for a solid what the command that made it returned."""
         wanted = kind or name
-        if isinstance(value, Part):
-            return self._own(name, value, wanted)
-        made = getattr(value, 'solid', None) if wanted == 'solid' else None
-        return arguments.whole(name, value if made is None else made, 0, arguments.GREATEST_WORD)
-
-    def _own(self, name: str, part: Part, kind: str) -> int:
-        """The number of a thing, if it is of the kind and of this workbench."""
-        if part.kind != kind:
-            raise arguments.wrong(name, f'an {kind}' if kind[0] in 'aeiou' else f'a {kind}', part)
-        if part._kernel is not self.kernel:
-            raise ValueError(f'{name}: {arguments.thing(part)} is of another workbench')
-        return part.number
+        if not isinstance(value, Part):
+            made = getattr(value, 'solid', None) if wanted == 'solid' else None
+            return arguments.whole(name, value if made is None else made, least, arguments.GREATEST_WORD)
+        if value.kind != wanted:
+            raise arguments.wrong(name, f'an {wanted}' if wanted[0] in 'aeiou' else f'a {wanted}', value)
+        if value._kernel is not self.kernel:
+            raise ValueError(f'{name}: {arguments.thing(value)} is of another workbench')
+        return value.number
 
     def several(self, name: str, value: object, kind: str) -> List[int]:
         """The numbers of things of the kind."""
@@ -61,11 +57,9 @@ class Bench:
 
     def half_edge(self, name: str, value: object) -> int:
         """A half-edge, `+e` or `-e`: an edge's number with a sign, or an edge of this workbench, which stands for `+e`."""
-        if isinstance(value, EdgePart):
-            return self._own(name, value, 'edge')
-        if isinstance(value, Part):
+        if isinstance(value, Part) and value.kind != 'edge':
             raise arguments.wrong(name, 'a half-edge', value)
-        return arguments.whole(name, value, -arguments.GREATEST_WORD, arguments.GREATEST_WORD)
+        return self.number(name, value, 'edge', -arguments.GREATEST_WORD)
 
     def half(self, name: str, value: object) -> str:
         """The word for a half-edge."""

@@ -25,12 +25,11 @@ PlaneRow, Motion = _struct(numbers=Wide * 4, flat=WORD), _struct(axes=ctypes.c_i
 CutPlane = _struct(a=LENGTH, b=LENGTH, c=LENGTH, d=LENGTH)
 Ratio = _struct(numerator=ctypes.c_uint64, denominator=ctypes.c_uint64)
 
-_TEXT, _WORDS, _ROWS = ctypes.c_char_p, ctypes.POINTER(WORD), ctypes.POINTER(LENGTH)
-_POINT, _PLANE, _RATIO, _MOTION, _PAIR = (ctypes.POINTER(kind) for kind in (Point, CutPlane, Ratio, Motion, Pair))
+_WORDS, _ROWS, _POINT, _PLANE, _RATIO, _MOTION, _PAIR = map(ctypes.POINTER, (WORD, LENGTH, Point, CutPlane, Ratio, Motion, Pair))
 FaceQuery = _struct(solid=WORD, plane=_PLANE, normal=_POINT, containing=_POINT, area=_RATIO)
 EdgeQuery = _struct(solid=WORD, between=WORD * 2, along=_POINT, length=_RATIO)
 
-_HANDLE, _REFUSAL = ctypes.POINTER(Handle), ctypes.POINTER(Refusal)
+_TEXT, _HANDLE, _REFUSAL, _SIZES = ctypes.c_char_p, *map(ctypes.POINTER, (Handle, Refusal, SIZE))
 # What each call returns, and what it takes after the handle. Readers are lent it.
 _CALLS: Dict[str, Tuple[Any, List[Any]]] = {
     'lent_reply': (SIZE, [_TEXT, SIZE]), 'lent_half_edges': (SIZE, [WORD, _WORDS, SIZE]), 'lent_plane': (WORD, [WORD, ctypes.POINTER(PlaneRow), _REFUSAL]),
@@ -53,8 +52,7 @@ _FEATURES: Dict[str, List[Any]] = {
     'boss': [*_OUTLINE, LENGTH, *_MADE], 'hole': [*_OUTLINE, *_MADE], 'drill': [WORD, _POINT, LENGTH, WORD, LENGTH, *_MADE, _POINT],
     'notch': [*_OUTLINE, LENGTH], 'slot': _STRIP, 'groove': _STRIP, 'shoulder': [WORD, WORD, LENGTH, LENGTH], 'chamfer': [WORD, LENGTH, LENGTH, _WORDS],
     'cut': [WORD, _PLANE, WORD], 'trim': [WORD, _PLANE], 'off_lattice': [WORD, _PLANE, SIZE, ctypes.POINTER(ADDRESS)],
-    'find_faces': [ctypes.POINTER(FaceQuery), _WORDS, SIZE, ctypes.POINTER(SIZE)],
-    'find_edges': [ctypes.POINTER(EdgeQuery), _WORDS, SIZE, ctypes.POINTER(SIZE)]}
+    **{name: [ctypes.POINTER(query), _WORDS, SIZE, _SIZES] for name, query in (('find_faces', FaceQuery), ('find_edges', EdgeQuery))}}
 # Of each call by its export what it returns, and all that it takes.
 PROTOTYPES: Dict[str, Tuple[Any, List[Any]]] = {
     **{f'gwb_{name}': (result, [_HANDLE, *taken]) for name, (result, taken) in _CALLS.items()},

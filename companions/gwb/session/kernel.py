@@ -195,12 +195,13 @@ class Kernel:
 
     # Features
 
-    def _ask(self, word: str, *values: Any) -> None:
-        """Makes a call. A complaint is raised."""
+    def _ask(self, word: str, *values: Any) -> int:
+        """Makes a call, whose answer is OK. A complaint is raised."""
         why = Refusal()
         said = getattr(self.lines.library, word)(self.lines.handle, *values, why)
         if said != OK:
             raise self._complaint(word, said, why)
+        return OK
 
     def give(self, word: str, *values: Any) -> None:
         """Gives a feature."""
@@ -215,12 +216,7 @@ class Kernel:
     def find(self, word: str, query: Any) -> List[int]:
         """The faces or edges that are sought, rising. A complaint is raised."""
         count = SIZE()
-
-        def write(found: Any, room: int) -> int:
-            self._ask(word, query, found, room, count)
-            return count.value
-
-        return list(filled(WORD, write))
+        return list(filled(WORD, lambda found, room: self._ask(word, query, found, room, count) and count.value))
 
     def load(self, model: Model) -> None:
         """Makes what a model has, which isn't empty, with its numbers."""

@@ -221,11 +221,11 @@ class SolidMethods(Methods):
         number, motion = self._bench.number('solid', solid), _motion(change)
         if motion is not None:
             self._kernel.give('move_solid', number, motion)
-            return number
-        after = _changed('move_solid', self._bench.alone(number)[0], change)
-        with Block(self._kernel, False):
-            self._kernel.give('kill_solid', number)
-            self._kernel.load(after)
+        else:
+            after = _changed('move_solid', self._bench.alone(number)[0], change)
+            with Block(self._kernel, False):
+                self._kernel.give('kill_solid', number)
+                self._kernel.load(after)
         return number
 
     def _cut_by(self, word: str, solid: int, plane: Plane, scale: object, above: object) -> Tuple[int, Sequence[Numbers]]:

@@ -10,11 +10,10 @@ from functools import wraps
 from inspect import CO_ASYNC_GENERATOR, CO_COROUTINE, CO_GENERATOR, isfunction
 from threading import current_thread
 from traceback import walk_stack
-from typing import Any, Callable, Tuple, TypeVar, cast
+from typing import Any, Tuple
 
 from ..errors import OutOfStep
 
-Method = TypeVar('Method', bound=Callable[..., Any])
 # Functions that may wait half-way, and go on elsewhere.
 _CAN_WAIT = CO_GENERATOR | CO_COROUTINE | CO_ASYNC_GENERATOR
 _PACKAGE = __name__.rsplit('.', 1)[0]
@@ -69,7 +68,7 @@ class TakesTurns:
                 setattr(cls, name, property(_taken(found.fget, True), doc=found.__doc__))
 
 
-def _taken(method: Method, is_read: bool) -> Method:
+def _taken(method: Any, is_read: bool) -> Any:
     """The method as a turn of its own where it isn't called in one. What is only read has its turn at once where nothing is held."""
 
     @wraps(method)
@@ -85,4 +84,4 @@ def _taken(method: Method, is_read: bool) -> Method:
             finally:
                 kernel.is_inside = False
 
-    return cast(Method, taken)
+    return taken
