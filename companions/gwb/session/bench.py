@@ -18,8 +18,6 @@ from .reading import Part, SolidPart
 from .steps import Block
 from .turns import TakesTurns
 
-_PACKAGE = __name__.split('.')[0]
-
 
 class Bench:
     """A kernel, and what the arguments of methods stand for in it."""
@@ -119,4 +117,4 @@ def _lies_in(model: Model, face: int, shape: FlatFace) -> bool:
 def warn(text: str) -> None:
     """Warns of something, at the line of the caller's that called the package."""
     names = (frame.f_globals.get('__name__', '') for frame, _ in walk_stack(sys._getframe()))
-    warnings.warn(text, stacklevel=next((level for level, name in enumerate(names, 1) if name.split('.')[0] != _PACKAGE), 1))
+    warnings.warn(text, stacklevel=next((level for level, name in enumerate(names, 1) if name.split('.')[0] != __package__.split('.')[0]), 1))

@@ -7,8 +7,7 @@ from typing import Any, Dict, List, Sequence, Tuple
 from ..geometry.vectors import Vector
 
 WORD, SIZE, LENGTH, ADDRESS = ctypes.c_uint32, ctypes.c_size_t, ctypes.c_int64, ctypes.c_void_p
-OK, REFUSED, MEMORY, PLANE, NO_CALL, IMPOSSIBLE = 1, 2, 4, 5, 10, 13
-FOUND = 1
+OK, FOUND, REFUSED, MEMORY, PLANE, NO_CALL, IMPOSSIBLE = 1, 1, 2, 4, 5, 10, 13
 # The lists of what a feature made, by their numbers.
 FLOOR, WALLS, FACES, LOOPS, EDGES, VERTICES, TURNED, LOWER_CAPS, UPPER_CAPS, INTO, SOLIDS = range(11)
 
@@ -28,7 +27,6 @@ Ratio = _struct(numerator=ctypes.c_uint64, denominator=ctypes.c_uint64)
 _WORDS, _ROWS, _POINT, _PLANE, _RATIO, _MOTION, _PAIR = map(ctypes.POINTER, (WORD, LENGTH, Point, CutPlane, Ratio, Motion, Pair))
 FaceQuery = _struct(solid=WORD, plane=_PLANE, normal=_POINT, containing=_POINT, area=_RATIO)
 EdgeQuery = _struct(solid=WORD, between=WORD * 2, along=_POINT, length=_RATIO)
-
 _TEXT, _HANDLE, _REFUSAL, _SIZES = ctypes.c_char_p, *map(ctypes.POINTER, (Handle, Refusal, SIZE))
 # What each call returns, and what it takes after the handle. Readers are lent it.
 _CALLS: Dict[str, Tuple[Any, List[Any]]] = {

@@ -171,12 +171,12 @@ class FeatureMethods(Methods):
     def slot(self, face: arguments.Face, start: arguments.Point, end: arguments.Point, width: int, depth: int) -> Notch:
         """A slot with a flat floor, so wide and deep, whose middle line runs in the face from one point to another. Refused as notch is;
         OffLattice: half of the width isn't whole across the line."""
-        return self._strip('slot', face, start, end, width, depth)
+        return self._shaped('slot', face, start=start, end=end, width=width, depth=depth)
 
     def groove(self, face: arguments.Face, start: arguments.Point, end: arguments.Point, width: int, depth: int) -> Notch:
         """A groove like a V, so wide at the face and so deep under its middle line, which runs from one point to another; it has no floor.
         Refused as notch is; OffLattice: half of the width isn't whole across the line."""
-        return self._strip('groove', face, start, end, width, depth)
+        return self._shaped('groove', face, start=start, end=end, width=width, depth=depth)
 
     def shoulder(self, face: arguments.Face, edge: arguments.Edge, width: int, depth: int) -> Notch:
         """A step along an edge of the face: so wide in the face, from the edge on, and so deep behind it. Refused as notch is; NoEdge,
@@ -203,16 +203,13 @@ class FeatureMethods(Methods):
         numbers, wide = self._bench.different('edges', edges, 'edge'), arguments.positive('width', width)
         return self._sloped('chamfer_edges', numbers, words(numbers), len(numbers), wide)
 
-    def _strip(self, word: str, face: arguments.Face, start: arguments.Point, end: arguments.Point, width: int, depth: int) -> Notch:
-        """Gives a feature along a middle line, so wide and deep."""
-        number, ends = self._bench.number('face', face), (Point(*arguments.point('start', start)), Point(*arguments.point('end', end)))
-        return self._shaped(word, number, *ends, width=width, depth=depth)
-
-    def _shaped(self, word: str, face: int, *values: Any, **sizes: int) -> Notch:
-        """Gives a feature in a face that leaves a floor and walls in its solid, whose labels the parts of its faces get. Refused: NoFace."""
-        lengths = [arguments.positive(name, size) for name, size in sizes.items()]
-        with self._bench.parting(FacePart(self._kernel, face).solid.number) as new:
-            self._kernel.give(word, face, *values, *lengths)
+    def _shaped(self, word: str, face: arguments.Face, *values: Any, **more: Any) -> Notch:
+        """Gives a feature in a face, with its ends and sizes by name, that leaves a floor and walls in its solid, whose labels the parts of its faces
+        get. Refused: NoFace."""
+        number = self._bench.number('face', face)
+        sizes = [Point(*arguments.point(name, size)) if name in ('start', 'end') else arguments.positive(name, size) for name, size in more.items()]
+        with self._bench.parting(FacePart(self._kernel, number).solid.number) as new:
+            self._kernel.give(word, number, *values, *sizes)
             made = Notch(self._kernel.made(FLOOR), self._kernel.made(WALLS))
             new.update(*made)
         return made

@@ -62,7 +62,6 @@ class Kernel:
         self.blocks: List[Any] = []
         # Whether a command is being given, whether this turn has given one, and whether things may have gone that have labels.
         self._is_giving = self._has_given = self._may_have_gone = False
-        # The model that was read last, by the state in which it was.
         self._listing: Dict[Tuple[int, ...], Model] = {}
         # The commands that were held when the session ended, and the labels.
         self._ended: Optional[Tuple[List[str], Dict[Thing, Appearance]]] = None
@@ -126,8 +125,7 @@ class Kernel:
             """The model, if no other thread has the turn. A large one isn't searched: an error says that there is no advice."""
             if self.lock.acquire(blocking=False):
                 try:
-                    is_here = self.holder is None or self.holder.is_here
-                    if is_here and self.lines.state() == state and len(self.listing().edges) <= _MOST_EDGES:
+                    if (self.holder is None or self.holder.is_here) and self.lines.state() == state and len(self.listing().edges) <= _MOST_EDGES:
                         return self.listing()
                 finally:
                     self.lock.release()

@@ -156,8 +156,7 @@ class SolidMethods(Methods):
         With scale=True a cut that is refused NotLattice is made in a finer unit: all coordinates of the bench are multiplied by the least whole
         number that makes the points of the cut whole, and `unit` is divided by it, as one command with the cut. Refused besides: PointRange: a
         point would then lie past 1,000,000,000."""
-        number, level = self._bench.number('solid', solid), arguments.plane('plane', plane)
-        new, made = self._cut_by('split', number, level, scale, above)
+        new, made = self._cut_by('split', self._bench.number('solid', solid), arguments.plane('plane', plane), scale, above)
         return Split(new, *made)
 
     def cut(self, solid: arguments.Solid, plane: arguments.Point, *, keep: str = 'both', above: Optional[int] = None, scale: bool = False) -> Cut:

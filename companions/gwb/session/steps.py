@@ -16,14 +16,6 @@ class _Work:
         self._is_part, self.is_draft = lines.is_drafting, not (is_group or lines.is_drafting)
         self._before, self._mark, self._looks, self._unit, self._ahead = lines.depth, lines.mark(), len(notes.now.looks), notes.now.unit, notes.ahead()
 
-    def begin(self) -> None:
-        """It opens; a group begins with the next command."""
-        if self.is_draft:
-            self._kernel.lines.open_draft()
-            self._kernel.notes.expect()
-        elif self._outer is None:
-            self._kernel.notes.group_from = self._before
-
     def end(self, is_whole: bool) -> None:
         """It is over, with all within it that is still open. It is kept if it is whole; else all is as before, whatever exception comes meanwhile."""
         try:
@@ -110,7 +102,11 @@ class Block:
             self._work = _Work(kernel, self._is_group)
             kernel.blocks.append(self._work)
             try:
-                self._work.begin()
+                if self._work.is_draft:
+                    kernel.lines.open_draft()
+                    kernel.notes.expect()
+                elif kernel.notes.group_from is None:
+                    kernel.notes.group_from = kernel.lines.depth
                 if not kernel.is_inside:
                     kernel.holder = kernel.holder or Holder()
             except BaseException:

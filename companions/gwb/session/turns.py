@@ -16,7 +16,6 @@ from ..errors import OutOfStep
 
 # Functions that may wait half-way, and go on elsewhere.
 _CAN_WAIT = CO_GENERATOR | CO_COROUTINE | CO_ASYNC_GENERATOR
-_PACKAGE = __name__.rsplit('.', 1)[0]
 
 
 class Holder:
@@ -26,7 +25,7 @@ class Holder:
 
     def __init__(self) -> None:
         self._thread = current_thread()
-        self._frame = next((frame for frame, _ in walk_stack(sys._getframe()) if not frame.f_globals.get('__name__', '').startswith(_PACKAGE)), None)
+        self._frame = next((frame for frame, _ in walk_stack(sys._getframe()) if not frame.f_globals.get('__name__', '').startswith(__package__)), None)
         self._held.set((*self._held.get(), self))
 
     def end(self) -> None:
