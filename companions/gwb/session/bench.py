@@ -69,10 +69,7 @@ class Bench:
 
     def new(self, kind: str, given: Optional[int]) -> int:
         """The number that was given, by the argument of the kind's name, or a new one."""
-        if given is not None:
-            return self.number(kind, given)
-        self.kernel.lines.require_open()
-        return self.kernel.numbers.next(kind)
+        return self.kernel.numbers.next(kind) if given is None else self.number(kind, given)
 
     def label_alike(self, kind: str, others: Iterable[Tuple[int, int]]) -> None:
         """Of each pair of solids or faces the second one gets the label that the first one has, if it has one."""

@@ -123,11 +123,11 @@ class Commands(Methods):
     def undo(self, *, command: bool = False) -> None:
         """The last step is taken back: a command, or all those of a feature or a group; with `command=True` one command of it. A draft is one
         command. Refused: NothingToUndo. In a draft InDraft, in a group InGroup."""
-        self._kernel.step('undo', 1 if arguments.flag('command', command) else self._kernel.notes.step_back())
+        self._kernel.step('undo', arguments.flag('command', command))
 
     def redo(self, *, command: bool = False) -> None:
         """The step that was taken back last is done again; with `command=True` one command of it. Refused: NothingToRedo."""
-        self._kernel.step('redo', 1 if arguments.flag('command', command) else self._kernel.notes.step_ahead())
+        self._kernel.step('redo', arguments.flag('command', command))
 
     def plane(self, face: arguments.Face) -> Plane:
         """The plane of the face, which `split` and `faces` take."""

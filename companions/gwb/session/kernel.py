@@ -175,11 +175,11 @@ class Kernel:
         self.numbers.note()
         self._may_have_gone = True
 
-    def step(self, word: str, commands: int) -> None:
-        """Undoes or redoes so many commands, the word says which: all of them or none. A complaint is raised."""
+    def step(self, word: str, is_command: bool) -> None:
+        """Undoes or redoes a step whole, or a command of it, the word says which. A complaint is raised."""
         before = self.lines.depth
         try:
-            for _ in range(commands):
+            for _ in range(1 if is_command else self.notes.step(word)):
                 self.do(word)
         except BaseException:
             self.go_to(before)

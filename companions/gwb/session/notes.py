@@ -99,10 +99,7 @@ class Notes:
 
     # Steps to undo
 
-    def step_back(self) -> int:
-        """How many commands the last step has, of those that are held: 1 where there is none."""
-        return next((count for count in range(1, self.at) if self.all[self.at + 1 - count].begins), max(self.at, 1))
-
-    def step_ahead(self) -> int:
-        """How many commands are left of the step that would be redone: 1 where there is none."""
-        return next((count for count, note in enumerate(self.ahead()) if count > 0 and note.begins), max(len(self.ahead()), 1))
+    def step(self, word: str) -> int:
+        """How many commands are undone or redone with the next step, the word says which: 1 where there is none."""
+        places = range(self.at, 1, -1) if word == 'undo' else range(self.at + 2, len(self.all))
+        return next((count for count, place in enumerate(places, 1) if self.all[place].begins), len(places) + 1)
