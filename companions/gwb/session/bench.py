@@ -28,10 +28,8 @@ class Bench:
         self.kernel = Kernel(find_path() if library is None else arguments.path('library', library), size)
 
     def number(self, name: str, value: object, kind: str = '', least: int = 0) -> int:
-        """The number of a thing of the kind, by default the one that the argument is named after, as the language reads it: up to 4,294,967,295. Those
-        past 1,000,000 are for the kernel to refuse.
-
-        A thing of this workbench may be given too, and for a solid what the command that made it returned."""
+        """The number of a thing of the kind, by default the one that the argument is named after: a number, of which those past 1,000,000 are for the
+        kernel to refuse, a thing of this workbench, or for a solid what the command that made it returned."""
         wanted = kind or name
         if not isinstance(value, Part):
             made = getattr(value, 'solid', None) if wanted == 'solid' else None

@@ -21,8 +21,7 @@ Handle, Refusal = _struct(is_open=ctypes.c_bool, held=ADDRESS, beside=ADDRESS), 
 FaceRow, EdgeRow, Point = _struct(solid=WORD, outer_loop=WORD), _struct(start=WORD, end=WORD), _struct(x=LENGTH, y=LENGTH, z=LENGTH)
 Wide, Pair = _struct(high=LENGTH, low=ctypes.c_uint64), _struct(first=WORD, second=WORD)
 PlaneRow, Motion = _struct(numbers=Wide * 4, flat=WORD), _struct(axes=ctypes.c_int32 * 3, by=Point)
-CutPlane = _struct(a=LENGTH, b=LENGTH, c=LENGTH, d=LENGTH)
-Ratio = _struct(numerator=ctypes.c_uint64, denominator=ctypes.c_uint64)
+CutPlane, Ratio = _struct(a=LENGTH, b=LENGTH, c=LENGTH, d=LENGTH), _struct(numerator=ctypes.c_uint64, denominator=ctypes.c_uint64)
 
 _WORDS, _ROWS, _POINT, _PLANE, _RATIO, _MOTION, _PAIR = map(ctypes.POINTER, (WORD, LENGTH, Point, CutPlane, Ratio, Motion, Pair))
 FaceQuery = _struct(solid=WORD, plane=_PLANE, normal=_POINT, containing=_POINT, area=_RATIO)

@@ -73,8 +73,7 @@ class Kernel:
         self.lines.close()
 
     def begin_turn(self) -> None:
-        """With the lock, waits for the end of what is held, unless what calls this is part of it. What an exception left half-way is put right: a draft
-        that nobody has begun is given up, and the notes follow the commands."""
+        """With the lock, waits for the end of what is held, unless what calls this is part of it. What an exception left half-way is put right."""
         if self.holder:
             self.holder.leave_ended()
         while self.holder and not self.holder.is_here:
@@ -82,7 +81,7 @@ class Kernel:
             self.lock.wait(_PATIENCE)
         self._is_giving = self._has_given = False
         if self.lines.is_drafting and not any(block.is_draft for block in self.blocks):
-            self.lines.abandon()
+            self.lines.abandon()    # (nobody has begun it)
         self.settle()
 
     def settle(self) -> None:
@@ -274,8 +273,7 @@ class NewNumbers:
         self._ever = {kind: max(ever, self._lines.greatest(kind)) for kind, ever in self._ever.items()}
 
     def next(self, kind: str) -> int:
-        """One above all that are in use or were; where the greatest there is was used, the least after the last one so given that isn't in use; where
-        none is left, one past the greatest, which the kernel refuses."""
+        """One above all that are in use or were, else the next one in a gap, else one past the greatest there is, which the kernel refuses."""
         return next(self._free(kind, self._unseen[kind]), LARGEST + 1)
 
     def instead_of(self, model: Model) -> Dict[str, Dict[int, int]]:

@@ -19,9 +19,8 @@ class Note:
 
 
 class Notes:
-    """The notes of all commands that are held or can be redone; a command without a note of its own has one that says nothing new.
-
-    The commands are the library's: `settle` brings the notes to as many as are held there, so whatever exception comes between, they agree."""
+    """The notes of all commands that are held or can be redone; a command without a note of its own has one that says nothing new. The commands are
+    the library's: `settle` brings the notes to as many as are held there, so whatever exception comes between, they agree."""
 
     def __init__(self, unit: Fraction) -> None:
         # The first note goes with what was there before all commands; after so many come those of commands that can be redone.
@@ -37,8 +36,6 @@ class Notes:
     def now(self) -> Note:
         """That of what comes, as in a draft, or of the last command."""
         return self._coming or self.all[self.at]
-
-    # Labels
 
     @property
     def labels(self) -> Dict[Thing, Appearance]:
@@ -63,8 +60,6 @@ class Notes:
         self._labels = None
         self.all[0].looks += labels.items()
 
-    # Commands
-
     def expect(self) -> None:
         """A command or a draft is about to be given, outside of a draft."""
         self._coming = Note(self.group_from is None or self.at <= self.group_from, self.all[self.at].unit)
@@ -79,25 +74,14 @@ class Notes:
             self.all.append(Note(True, self.all[-1].unit))
         self.at, self._coming = depth, None
 
-    # Drafts and groups
-
     def go_back(self, looks: int, unit: Fraction) -> None:
         """It is as it was when the same draft, or the same command, had so many labels, and this unit."""
         self._labels, self.now.unit = None, unit
         del self.now.looks[looks:]
 
-    def hand_on(self, command: int, place: int) -> None:
-        """The labels of the note of a command, from a place on, go with the next command, if one is held."""
-        if self.at > command:
-            looks = self.all[command].looks
-            self.all[command + 1].looks[:0] = looks[place:]
-            del looks[place:]
-
     def ahead(self) -> List[Note]:
         """The notes of the commands that can be redone."""
         return self.all[self.at + 1:]
-
-    # Steps to undo
 
     def step(self, word: str) -> int:
         """How many commands are undone or redone with the next step, the word says which: 1 where there is none."""

@@ -1,7 +1,4 @@
-"""The methods of a workbench that take solids as wholes: taken away, copied, moved, turned, mirrored, set in rows, cut and joined.
-
-The library does it where axes go to axes. In another plane a solid is mirrored here, and made anew of its listing.
-"""
+"""The methods of a workbench that take solids as wholes. The library places them where axes go to axes; in another plane they are mirrored here."""
 
 import ctypes
 from dataclasses import dataclass, field
@@ -228,10 +225,8 @@ class SolidMethods(Methods):
         return number
 
     def _cut_by(self, word: str, solid: int, plane: Plane, scale: object, above: object) -> Tuple[int, Sequence[Numbers]]:
-        """Cuts a solid by a plane, with the number for what is above it if one is given: this, and what is made. Where points of the cut aren't whole, it is
-        refused with the least factor by which they are, or done once the unit is the least finer one in which they are; both as one command.
-
-        Refused: what the cut is refused for, with all as before; PointRange: in the finer unit a point would leave the range."""
+        """Cuts a solid by a plane: the number for what is above it, and what is made. Where points of the cut aren't whole, it is refused with the least
+        factor by which they are, or made once the unit is the least finer one in which they are. Refused besides: PointRange: one would leave the range."""
         may_scale = arguments.flag('scale', scale)
         new = self._bench.new('solid', None) if above is None else self._bench.number('above', above, 'solid')
         try:

@@ -40,17 +40,19 @@ class _Work:
                     del blocks[blocks.index(self):]
 
     def _keep(self) -> None:
-        """What was given stays: of a draft as one command, or where it has no steps as labels that go with the command before it. What was labelled before
-        the first command of a group goes with that."""
-        kernel, looks = self._kernel, self._kernel.notes.now.looks
+        """What was given stays: of a draft as one command. The labels of one without steps go with the command before it, and those that were given
+        before the first command of a group with that."""
+        kernel, notes, looks = self._kernel, self._kernel.notes, self._kernel.notes.now.looks
         is_empty = self.is_draft and kernel.lines.mark() == 0
         if self.is_draft:
             (kernel.lines.abandon if is_empty else kernel.lines.commit)()
         kernel.settle()
         if is_empty:
-            kernel.notes.put(*looks)
-        elif self._outer is None:
-            kernel.notes.hand_on(self._before, self._looks)
+            notes.put(*looks)
+        elif self._outer is None and notes.at > self._before:
+            early = notes.all[self._before].looks
+            notes.all[self._before + 1].looks[:0] = early[self._looks:]
+            del early[self._looks:]
 
     def _unless_kept(self) -> None:
         """All is as it was before it, unless it is kept."""

@@ -1,7 +1,6 @@
 """Turns: while a call of a workbench is under way, calls of other threads wait; while a draft or group is open, all that isn't part of it waits.
 
-Of a draft is what runs in the context (contextvars) of the task or thread that began it, or in the function whose `with` holds it, wherever that
-goes on."""
+Of a draft is what runs in the context (contextvars) of the task or thread that began it, or in the function whose `with` holds it."""
 
 import sys
 from contextlib import suppress
