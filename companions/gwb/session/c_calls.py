@@ -29,11 +29,11 @@ EdgeQuery = _struct(solid=WORD, between=WORD * 2, along=_POINT, length=_RATIO)
 _TEXT, _HANDLE, _REFUSAL, _SIZES = ctypes.c_char_p, *map(ctypes.POINTER, (Handle, Refusal, SIZE))
 # What each call returns, and what it takes after the handle. Readers are lent it.
 _CALLS: Dict[str, Tuple[Any, List[Any]]] = {
-    'lent_reply': (SIZE, [_TEXT, SIZE]), 'lent_half_edges': (SIZE, [WORD, _WORDS, SIZE]), 'lent_plane': (WORD, [WORD, ctypes.POINTER(PlaneRow), _REFUSAL]),
-    **dict.fromkeys(('lent_depth', 'lent_ahead', 'lent_mark'), (SIZE, [])), 'lent_fresh': (WORD, [WORD, _PAIR]), 'lent_vertex': (WORD, [WORD, _POINT]),
+    **dict.fromkeys(('lent_depth', 'lent_ahead', 'lent_mark'), (SIZE, [])), 'lent_reply': (SIZE, [_TEXT, SIZE]), 'lent_fresh': (WORD, [WORD, _PAIR]),
     **dict.fromkeys(('lent_number_after', 'lent_ring_after', 'lent_face_after'), (WORD, [WORD, WORD, _WORDS])),
     **dict.fromkeys(('lent_loop', 'lent_lone_vertex', 'lent_half_edge_loop'), (WORD, [WORD, _WORDS])),
-    'lent_face': (WORD, [WORD, ctypes.POINTER(FaceRow)]), 'lent_edge': (WORD, [WORD, ctypes.POINTER(EdgeRow)]),
+    'lent_face': (WORD, [WORD, ctypes.POINTER(FaceRow)]), 'lent_edge': (WORD, [WORD, ctypes.POINTER(EdgeRow)]), 'lent_vertex': (WORD, [WORD, _POINT]),
+    'lent_plane': (WORD, [WORD, ctypes.POINTER(PlaneRow), _REFUSAL]), 'lent_half_edges': (SIZE, [WORD, _WORDS, SIZE]),
     'open': (ctypes.c_bool, []), 'close': (None, []), 'line': (WORD, [_TEXT, SIZE]),
     **dict.fromkeys(('draft', 'commit', 'abandon', 'record'), (WORD, [])), 'back': (WORD, [SIZE]), 'recorded': (SIZE, []),
     'script': (SIZE, [SIZE, SIZE, _TEXT, SIZE]), 'greatest_number': (SIZE, [WORD]), 'stop_by': (None, [ADDRESS, ADDRESS]),

@@ -160,8 +160,8 @@ class Kernel:
             self._may_have_gone = bool(gone)    # (there still, where nothing comes of what is given)
         if word in _FREEING:
             self.expect_loss()
-        if word == 'undo' and self.lines.depth:
-            self.notes.now.text = self.lines.script(self.lines.depth - 1, 1)
+        if word == 'undo' and self.notes.at > 0 and not self.notes.now.text:
+            self.notes.now.text = self.lines.script(self.notes.at - 1, 1)
         self._is_giving = self._has_given = True
         try:
             return give()

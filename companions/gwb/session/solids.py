@@ -225,8 +225,8 @@ class SolidMethods(Methods):
         return number
 
     def _cut_by(self, word: str, solid: int, plane: Plane, scale: object, above: object) -> Tuple[int, Sequence[Numbers]]:
-        """Cuts a solid by a plane: the number for what is above it, and what is made. Where points of the cut aren't whole, it is refused with the least
-        factor by which they are, or made once the unit is the least finer one in which they are. Refused besides: PointRange: one would leave the range."""
+        """Cuts a solid by a plane: the number for what is above it, and what is made. Where points of the cut aren't whole, it is refused with the
+        least factor by which they are, or made once the unit is so much finer. Refused besides: PointRange: a point would then leave the range."""
         may_scale = arguments.flag('scale', scale)
         new = self._bench.new('solid', None) if above is None else self._bench.number('above', above, 'solid')
         try:
@@ -252,20 +252,20 @@ class SolidMethods(Methods):
             return new, self._parted(word, solid, without_common_factor((*plane[:3], plane[3] * factor)), new)
 
     def _parted(self, word: str, solid: int, plane: Plane, above: int) -> Sequence[Numbers]:
-        """Cuts a solid as one command: the caps of both parts, and of a split all new faces, edges and vertices. The part above, if it is kept, and parts
-        of faces have the labels of what they were part of."""
-        kernel, level = self._kernel, CutPlane(*plane)
+        """Cuts a solid as one command: the caps of both parts, and of a split all new faces, edges and vertices. The part above, if it is kept, and
+        parts of faces have the labels of what they were part of."""
+        kernel, lines, level = self._kernel, self._kernel.lines, CutPlane(*plane)
         with self._bench.parting(solid, above) as new:
             if word == 'split':
                 kernel.do('split', solid, *plane, above)
                 # (some fresh numbers are taken on the way)
-                made = [tuple(number for number in kernel.lines.fresh(kind) if kernel.lines.in_use(kind, number)) for kind in ('face', 'edge', 'vertex')]
+                made = [tuple(number for number in lines.fresh(kind) if lines.in_use(kind, number)) for kind in ('face', 'edge', 'vertex')]
                 flat = [kernel.find('find_faces', FaceQuery(solid=side, plane=ctypes.pointer(level))) for side in (solid, above)]
                 made = [*(tuple(face for face in faces if face in made[0]) for faces in flat), *made]
             else:
                 kernel.give(word, solid, level, *([above] if word == 'cut' else []))
                 made = [kernel.made(LOWER_CAPS), kernel.made(UPPER_CAPS)]
-            if kernel.lines.in_use('solid', above):
+            if lines.in_use('solid', above):
                 self._bench.label_alike('solid', [(solid, above)])
             new.update(*made[:2])
         return made

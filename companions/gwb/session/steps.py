@@ -13,8 +13,8 @@ class _Work:
     def __init__(self, kernel: Kernel, is_group: bool) -> None:
         lines, notes = kernel.lines, kernel.notes
         self._kernel, self._is_kept, self._outer = kernel, False, notes.group_from
-        self._is_part, self.is_draft = lines.is_drafting, not (is_group or lines.is_drafting)
-        self._before, self._mark, self._looks, self._unit, self._ahead = lines.depth, lines.mark(), len(notes.now.looks), notes.now.unit, notes.ahead()
+        self._is_part, self._before, self._mark, self._ahead = lines.is_drafting, notes.at, lines.mark(), notes.ahead()
+        self.is_draft, self._looks, self._unit = not (is_group or self._is_part), len(notes.now.looks), notes.now.unit
 
     def end(self, is_whole: bool) -> None:
         """It is over, with all within it that is still open. It is kept if it is whole; else all is as before, whatever exception comes meanwhile."""
@@ -108,7 +108,7 @@ class Block:
                     kernel.lines.open_draft()
                     kernel.notes.expect()
                 elif kernel.notes.group_from is None:
-                    kernel.notes.group_from = kernel.lines.depth
+                    kernel.notes.group_from = kernel.notes.at
                 if not kernel.is_inside:
                     kernel.holder = kernel.holder or Holder()
             except BaseException:

@@ -24,7 +24,8 @@ class Holder:
 
     def __init__(self) -> None:
         self._thread = current_thread()
-        self._frame = next((frame for frame, _ in walk_stack(sys._getframe()) if not frame.f_globals.get('__name__', '').startswith(__package__)), None)
+        frames = (frame for frame, _ in walk_stack(sys._getframe()))
+        self._frame = next((frame for frame in frames if not frame.f_globals.get('__name__', '').startswith(__package__)), None)
         self._held.set((*self._held.get(), self))
 
     def end(self) -> None:
