@@ -88,7 +88,8 @@ class FeatureMethods(Methods):
         across, start = reduced(part.normal), start or min(points)
         if dot(across, start) != dot(across, points[0]):
             raise Impossible('NotInPlane', part.number, f'the origin {start} lies off the plane of face {part.number}')
-        to_right = wanted or [*(axis for axis in ((1, 0, 0), (0, 1, 0), (0, 0, 1)) if dot(across, axis) == 0), ZERO][0]
+        axis = next((axis for axis in ((1, 0, 0), (0, 1, 0), (0, 0, 1)) if dot(across, axis) == 0), ZERO)
+        to_right = wanted or axis
         if to_right == ZERO or dot(across, to_right) != 0:
             raise Impossible('NotInPlane', part.number, f'a direction in the plane of face {part.number} is wanted, not {to_right}')
         way, upward = scaled(to_right, 1 if wanted else isqrt(dot(across, across))), reduced(cross(across, to_right))

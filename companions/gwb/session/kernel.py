@@ -192,13 +192,12 @@ class Kernel:
 
     # Features
 
-    def _ask(self, word: str, *values: Any) -> int:
-        """Makes a call, whose answer is OK. A complaint is raised."""
+    def _ask(self, word: str, *values: Any) -> None:
+        """Makes a call. A complaint is raised."""
         why = Refusal()
         said = getattr(self.lines.library, word)(self.lines.handle, *values, why)
         if said != OK:
             raise self._complaint(word, said, why)
-        return OK
 
     def give(self, word: str, *values: Any) -> None:
         """Gives a feature."""
@@ -213,7 +212,12 @@ class Kernel:
     def find(self, word: str, query: Any) -> List[int]:
         """The faces or edges that are sought, rising. A complaint is raised."""
         count = SIZE()
-        return list(filled(WORD, lambda found, room: self._ask(word, query, found, room, count) and count.value))
+
+        def write(found: Any, room: int) -> int:
+            self._ask(word, query, found, room, count)
+            return count.value
+
+        return list(filled(WORD, write))
 
     def load(self, model: Model) -> None:
         """Makes what a model has, which isn't empty, with its numbers."""
@@ -224,8 +228,10 @@ class Kernel:
         """The least number by which the model must be multiplied for all points of a cut to be whole."""
         advice = ADDRESS()
         self._ask('off_lattice', solid, CutPlane(*plane), 0, advice)
-        factor = self.lines.library.advice_factor(advice)
-        self.lines.library.advice_free(advice)
+        try:
+            factor = self.lines.library.advice_factor(advice)
+        finally:
+            self.lines.library.advice_free(advice)
         # (0 where it is too great to be said: out of range in any case)
         return (factor.high << 64 | factor.low) or 2 ** 62
 
