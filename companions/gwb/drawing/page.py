@@ -8,10 +8,9 @@ from pathlib import Path
 from typing import Dict, Iterable, List, Mapping, NamedTuple, Optional, Protocol, Tuple
 
 from ..geometry.model import Model
-from .page_rows import PageRows, Rows
+from .page_rows import EMPTY, PageRows, Rows
 
 _FILES = Path(__file__).resolve().parent / 'page'
-_EMPTY = Model((), {}, {}, {}, {})
 _SCRIPTS = ('picture.js', 'section.js', 'measure.js', 'painter.js', 'flat.js', 'panels.js', 'page.js')
 
 
@@ -69,7 +68,7 @@ def page_of(model: Model, title: str = 'gwb', looks: Looks = _PLAIN) -> str:
 
 def page_of_steps(steps: Iterable[Step], title: str = 'gwb', looks: Looks = _PLAIN) -> str:
     """A page that plays a script: the empty workbench, and what each command changes."""
-    frames: List[Dict[str, object]] = [{'change': PageRows().of(_EMPTY)}]
+    frames: List[Dict[str, object]] = [{'change': PageRows().of(EMPTY)}]
     frames += ({'line': step.line, 'reply': step.reply, 'bad': step.is_complaint, 'change': step.change} for step in steps)
     return _page({'steps': True, 'frames': frames, **_looks_data(looks)}, title)
 

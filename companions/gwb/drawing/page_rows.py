@@ -9,9 +9,9 @@ from ..geometry.plane_figures import turn
 from ..geometry.touched_edges import touched_edges
 from ..geometry.triangulation import face_triangles
 from ..geometry.vectors import ZERO, dot, flat_axes
-from ..scripts.followed import Changes, Followed
 
 Rows = Dict[int, object]
+EMPTY = Model((), {}, {}, {}, {})
 
 
 class PageRows:
@@ -22,28 +22,29 @@ class PageRows:
 
     def of(self, model: Model) -> Dict[str, Rows]:
         """All things of the model."""
-        return {'faces': {face: self._face(model, face) for face in model.faces},
-                'edges': dict(model.edges), 'vertices': dict(model.vertices)}
+        return self.changed(EMPTY, model)
 
-    def changed(self, followed: Followed, changes: Changes) -> Dict[str, Rows]:
-        """The things that a command changed, as they are after it, and None for those that have gone."""
-        faces = followed.faces_at(changes)
-        part = followed.part(faces)
-        return {'faces': {**{face: None for face in changes.faces if face not in followed.faces}, **{face: self._face(part, face) for face in faces}},
-                'edges': _now(changes.edges, followed.edges), 'vertices': _now(changes.vertices, followed.vertices)}
+    def changed(self, before: Model, after: Model) -> Dict[str, Rows]:
+        """The things that differ, as they are after, and None for those that have gone. Of models the same faces do, with all that differ."""
+        faces = _differences(_keys(before), _keys(after))
+        return {'faces': {face: None if key is None else self._face(after, face, key) for face, key in faces.items()},
+                'edges': _differences(before.edges, after.edges), 'vertices': _differences(before.vertices, after.vertices)}
 
-    def _face(self, model: Model, face: int) -> List[object]:
-        loops = model.faces[face].loops
-        key = (model.faces[face], tuple(model.loops[loop] for loop in loops),
-               tuple((vertex, model.vertices[vertex]) for vertex in model.face_vertices(face)))
+    def _face(self, model: Model, face: int, key: Hashable) -> List[object]:
         if key not in self._faces:
             self._faces[key] = _face_row(model, face)
         return self._faces[key]
 
 
-def _now(before: Mapping[int, object], held: Mapping[int, object]) -> Rows:
-    """The rows that are others than before."""
-    return {number: held.get(number) for number, row in before.items() if held.get(number) != row}
+def _differences(before: Mapping[int, object], after: Mapping[int, object]) -> Rows:
+    """The rows that are others than before, and None for those that have gone."""
+    return {**dict.fromkeys(before.keys() - after.keys()), **{number: row for number, row in after.items() if before.get(number) != row}}
+
+
+def _keys(model: Model) -> Dict[int, Hashable]:
+    """For each face all that its row is told by."""
+    return {number: (face, tuple(model.loops[loop] for loop in face.loops), tuple((it, model.vertices[it]) for it in model.face_vertices(number)))
+            for number, face in model.faces.items()}
 
 
 def _face_row(model: Model, face: int) -> List[object]:

@@ -1,15 +1,30 @@
-"""Runs a script through the program, command by command, for the page that plays it."""
+"""Runs a script, command by command, for the page that plays it."""
 
-from typing import List, NamedTuple, Tuple
+import os
+import re
+from typing import Dict, Iterable, List, NamedTuple, Optional, Sequence, Set, Tuple, Union
 
 from ..drawing.page import Step
-from ..drawing.page_rows import PageRows
+from ..drawing.page_rows import EMPTY, PageRows
+from ..errors import ProgramMissing
 from ..geometry.model import Model
+from ..geometry.vectors import Vector
 from ..protocol.language import first_word, is_answered
 from ..protocol.replies import Reply, shortened
-from ..scripts.followed import Followed, no_changes
+from ..session.library import Library, find_path, is_library
 from .explain import meaning
 from .pipe import Pipe, find_program
+
+# By the words of a command, in their order, the faces that it may change: a face, the one of a loop, those at a half-edge or a corner, those of a
+# solid, or of the solid of a face (T). Those of `_FRESH` make more; those of `_WHOLE` may change the ends of all edges of these faces.
+_PLACES = {'mvfs': '.F', 'kvfs': 'S', 'mev': 'H', 'mef': 'H..F', 'kef': 'H', 'kemr': 'H', 'mekr': 'H', 'kfmrh': 'FF', 'mfkrh': 'LF', 'ringmv': 'LF',
+           'sweep': 'F', 'glue': 'TT', 'split': 'S'}
+_FRESH, _WHOLE = ('lamina', 'block', 'sweep', 'split'), ('glue', 'split')
+# Where the command stands that is taken back or done again, from how many are held.
+_TURNS = {'undo': -1, 'redo': 0}
+_NUMBER = re.compile('@?([+-]?)0*([0-9]{1,9})')
+# The reply to a command, and the model before and after it, or that of some faces, among which are all that it changed.
+Answer = Tuple[Reply, Model, Model]
 
 
 class Played(NamedTuple):
@@ -19,31 +34,137 @@ class Played(NamedTuple):
     model: Model
 
 
-class _Player:
-    """Gives commands to the program, and follows what they change."""
+class ProgramPlayer(Pipe):
+    """Runs commands by the program, whose model is listed after each that is accepted."""
 
-    def __init__(self, pipe: Pipe, is_read: bool) -> None:
-        self._pipe, self._is_read = pipe, is_read
-        self._rows = PageRows()
-        self.followed = Followed()
+    _held = EMPTY
 
-    def step(self, line: bytes) -> Step:
+    def give(self, line: str) -> Answer:
         """Runs a command."""
-        text = line.decode('utf-8', 'surrogateescape')
-        reply = self._pipe.ask(text)
-        changes = self.followed.follow(text.split(), self._pipe.model, self._is_read) if reply.word == 'ok' else no_changes()
-        told = shortened(line.decode('ascii', 'backslashreplace').strip(), 200)
-        return Step(told, _told(line, reply), reply.is_complaint, self._rows.changed(self.followed, changes))
+        before, reply = self._held, self.ask(line)
+        if reply.word == 'ok':
+            self._held = self.model()
+        return reply, before, self._held
+
+    def whole(self) -> Model:
+        """The model held."""
+        return self._held
+
+
+class _Near(NamedTuple):
+    """What a command may change: faces, and of what is there edges whose ends may become others."""
+
+    faces: Set[int]
+    edges: Set[int]
+
+
+class LibraryPlayer(Library):
+    """Runs commands by the library, of which those faces are read that a command may change. Edges and points are held for as long as they stay."""
+
+    def __init__(self, path: str) -> None:
+        super().__init__(path)
+        self._edges: Dict[int, Optional[Tuple[int, int]]] = {}
+        self._points: Dict[int, Optional[Vector]] = {}
+        self._commands: List[_Near] = []
+
+    def edge(self, edge: int) -> Optional[Tuple[int, int]]:
+        """The vertices of an edge."""
+        return self._edges.get(edge) or super().edge(edge)
+
+    def vertex(self, vertex: int) -> Optional[Vector]:
+        """The point of a vertex."""
+        return self._points.get(vertex) or super().vertex(vertex)
+
+    def whole(self) -> Model:
+        """The model held."""
+        return self.model(self.numbers('face'))
+
+    def give(self, line: str) -> Answer:
+        """Runs a command."""
+        word, *given = line.split() or ['']
+        near, place = self._near(word, given), self.depth
+        before = self.model(near.faces)
+        reply = self.ask(line)
+        if reply.word != 'ok':
+            return reply, before, before
+        near.faces.update(self.fresh('face') if word in _FRESH else ())
+        near.edges.update(before.edges if word in _WHOLE else ())
+        if word not in _TURNS:
+            self._commands[place:] = [near]
+        return reply, before, self._read_again(near, before)
+
+    def _read_again(self, near: _Near, before: Model) -> Model:
+        """The faces after a command."""
+        self._edges.update(dict.fromkeys(near.edges))
+        after = self.model(near.faces)
+        self._edges.update({**dict.fromkeys(before.edges), **after.edges})
+        self._points.update({**dict.fromkeys(before.vertices), **after.vertices})
+        return after
+
+    def _near(self, word: str, given: Sequence[str]) -> _Near:
+        """What a command may change, should it be accepted; `undo` and `redo` change what theirs did."""
+        if word in _TURNS:
+            place = self.depth + _TURNS[word]
+            return next(iter(self._commands[place:place + 1]), _Near(set(), set()))
+        faces = {face for kind, named in zip(_PLACES.get(word, ''), given) for face in self._faces(kind, named)}
+        halves = self._turned(word, [_number(named) for named in given[:2] if named[0] in '+-'])
+        return _Near(faces.union(map(self.face_at, halves)), {abs(half) for half in halves})
+
+    def _faces(self, kind: str, named: str) -> Iterable[int]:
+        """The faces that a word of a command names by something of this kind."""
+        number = _number(named)
+        if kind in 'ST':
+            return self.faces_of(number if kind == 'S' else self.solid_of(number))
+        if kind == 'L' or named.startswith('@'):
+            return (self.face_of_loop(number),)
+        if kind == 'H':
+            return (self.face_at(number), self.face_at(-number))
+        return (number,) if kind == 'F' else ()
+
+    def _turned(self, word: str, halves: Sequence[int]) -> List[int]:
+        """The half-edges that `mev` or `kev` makes start at another vertex, and one more."""
+        if word == 'mev' and len(halves) == 2:
+            return self._round(*halves)
+        return self._round(-halves[0], 0) if word == 'kev' and halves else []
+
+    def _round(self, first: int, last: int) -> List[int]:
+        """The half-edges that start at a vertex, from one round to the last, or all."""
+        found = [first]
+        while found[-1] != last and (after := self.next_half(-found[-1])) not in (0, first):
+            found.append(after)
+        return found
+
+
+def _number(word: str) -> int:
+    """The number that a word of a command has, 0 where it has none."""
+    found = _NUMBER.fullmatch(word)
+    return int(found[1] + found[2]) if found else 0
+
+
+def _player() -> Union[LibraryPlayer, ProgramPlayer]:
+    """The library; the program where the environment variable GWB names one, or there is no library."""
+    named = os.environ.get('GWB', '')
+    if not named or is_library(named):
+        try:
+            return LibraryPlayer(find_path())
+        except ProgramMissing:
+            if named:
+                raise
+    return ProgramPlayer(find_program())
 
 
 def played(script: bytes) -> Played:
-    """The commands of a script, run one after another through the program.
-
-    What each changes is followed here, and compared with the program's listing at the end. Where that differs, the script is
-    run again, and the model is read from a listing after each command.
-    """
-    run, is_right = _run(script, False)
-    return run if is_right else _run(script, True)[0]
+    """The commands of a script, run one after another."""
+    player, rows = _player(), PageRows()
+    try:
+        steps = []
+        for line in filter(is_answered, script.split(b'\n')):
+            reply, before, after = player.give(line.decode('utf-8', 'surrogateescape'))
+            told = shortened(line.decode('ascii', 'backslashreplace').strip(), 200)
+            steps.append(Step(told, _told(line, reply), reply.is_complaint, rows.changed(before, after)))
+        return Played(steps, player.whole())
+    finally:
+        player.close()
 
 
 class Ended(NamedTuple):
@@ -66,18 +187,6 @@ def run_to_its_end(script: bytes) -> Ended:
         return Ended(pipe.model(), complaints)
     finally:
         pipe.close()
-
-
-def _run(script: bytes, is_read: bool) -> Tuple[Played, bool]:
-    """Runs the script: what that gives, and whether the model that was followed is the program's."""
-    pipe = Pipe(find_program())
-    try:
-        player = _Player(pipe, is_read)
-        steps = [player.step(line) for line in script.split(b'\n') if is_answered(line)]
-        model = pipe.model()
-    finally:
-        pipe.close()
-    return Played(steps, model), model == player.followed.model()
 
 
 def _told(line: bytes, reply: Reply) -> str:

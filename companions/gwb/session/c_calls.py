@@ -31,7 +31,7 @@ _TEXT, _HANDLE, _REFUSAL, _SIZES = ctypes.c_char_p, *map(ctypes.POINTER, (Handle
 _CALLS: Dict[str, Tuple[Any, List[Any]]] = {
     **dict.fromkeys(('lent_depth', 'lent_ahead', 'lent_mark'), (SIZE, [])), 'lent_reply': (SIZE, [_TEXT, SIZE]), 'lent_fresh': (WORD, [WORD, _PAIR]),
     **dict.fromkeys(('lent_number_after', 'lent_ring_after', 'lent_face_after'), (WORD, [WORD, WORD, _WORDS])),
-    **dict.fromkeys(('lent_loop', 'lent_lone_vertex', 'lent_half_edge_loop'), (WORD, [WORD, _WORDS])),
+    **dict.fromkeys(('lent_loop', 'lent_lone_vertex', 'lent_half_edge_loop', 'lent_next_half_edge'), (WORD, [WORD, _WORDS])),
     'lent_face': (WORD, [WORD, ctypes.POINTER(FaceRow)]), 'lent_edge': (WORD, [WORD, ctypes.POINTER(EdgeRow)]), 'lent_vertex': (WORD, [WORD, _POINT]),
     'lent_plane': (WORD, [WORD, ctypes.POINTER(PlaneRow), _REFUSAL]), 'lent_half_edges': (SIZE, [WORD, _WORDS, SIZE]),
     'open': (ctypes.c_bool, []), 'close': (None, []), 'line': (WORD, [_TEXT, SIZE]),

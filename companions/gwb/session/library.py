@@ -225,7 +225,7 @@ class Library:
         """A loop, its half-edges from the least on; None where it is not there."""
         vertex = self._number('lone_vertex', loop)
         codes = [] if vertex else filled(WORD, lambda buffer, room: int(self.library.half_edges(self.handle, loop, buffer, room)))
-        halves = from_least(-(code // 2) if code % 2 else code // 2 for code in codes) if codes else ()
+        halves = from_least(map(_half, codes)) if codes else ()
         return Loop(halves, vertex) if halves or vertex else None
 
     def face_of_loop(self, loop: int) -> int:
@@ -234,7 +234,11 @@ class Library:
 
     def face_at(self, half: int) -> int:
         """The face in whose loops a half-edge stands that is there."""
-        return self.face_of_loop(self._number('half_edge_loop', 2 * half if half > 0 else 1 - 2 * half) or 0)
+        return self.face_of_loop(self._number('half_edge_loop', _code(half)) or 0)
+
+    def next_half(self, half: int) -> int:
+        """The half-edge after another in its loop; 0 where it is not there."""
+        return _half(self._number('next_half_edge', _code(half)) or 0)
 
     def tail(self, half: int) -> int:
         """The vertex at which a half-edge starts that is there."""
@@ -252,7 +256,7 @@ class Library:
         return row and (row.x, row.y, row.z)
 
     def model(self, faces: Iterable[int]) -> Model:
-        """The model of these faces alone, which are there, without the rest: of an edge the other side may be missing."""
+        """The model of those of these faces that are there, without the rest: of an edge the other side may be missing."""
         rows = {face: row for face in sorted(faces) for row in [self.face(face)] if row}
         loops = {loop: row for loop in sorted(loop for face in rows.values() for loop in face.loops) for row in [self.loop(loop)] if row}
         edges = {edge: ends for edge in sorted({abs(half) for loop in loops.values() for half in loop.halves}) for ends in [self.edge(edge)] if ends}
@@ -275,6 +279,16 @@ class Library:
         while number is not None:
             yield number
             number = self._number(name, of, number)
+
+
+def _code(half: int) -> int:
+    """A half-edge as the library takes it."""
+    return 2 * half if half > 0 else 1 - 2 * half
+
+
+def _half(code: int) -> int:
+    """A half-edge as the library gives it."""
+    return -(code // 2) if code % 2 else code // 2
 
 
 def filled(kind: Any, write: Callable[[Any, int], int]) -> Any:

@@ -1,26 +1,31 @@
-"""What commands change, followed beside the program: random ones, each compared with its listing."""
+"""What commands change, told as they are played: random ones, each compared with a listing. test_session_playing.py does it by the library."""
 
+import os
 import random
 import unittest
 from collections import Counter
+from itertools import permutations
 from unittest import mock
 
 from support import program
 
-from gwb.programs.playing import played
-from gwb.scripts import followed
-from gwb.scripts.followed import Followed
+from gwb.drawing.page_rows import EMPTY, PageRows
+from gwb.errors import ProgramMissing
+from gwb.programs import playing
 from gwb.programs.pipe import Pipe
+from gwb.programs.playing import ProgramPlayer, played
+from gwb.protocol.listing import model_of
 
 WORDS = ('mvfs', 'kvfs', 'mev', 'kev', 'mef', 'kef', 'kemr', 'mekr', 'kfmrh', 'mfkrh', 'ringmv', 'lamina', 'block', 'sweep', 'glue', 'split',
          'undo', 'redo')
+RARE = ('kemr', 'ringmv', 'glue', 'split', 'split', 'redo')
 
 
 class Chance:
     """Random commands about a model, many of which are accepted."""
 
-    def __init__(self, seed, held):
-        self._random, self._held = random.Random(seed), held
+    def __init__(self, seed):
+        self._random, self._held = random.Random(seed), EMPTY
 
     def _one(self, numbers):
         return self._random.choice(sorted(numbers) or [1])
@@ -46,10 +51,19 @@ class Chance:
     def _point(self):
         return ' '.join(str(self._random.randint(-4, 4)) for _ in range(3))
 
-    def line(self):
+    def _faces_to_glue(self):
+        """Two faces of different solids at the same points, where there are such."""
+        at = {}
+        for face in self._held.faces:
+            at.setdefault(frozenset(self._held.face_points(face)), []).append(face)
+        solid_of = {face: row.solid for face, row in self._held.faces.items()}
+        pairs = [pair for faces in at.values() for pair in permutations(faces, 2) if solid_of[pair[0]] != solid_of[pair[1]]]
+        return '{} {}'.format(*self._one(pairs)) if pairs else '1 2'
+
+    def line(self, held):
         """A command."""
-        held, new = self._held, self._new
-        solids, word, half = {face.solid for face in held.faces.values()}, self._random.choice(WORDS), self._half()
+        self._held, new = held, self._new
+        solids, word, half = {face.solid for face in held.faces.values()}, self._random.choice(WORDS + RARE), self._half()
         around, along = self._beside(half) if held.edges else ('+1', '+1')
         face, loop, edge, vertex, solid = new(held.faces), new(held.loops), new(held.edges), new(held.vertices), new(solids)
         corner = self._corner()
@@ -67,7 +81,7 @@ class Chance:
             'mekr': f'{outside} {inside} {edge}', 'kfmrh': f'{self._one(held.faces)} {self._one(held.faces)}', 'mfkrh': f'{ring} {face}',
             'ringmv': f'{ring} {self._one(held.faces)} {self._random.choice(("in", "out"))}',
             'lamina': f'{solid} 0 0 0 3 0 0 0 {self._random.randint(1, 5)} 0', 'block': f'{solid} {self._point()} 2 2 2',
-            'sweep': f'{self._one(held.faces)} {self._point()}', 'glue': f'{self._one(held.faces)} {self._one(held.faces)}',
+            'sweep': f'{self._one(held.faces)} {self._point()}', 'glue': self._faces_to_glue(),
             'split': f'{self._one(solids)} 1 0 0 {self._random.randint(-4, 4)} {solid}', 'undo': '', 'redo': ''}[word]
         if word == 'mev':
             first = str(given).split()[0]
@@ -75,55 +89,56 @@ class Chance:
         return f'{word} {given}'.strip()
 
 
-class Following(unittest.TestCase):
-    """The model that is followed is the program's."""
-
-    def setUp(self):
-        self.program = program()
+class AtRandom:
+    """The model that follows from what is told of commands is the one held."""
 
     def tried(self, seed, count):
         """Gives random commands; how many of each word were accepted."""
-        pipe, held, accepted = Pipe(self.program), Followed(), Counter()
-        chance = Chance(seed, held)
-        try:
-            for _ in range(count):
-                line = chance.line()
-                if pipe.ask(line).word != 'ok':
-                    continue
-                before = held.model()
-                changes = held.follow(line.split(), pipe.model)
-                self.assertEqual(held.model(), pipe.model(), f'{seed}: {line}')
-                reached = held.faces_at(changes)
-                self.assertEqual(held.part(reached).faces, {face: held.faces[face] for face in reached})
-                for face in held.faces.keys() - set(reached):
-                    self.assertEqual([before.loops[loop] for loop in before.faces[face].loops], [held.loops[loop] for loop in held.faces[face].loops])
-                    self.assertEqual(before.face_points(face), held.part([face]).face_points(face))
-                accepted[line.split()[0]] += 1
-        finally:
-            pipe.close()
+        player, chance, held, accepted = self.player(), Chance(seed), EMPTY, Counter()
+        told, listed = PageRows(), PageRows()
+        shown = told.of(held)
+        for _ in range(count):
+            line = chance.line(held)
+            reply, before, after = player.give(line)
+            for kind, changed in told.changed(before, after).items():
+                shown[kind] = {number: row for number, row in {**shown[kind], **changed}.items() if row is not None}
+            held = model_of(player.ask('list'))
+            self.assertEqual(shown, listed.of(held), f'{seed}: {line}')
+            self.assertEqual(player.whole(), held, f'{seed}: {line}')
+            accepted[line.split()[0]] += reply.word == 'ok'
         return accepted
 
     def test_random_commands(self):
         accepted = sum((self.tried(seed, 250) for seed in range(20)), Counter())
         self.assertGreater(sum(accepted.values()), 1_000)
-        self.assertEqual([word for word in (*followed._FOLLOWED, 'undo', 'redo') if accepted[word] < 5], [], accepted)
+        self.assertEqual([word for word in WORDS if accepted[word] < 5], [], accepted)
 
-    def test_one_listing_is_read_however_long_the_script_is(self):
-        script = ''.join(f'block {i} {3 * i} 0 0 2 2 2\nsweep {6 * i - 5} 0 0 1\n' for i in range(1, 41)).encode()
-        with mock.patch.object(Pipe, 'model', autospec=True, side_effect=Pipe.model) as read:
-            steps = played(script).steps
-        self.assertEqual((len(steps), [step.reply for step in steps].count('ok'), read.call_count), (80, 80, 1))
 
-    def test_what_is_followed_wrongly_is_read_from_listings(self):
-        script = b'block 1 0 0 0 4 4 4\nblock 2 9 0 0 4 4 4\nsweep 1 0 0 2\nundo\n'
-        right, block = played(script).steps, followed._FOLLOWED['block']
+class ByProgram(AtRandom, unittest.TestCase):
+    """By the program."""
 
-        def moved(held, solid, x, *numbers):
-            block(held, solid, str(int(x) + 1), *numbers)
+    def player(self):
+        """The program."""
+        player = ProgramPlayer(program())
+        self.addCleanup(player.close)
+        return player
 
-        with mock.patch.dict(followed._FOLLOWED, block=moved), mock.patch.object(Pipe, 'model', autospec=True, side_effect=Pipe.model) as read:
-            self.assertEqual(played(script).steps, right)
-        self.assertEqual(read.call_count, 1 + 3 + 1)
+    def listings(self, named):
+        """How many listings are read for a script of two accepted commands, where the environment variable GWB names this."""
+        with mock.patch.dict(os.environ, GWB=named), mock.patch.object(Pipe, 'model', autospec=True, side_effect=Pipe.model) as read:
+            steps = played(b'block 1 0 0 0 2 2 2\nblock 1 0 0 0 2 2 2\nvolume 1\nundo\n').steps
+        self.assertEqual([step.is_complaint for step in steps], [False, True, False, False])
+        return read.call_count
+
+    def test_the_program_is_run_where_it_is_named_or_there_is_no_library(self):
+        path = program()
+        self.assertEqual(self.listings(path), 2)
+        with mock.patch.object(playing, 'find_path', side_effect=ProgramMissing), mock.patch.object(playing, 'find_program', return_value=path):
+            self.assertEqual(self.listings(''), 2)
+
+    def test_a_library_that_is_named_and_not_there(self):
+        with self.assertRaises(ProgramMissing):
+            self.listings('/nowhere/libgwb.so')
 
 
 if __name__ == '__main__':
