@@ -1,11 +1,7 @@
 -- The conditions of a split: those that are tested first, and those that are tested once the faces are drawn.
-use Rattle.plane_split.proofs.Prelude.{◌≡◌, ℕ, Bool, false, cond, nat_eq, ◌∷◌, Option, None, Some, Result, Err, sym, ap, ◌∙◌, Plane, Model, Sound, first_refusal, Refusal, CutCrossed, Drawing, with_drawings, below_halves, faces_above, first_conditions, later_conditions, no_such, section_conditions, split_conditions, split_refusal, put_aside}
+use Rattle.plane_split.proofs.Prelude.{◌≡◌, ℕ, Bool, false, cond, nat_eq, ◌∷◌, Option, None, Some, Result, Err, sym, ap, ◌∙◌, Plane, Model, first_refusal, Refusal, CutCrossed, Drawing, with_drawings, below_halves, faces_above, first_conditions, later_conditions, no_such, section_conditions, split_conditions, split_refusal, put_aside}
 use Rattle.shapes.proofs.Common.{first_refusal-append, first_refusal-refused}
 use Rattle.split_drawing_laws.specs.crossings.Laws.{CanBegin}
-use Rattle.split_drawing_laws.proofs.face_sides.Begun.{none_straddles}
-use Rattle.split_laws.proofs.sides.Sides.{begun_sided}
-use Rattle.split_laws.proofs.measures.Splittable.{between_on}
-use Rattle.split_sections.specs.section_edges.Level.{SectionLiesOn}
 use Rattle.undo_journal.specs.declared.session.Failure.{Failure}
 use Rattle.undo_journal.specs.declared.session.Failure.TheVariants as failure
 
@@ -38,9 +34,3 @@ module _ (M : Model) (s : ℕ) (p : Plane) (t : ℕ) where
     -- where none is, the conditions of the section decide
     pub section_decides : (d : Drawing) → d ≡ put_aside (with_drawings M s p) → d.stuck ≡ 0 → first_refusal (section_conditions d.model s p d.taken (below_halves d.model (faces_above d.model p s) s)) ≡ split_refusal M s p t
     section_decides d e done = sym (ap (λ n. later_if d (nat_eq n 0)) done) ∙ later_decide d e
-
-    -- where no face is stuck, none of them straddles, so the section lies on the plane
-    pub section_lies : Sound M → (d : Drawing) → d ≡ put_aside (with_drawings M s p) → Sound d.model → d.stuck ≡ 0 → SectionLiesOn d.model s p
-    section_lies sound d e drawn_sound done =
-        let none = none_straddles M d.model s p t sound begun (sym (ap (λ x. x.stuck) e) ∙ done, sym (ap (λ x. x.model) e)) in
-        between_on d.model drawn_sound p s (faces_above d.model p s) (begun_sided d.model p s drawn_sound none)

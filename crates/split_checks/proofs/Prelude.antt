@@ -4,7 +4,7 @@ pub use Rattle.euler_conditions.proofs.Known.{filled, in_a_loop}
 pub use Rattle.euler_conditions.specs.Store.{IsNextRing, Tells}
 pub use Rattle.euler_laws.proofs.Common.{IsIn-from_listed, all_hold, all_where-rises, counted_once, first_listed, halves_of_edge, listed-from_in, listed_at, listed_passes, not_found, passes_listed, rest_listed, rising, verdict_failed, verdict_passed, within}
 pub use Rattle.euler_operators.proofs.Common.{IsApart-images, IsIn-filter, IsIn-map, IsRotation-permutation, SameItems-from_permutation, after_equal, after_greater, and_false, code-half, coordinate_is, coordinate_within, coordinates, count-append, count-filter, cut_back, edge_of-code, edge_of-mate, equal_is, filter_passes, first_is_plus, fits, half-code, held, held_is, held_short, in-holds, is_first-code, less_or_same, mate_minus, mate_plus, opposite_turned, or_false, or_true, plus_row, product_within, rotate_to-rotates, row_some, sum_within, tick_same, turned_equal, turned_greater}
-pub use Rattle.euler_operators.specs.Common.{Above, Below, Condition, HalfEdge, Has, HasHalf, IsApart, IsCutPlane, IsIn, IsInRange, IsRotation, IsWithin, LoopContent, Model, On, Plane, Point, Ring, SameItems, Sign, Sound, StandsIn, Table, are_opposite, before, code, content, count, cut_between, cut_point, cuts_lattice, cycle, cycle_of, differ, edge_of, face_at, faces_of, first_refusal, half, has_half, height, is_coordinate, is_first, is_number, is_on, items_of, least, lex_less, lists, lone, loop_of, mate, minus, need, opposite, outer, plus, rings_of, rotate_to, same_point, sign_of, solid_of, strictly_rises, tail, tick, verdict}
+pub use Rattle.euler_operators.specs.Common.{Above, Below, Condition, HalfEdge, Has, HasHalf, IsApart, IsCutPlane, IsIn, IsInRange, IsWithin, LoopContent, Model, On, Plane, Point, Ring, Sign, Sound, StandsIn, Table, are_opposite, before, code, content, cut_between, cut_point, cuts_lattice, cycle, cycle_of, differ, edge_of, face_at, faces_of, first_refusal, half, has_half, height, is_coordinate, is_first, is_number, is_on, items_of, least, lex_less, lists, lone, loop_of, mate, minus, need, opposite, outer, plus, rings_of, rotate_to, same_point, sign_of, solid_of, strictly_rises, tail, tick, verdict}
 unfoldable pub use Rattle.euler_operators.specs.Common.{point_of}
 pub use Rattle.euler_operators.specs.declared.Content.TheVariants.{Lone}
 pub use Rattle.euler_operators.specs.declared.Refusal.{Refusal}
@@ -16,7 +16,6 @@ pub use Rattle.solid_measure.proofs.face_walks_laws.CycleWalks.{comes_back, cycl
 pub use Rattle.solid_measure.proofs.face_walks_laws.RingWalks.{next_ring, no_ring, rings_from_zero}
 pub use Rattle.split_checks.specs.Common.{AreCrossing, AreFacesAlong, AreNoted, ArePlacesAlong, AreThere, AreTold, HasFlatFaces, IsCrossing, IsFaceAlong, IsFaceMet, IsMeeting, IsSide, IsSolidMet, Key, all_pairs, all_places, codes, crossings_met, cut_at, early_refusal, entries_of, face_met, faces_in, has_flaw, is_off, leads_across, paired_face, places_of, shows, touches, with_side}
 pub use Rattle.split_checks.specs.cut_places.Crossings.{crossings_in}
-pub use Rattle.split_checks.specs.cut_places.Level.{IsLooked, starts_on}
 pub use Rattle.split_checks.specs.cut_places.Meetings.{IsMet, IsRound, unmarked}
 pub use Rattle.split_checks.specs.cut_places.Noted.{AreSides}
 pub use Rattle.split_checks.specs.cut_places.Sides.{lies, opposite_signs, reaches, same_sign, side_reached, some_lie, some_start}

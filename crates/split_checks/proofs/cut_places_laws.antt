@@ -13,4 +13,3 @@ pub mod Sorted
 pub mod Met
 pub mod NotedSides
 pub mod Told
-pub mod Level

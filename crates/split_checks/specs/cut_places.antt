@@ -4,4 +4,3 @@ pub mod Noted
 pub mod Places
 pub mod Sides
 pub mod Walks
-pub mod Level

@@ -1,5 +1,5 @@
 pub mod Normals
-pub mod Walked
-pub mod Leading
-pub mod Level
+pub mod Kept
+pub mod Mates
+pub mod SectionHalves
 pub mod Sorted

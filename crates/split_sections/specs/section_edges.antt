@@ -1,2 +1,2 @@
 pub mod BelowHalves
-pub mod Level
+pub mod LowMates

@@ -7,14 +7,14 @@
 //! # What is proved
 //!
 //! From a ready arena: `look_at_faces` answers the faces of a solid above a plane in range, in rising order; a face that lies wholly on the
-//! plane counts as above unless its normal points along the plane's direction. With them it answers the half-edges of the other faces that
-//! start on the plane. If the section lies on the plane, `below_halves` answers from these the halves of the section edges that lie in
-//! faces that aren't above, by rising edge. Both may answer `AllocError`. `starts_of` answers the below halves by rising start vertex. If
-//! as many below halves start at each vertex as end there, it also answers the least vertex at which more than two section edges meet, or
-//! none. From these starts `cycles` answers the cycles of the below halves, each from its least half on, and which of them are holes: those
-//! whose cap below has a normal that points against the plane; or `AllocError`. `find_section`, if the section lies on the plane: the first
-//! false one of the conditions under which the solid can be opened along it, with its value; or the faces above, the cycles of the section
-//! and which of them are holes; or `AllocError`.
+//! plane counts as above unless its normal points along the plane's direction. With them it answers the mates of their half-edges that
+//! neither start nor end above the plane. From these `below_halves` answers the halves of the section edges that lie in faces that aren't
+//! above, by rising edge. Both may answer `AllocError`. `starts_of` answers the below halves by rising start vertex. If as many below
+//! halves start at each vertex as end there, it also answers the least vertex at which more than two section edges meet, or none. From
+//! these starts `cycles` answers the cycles of the below halves, each from its least half on, and which of them are holes: those whose cap
+//! below has a normal that points against the plane; or `AllocError`. `find_section`: the first false one of the conditions under which the
+//! solid can be opened along it, with its value; or the faces above, the cycles of the section and which of them are holes; or
+//! `AllocError`.
 
 mod section_checks;
 mod section_cycles;

@@ -1,17 +1,15 @@
-//! On which side of a plane a face has corners, and which of its half-edges start on it.
-ghost use Rattle.std.specs.Prelude.{◌≡◌, ◌∷◌, ◌++◌, [], true, false, cond, map, IfOk, OnOk};
-ghost use Rattle.euler_operators.specs.Common.{code, content, cycle_of, has_half, items_of, IsCutPlane, Above, Below};
+//! On which side of a plane a face has corners.
+ghost use Rattle.std.specs.Prelude.{◌≡◌, true, false};
+ghost use Rattle.euler_operators.specs.Common.{code, content, cycle_of, has_half, IsCutPlane, Above, Below};
 ghost use Rattle.euler_conditions.specs.Ready.{IsReady};
 ghost use Rattle.euler_conditions.specs.Store.{has_number};
-ghost use Rattle.shapes.specs.Common.{boundary, vertices_on};
+ghost use Rattle.shapes.specs.Common.{vertices_on};
 ghost use Rattle.split_checks.specs.Common.{AreSides, reaches, side_reached, some_lie, some_start};
-ghost use Rattle.split_checks.specs.cut_places.Level.{IsLooked};
 
 use crate::cut_places::noted::{Sides, side_of_code, vertex_side};
 use crate::cut_places::planes::same;
 use euler_conditions::{Arena, next_code};
 use euler_operators::{Content, HalfEdge, Kind, Plane, Sign};
-use std::alloc::AllocError;
 
 /// The side that is reached if no corner lies above the plane.
 fn none_above(below: bool) -> Sign
@@ -20,31 +18,14 @@ fn none_above(below: bool) -> Sign
     if below { Sign::Below } else { Sign::On }
 }
 
-/// Adds the half-edge of a code, if it is wanted.
-fn push_if(wanted: bool, at: u32, level: &mut Vec<HalfEdge>) -> Result<(), AllocError>
-    ensures { OnOk result (map code level.new.items ≡ map code level.old.items ++ cond wanted (at ∷ []) []) }
-{
-    if wanted {
-        level.push(HalfEdge::of_code(at))?;
-    }
-    Ok(())
-}
-
-/// The side that the loop in which h stands reaches. It walks from h on to the first corner above, and adds the half-edges that start on the plane.
+/// The side that the loop in which h stands reaches. It walks from h on to the first corner above.
 #[inline(always)]
-fn ring_side(
-    arena: &Arena,
-    plane: Plane,
-    sides: &mut Sides,
-    h: HalfEdge,
-    level: &mut Vec<HalfEdge>,
-) -> Result<Sign, AllocError>
+fn ring_side(arena: &Arena, plane: Plane, sides: &mut Sides, h: HalfEdge) -> Sign
     requires ready { IsReady arena.now }
     requires there { has_half arena.now.model (code h) ≡ true }
     requires plane { IsCutPlane plane }
     requires sides { AreSides arena.now.model plane sides.old }
-    ensures is { IfOk result (λ side. side ≡ side_reached (some_start Above arena.now.model plane (cycle_of arena.now.model (code h))) (some_start Below arena.now.model plane (cycle_of arena.now.model (code h)))) }
-    ensures level { IfOk result (λ side. IsLooked arena.now.model plane (map code level.old.items) (map code level.new.items) side [] (cycle_of arena.now.model (code h))) }
+    ensures is { result ≡ side_reached (some_start Above arena.now.model plane (cycle_of arena.now.model (code h))) (some_start Below arena.now.model plane (cycle_of arena.now.model (code h))) }
     ensures sides { AreSides arena.now.model plane sides.new }
 {
     let mut below = false;
@@ -53,70 +34,54 @@ fn ring_side(
     'round: loop {
         let side = side_of_code(arena, plane, sides, at);
         if same(side, Sign::Above) {
-            return Ok(side);
+            return side;
         }
-        push_if(same(side, Sign::On), at, level)?;
         below |= same(side, Sign::Below);
         at = next_code(arena, at);
         if at == first {
-            return Ok(none_above(below));
+            return none_above(below);
         }
     }
 }
 
-/// The side that loop l reaches: above if it has a corner above the plane, else below if it has one below, else on. It adds the half-edges that
-/// start on the plane; if the side is above, those up to some corner above.
+/// The side that loop l reaches: above if it has a corner above the plane, else below if it has one below, else on. It takes no memory.
 #[inline(always)]
-pub fn loop_side(
-    arena: &Arena,
-    plane: Plane,
-    sides: &mut Sides,
-    l: u32,
-    level: &mut Vec<HalfEdge>,
-) -> Result<Sign, AllocError>
+pub fn loop_side(arena: &Arena, plane: Plane, sides: &mut Sides, l: u32) -> Sign
     requires ready { IsReady arena.now }
     requires there { has_number arena.now Kind.Loop l ≡ true }
     requires plane { IsCutPlane plane }
     requires sides { AreSides arena.now.model plane sides.old }
-    ensures is { IfOk result (λ side. side ≡ side_reached (some_lie Above arena.now.model plane (vertices_on arena.now.model (content arena.now.model l))) (some_lie Below arena.now.model plane (vertices_on arena.now.model (content arena.now.model l)))) }
-    ensures level { IfOk result (λ side. IsLooked arena.now.model plane (map code level.old.items) (map code level.new.items) side [] (items_of (content arena.now.model l))) }
+    ensures is { result ≡ side_reached (some_lie Above arena.now.model plane (vertices_on arena.now.model (content arena.now.model l))) (some_lie Below arena.now.model plane (vertices_on arena.now.model (content arena.now.model l))) }
     ensures sides { AreSides arena.now.model plane sides.new }
 {
     match arena.content(l) {
-        Content::Lone(v) => Ok(vertex_side(arena, plane, sides, v)),
-        Content::Ring(h) => ring_side(arena, plane, sides, h, level),
+        Content::Lone(v) => vertex_side(arena, plane, sides, v),
+        Content::Ring(h) => ring_side(arena, plane, sides, h),
     }
 }
 
-/// The side that face f reaches, and the half-edges that start on the plane, by the same rules. It looks at each corner once.
-pub fn face_side(
-    arena: &Arena,
-    plane: Plane,
-    sides: &mut Sides,
-    f: u32,
-    level: &mut Vec<HalfEdge>,
-) -> Result<Sign, AllocError>
+/// The side that face f reaches, by the same rule. It takes no memory, and looks at each corner once.
+pub fn face_side(arena: &Arena, plane: Plane, sides: &mut Sides, f: u32) -> Sign
     requires ready { IsReady arena.now }
     requires there { has_number arena.now Kind.Face f ≡ true }
     requires plane { IsCutPlane plane }
     requires sides { AreSides arena.now.model plane sides.old }
-    ensures is { IfOk result (λ side. side ≡ side_reached (reaches Above arena.now.model plane f) (reaches Below arena.now.model plane f)) }
-    ensures level { IfOk result (λ side. IsLooked arena.now.model plane (map code level.old.items) (map code level.new.items) side [] (boundary arena.now.model f)) }
+    ensures is { result ≡ side_reached (reaches Above arena.now.model plane f) (reaches Below arena.now.model plane f) }
     ensures sides { AreSides arena.now.model plane sides.new }
 {
-    let outer = loop_side(arena, plane, sides, arena.outer(f), level)?;
+    let outer = loop_side(arena, plane, sides, arena.outer(f));
     if same(outer, Sign::Above) {
-        return Ok(outer);
+        return outer;
     }
     let mut below = same(outer, Sign::Below);
     let mut last = 0;
     'rings: while let Some(l) = arena.ring_after(f, last) {
-        let side = loop_side(arena, plane, sides, l, level)?;
+        let side = loop_side(arena, plane, sides, l);
         if same(side, Sign::Above) {
-            return Ok(side);
+            return side;
         }
         below |= same(side, Sign::Below);
         last = l;
     }
-    Ok(none_above(below))
+    none_above(below)
 }

@@ -33,12 +33,9 @@ fn rings_above(
     ensures rings { IfOk result (λ rings. rings.items ≡ rings_above arena.now.model plane f) }
 {
     let mut rings = Vec::new(alloc);
-    // the half-edges of rings that start on the plane aren't asked for
-    let mut level = Vec::new(alloc);
     let mut last = 0;
     'rings: while let Some(l) = arena.ring_after(f, last) {
-        let side = loop_side(arena, plane, sides, l, &mut level)?;
-        if same(side, Sign::Above) {
+        if same(loop_side(arena, plane, sides, l), Sign::Above) {
             rings.push(l)?;
         }
         last = l;

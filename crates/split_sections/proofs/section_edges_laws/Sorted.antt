@@ -1,8 +1,7 @@
 -- The halves in faces below, sorted by their edges after a walk over faces has met them.
-use Rattle.split_sections.proofs.Prelude.{◌≡◌, ℕ, suc, ◌<◌, true, ◌&&◌, List, [], ◌∷◌, map, refl, sym, ap, ◌∙◌, arith, true≢false, inl, inr, IsPermutation, lt-ltb, IsPermutation-map, tick, IsIn, IsApart, SameItems, HalfEdge, code, edge_of, Model, faces_of, Sound, strictly_rises, tick_same, edge_of-code, same_edge, less_or_same, SameItems-from_permutation, within, IsIn-from_listed, listed-from_in, below_halves, IsBelowHalf, halves_rise, halves_apart, halves_are, are_halves, below_met}
+use Rattle.split_sections.proofs.Prelude.{◌≡◌, ℕ, suc, ◌<◌, true, ◌&&◌, List, [], ◌∷◌, map, refl, sym, ap, ◌∙◌, arith, true≢false, inl, inr, IsPermutation, lt-ltb, IsPermutation-map, tick, IsIn, IsApart, SameItems, HalfEdge, code, edge_of, Model, Sound, strictly_rises, tick_same, edge_of-code, same_edge, less_or_same, SameItems-from_permutation, within, IsIn-from_listed, listed-from_in, below_halves, IsBelowHalf, halves_rise, halves_apart, halves_are, are_halves, AreSectionHalves}
 use Rattle.std.specs.List.Sorted.{IsNonDecreasingBy}
 use Rattle.split_checks.proofs.HowMany.{equally_many}
-use Rattle.split_sections.proofs.section_edges_laws.Walked.{met_apart, met_below, below_is_met}
 
 -- a half of a lesser edge comes first in the order of listings
 lesser_edge : (m n : ℕ) → edge_of m < edge_of n → m < n
@@ -31,14 +30,14 @@ module _ (M : Model) (above : List ℕ) (s : ℕ) where
         first : code g < code h
         first = elim (less_or_same g.edge h.edge (up 0 1 g (omega arith) (omega arith))) [ inl l ↦ lesser_half g h l | inr e ↦ absurd (same e) ]
 
-  -- what a walk met, sorted by edges, are the below halves of the solid
-  pub sorted_met : Sound M → (found hs : List HalfEdge) → SameItems (map code found) (below_met M above (faces_of M s)) → IsPermutation found hs → IsNonDecreasingBy (λ h. h.edge) hs → map code hs ≡ below_halves M above s
-  sorted_met sound found hs walked moved up =
+  -- the halves of the section edges, sorted by edges, are the below halves of the solid
+  pub sorted_met : Sound M → (found hs : List HalfEdge) → AreSectionHalves M above s (map code found) → IsPermutation found hs → IsNonDecreasingBy (λ h. h.edge) hs → map code hs ≡ below_halves M above s
+  sorted_met sound found hs met moved up =
       let ms = map code hs in let bs = below_halves M above s in
-      let same : SameItems (below_met M above (faces_of M s)) ms = λ x. omega (arith, walked x, SameItems-from_permutation (map code found) ms (IsPermutation-map code found hs moved) x) in
-      let apart : IsApart ms = λ x. omega (arith, met_apart M sound above s x, same x) in
-      let are : (m : ℕ) → IsIn m ms → IsBelowHalf M above s m = λ m i. met_below M sound above s m (omega (arith, i, same m)) in
+      let same : SameItems (map code found) ms = SameItems-from_permutation (map code found) ms (IsPermutation-map code found hs moved) in
+      let apart : IsApart ms = λ x. omega (arith, met.apart x, same x) in
+      let are : (m : ℕ) → IsIn m ms → IsBelowHalf M above s m = λ m i. met.halves m (omega (arith, i, same m)) in
       let in_halves : (m : ℕ) → IsIn m ms → IsIn m bs = λ m i. are_halves M above s sound m (are m i) in
-      let in_met : (m : ℕ) → IsIn m bs → IsIn m ms = λ m i. omega (arith, same m, below_is_met M sound above s m (halves_are M above s sound m i)) in
+      let in_met : (m : ℕ) → IsIn m bs → IsIn m ms = λ m i. omega (arith, same m, met.all m (halves_are M above s sound m i)) in
       let w = within ms bs (rises hs up apart are) (halves_rise M above s sound) (λ m l. listed-from_in m bs (in_halves m (IsIn-from_listed m ms l))) in
       w.1 (equally_many ms bs apart (halves_apart M above s sound) in_halves in_met)

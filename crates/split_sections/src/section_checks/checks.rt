@@ -2,15 +2,14 @@
 ghost use Rattle.std.specs.Prelude.{◌≡◌, true, None, Some, Ok, Err, Vec, map};
 ghost use Rattle.std.specs.declared.alloc.Global.{Global};
 ghost use Rattle.euler_conditions.specs.Ready.{IsReady};
-ghost use Rattle.euler_operators.specs.Common.{SameItems, code, faces_of, first_refusal, strictly_rises, IsCutPlane};
+ghost use Rattle.euler_operators.specs.Common.{code, first_refusal, strictly_rises, IsCutPlane};
 ghost use Rattle.euler_operators.specs.declared.Refusal.{Refusal};
 ghost use Rattle.split_opening_laws.specs.cycles.SectionCycles.{AreOf};
 ghost use Rattle.shapes.specs.Common.{below_halves, faces_above, section_conditions};
 ghost use Rattle.solid_walks.specs.Counters.{taken_of};
 ghost use Rattle.split_checks.specs.cut_places.Noted.{AreSides};
 ghost use Rattle.split_sections.specs.Common.{AreCyclesOf, IsSection, AreThere};
-ghost use Rattle.split_sections.specs.section_edges.BelowHalves.{below_met, leading_above};
-ghost use Rattle.split_sections.specs.section_edges.Level.{SectionLiesOn};
+ghost use Rattle.split_sections.specs.section_edges.BelowHalves.{lying_below, AreSectionHalves};
 ghost use Rattle.split_sections.specs.declared.section_cycles.cycle.Cycle.{Cycle};
 ghost use Rattle.split_sections.specs.declared.section_checks.section.Section.{Section};
 
@@ -26,7 +25,7 @@ use split_checks::Sides;
 use std::alloc::{AllocError, Global};
 
 /// The cycles of the section of solid s between these faces above, which rise, and its other faces, if the solid can be opened along them
-/// with the numbers after those taken. The halves of its edges in the other faces are among those of `level`.
+/// with the numbers after those taken. Of `mates` those in the other faces are the halves there of the section's edges.
 fn check_cycles(
     alloc: Global,
     arena: &Arena,
@@ -34,18 +33,18 @@ fn check_cycles(
     plane: Plane,
     taken: Counters,
     above: &[u32],
-    level: Vec<HalfEdge>,
+    mates: Vec<HalfEdge>,
 ) -> Result<Result<Vec<Cycle>, Refusal>, AllocError>
     requires ready { IsReady arena.now }
     requires plane { IsCutPlane plane }
     requires rising { strictly_rises above.now ≡ true }
     requires of_solid { AreOf arena.now.model above.now s }
-    requires level { AreThere arena.now.model (map code level.items) }
-    requires met { SameItems (leading_above arena.now.model above.now (map code level.items)) (below_met arena.now.model above.now (faces_of arena.now.model s)) }
+    requires there { AreThere arena.now.model (map code mates.items) }
+    requires halves { AreSectionHalves arena.now.model above.now s (lying_below arena.now.model above.now (map code mates.items)) }
     ensures refused { (refusal : Refusal) → (result ≡ Ok (Err refusal)) → (first_refusal (section_conditions arena.now.model s plane (taken_of taken) (below_halves arena.now.model above.now s)) ≡ Some refusal) }
     ensures open { (found : Vec Cycle Global) → (result ≡ Ok (Ok found)) → ((first_refusal (section_conditions arena.now.model s plane (taken_of taken) (below_halves arena.now.model above.now s)) ≡ None) × AreCyclesOf arena.now.model plane (below_halves arena.now.model above.now s) found.items) }
 {
-    let halves = below_halves(arena, above, level)?;
+    let halves = below_halves(arena, above, mates)?;
     let listed = halves.as_slice();
     let found = starts_of(alloc, arena, listed)?;
     if let Some(v) = found.1 {
@@ -67,8 +66,7 @@ fn check_cycles(
     }
 }
 
-/// The section of solid s by the plane, if the solid can be opened along it. It is asked that the section lies on the plane, as it does where no
-/// face of the solid straddles it.
+/// The section of solid s by the plane, if the solid can be opened along it.
 ///
 /// Refused, in this order: BranchedVertex with the least vertex at which more than two section edges meet; SectionHoles with s, where a
 /// cycle is a hole and not exactly one is outer; NumbersSpent with 2, 3, 4 or 5, where no numbers are left for the faces, loops, edges or
@@ -85,7 +83,6 @@ pub fn find_section(
     requires ready { IsReady arena.now }
     requires plane { IsCutPlane plane.now }
     requires sides { AreSides arena.now.model plane.now sides.old }
-    requires lies { SectionLiesOn arena.now.model s plane.now }
     ensures refused { (refusal : Refusal) → (result ≡ Ok (Err refusal)) → (first_refusal (section_conditions arena.now.model s plane.now (taken_of taken) (below_halves arena.now.model (faces_above arena.now.model plane.now s) s)) ≡ Some refusal) }
     ensures open { (section : Section) → (result ≡ Ok (Ok section)) → ((first_refusal (section_conditions arena.now.model s plane.now (taken_of taken) (below_halves arena.now.model (faces_above arena.now.model plane.now s) s)) ≡ None) × IsSection arena.now.model s plane.now section) }
 {
@@ -98,7 +95,7 @@ pub fn find_section(
         *plane,
         taken,
         above.as_slice(),
-        looked.level,
+        looked.mates,
     )? {
         Ok(cycles) => Ok(Ok(Section { above, cycles })),
         Err(refusal) => Ok(Err(refusal)),

@@ -1,14 +1,14 @@
-//! The faces above a plane, and which half-edges of the others start on it.
-ghost use Rattle.std.specs.Prelude.{◌≡◌, ◌++◌, pos, int_lt, true, map, IfOk, OnOk};
+//! The faces above a plane, and the half-edges beside them that may be of its section.
+ghost use Rattle.std.specs.Prelude.{◌≡◌, pos, int_lt, true, map, IfOk};
 ghost use Rattle.euler_conditions.specs.Ready.{IsReady};
 ghost use Rattle.euler_conditions.specs.Store.{has_number};
-ghost use Rattle.euler_operators.specs.Common.{IsInRange, IsCutPlane, SameItems, code, faces_of, direction, dot, Above, Below};
+ghost use Rattle.euler_operators.specs.Common.{IsInRange, IsCutPlane, SameItems, code, direction, dot};
 ghost use Rattle.split_checks.specs.Measure.{normal};
 ghost use Rattle.split_checks.specs.cut_places.Noted.{AreSides};
-ghost use Rattle.split_checks.specs.cut_places.Sides.{reaches, side_reached};
 ghost use Rattle.shapes.specs.Common.{face_is_above, faces_above};
-ghost use Rattle.split_sections.specs.section_edges.Level.{level_in, level_met};
+ghost use Rattle.split_sections.specs.section_edges.LowMates.{mates_met};
 
+use crate::section_edges::halves::push_mates;
 use euler_conditions::Arena;
 use euler_operators::{HalfEdge, Kind, Plane, Point, Sign, dot};
 use split_checks::{Sides, face_side, normal};
@@ -40,61 +40,38 @@ fn points_along(arena: &Arena, plane: Plane, f: u32) -> bool
     }
 }
 
-/// Whether face f, which reaches this side, is above the plane: it has a corner above the plane, or lies wholly on it with a normal that
-/// doesn't point along the plane's direction.
+/// Whether face f is above the plane: it has a corner above the plane, or lies wholly on it with a normal that doesn't point along the
+/// plane's direction.
 #[tactic(auto, unfolding(shapes::specs::split::Sides::face_is_above))]
-fn is_above(arena: &Arena, plane: Plane, side: Sign, f: u32) -> bool
+fn is_above(arena: &Arena, plane: Plane, sides: &mut Sides, f: u32) -> bool
     requires ready { IsReady arena.now }
     requires there { has_number arena.now Kind.Face f ≡ true }
     requires plane { IsCutPlane plane }
-    requires side { side ≡ side_reached (reaches Above arena.now.model plane f) (reaches Below arena.now.model plane f) }
-    ensures { result ≡ face_is_above arena.now.model plane f }
+    requires sides { AreSides arena.now.model plane sides.old }
+    ensures is { result ≡ face_is_above arena.now.model plane f }
+    ensures sides { AreSides arena.now.model plane sides.new }
 {
-    match side {
+    match face_side(arena, plane, sides, f) {
         Sign::Below => false,
         Sign::On => !points_along(arena, plane, f),
         Sign::Above => true,
     }
 }
 
-/// Whether face f is above the plane. If it isn't, its half-edges that start on the plane are added.
-fn look_at_face(
-    arena: &Arena,
-    plane: Plane,
-    sides: &mut Sides,
-    f: u32,
-    level: &mut Vec<HalfEdge>,
-) -> Result<bool, AllocError>
-    requires ready { IsReady arena.now }
-    requires there { has_number arena.now Kind.Face f ≡ true }
-    requires plane { IsCutPlane plane }
-    requires sides { AreSides arena.now.model plane sides.old }
-    ensures is { IfOk result (λ above. above ≡ face_is_above arena.now.model plane f) }
-    ensures level { OnOk result (SameItems (map code level.new.items) (map code level.old.items ++ level_in arena.now.model plane f)) }
-    ensures sides { AreSides arena.now.model plane sides.new }
-{
-    let before = level.len();
-    let side = face_side(arena, plane, sides, f, level)?;
-    let above = is_above(arena, plane, side, f);
-    if above {
-        level.truncate(before);
-    }
-    Ok(above)
-}
-
-/// The faces of a solid above a plane, and the half-edges of its other faces that start on the plane.
+/// The faces of a solid above a plane, and the mates of their half-edges that neither start nor end above it.
 #[derive(Drop)]
 pub(crate) struct Looked {
     pub above: Vec<u32>,
-    pub level: Vec<HalfEdge>,
+    pub mates: Vec<HalfEdge>,
 }
 
-/// For how many faces above there is room at first, and for twice as many half-edges that start on the plane.
+/// For how many faces above there is room at first, and for twice as many mates.
 const AT_FIRST: usize = 8;
 
 /// The faces of solid s that are above the plane, in rising order: those with a corner above it, and those that lie wholly on it and whose
-/// normal doesn't point along the plane's direction. With them come the half-edges of its other faces that start on the plane. It walks at
-/// most twice over the corners of each face.
+/// normal doesn't point along the plane's direction. With them come the mates of their half-edges that neither start nor end above the plane.
+/// An edge of the section has no end above the plane, since a face beside it isn't above; so its half in that face is one of these mates. It
+/// walks at most three times over the corners of each face.
 pub(crate) fn look_at_faces(
     alloc: Global,
     arena: &Arena,
@@ -106,17 +83,18 @@ pub(crate) fn look_at_faces(
     requires plane { IsCutPlane plane }
     requires sides { AreSides arena.now.model plane sides.old }
     ensures above { IfOk result (λ looked. looked.above.items ≡ faces_above arena.now.model plane s) }
-    ensures level { IfOk result (λ looked. SameItems (map code looked.level.items) (level_met arena.now.model plane (faces_of arena.now.model s))) }
+    ensures mates { IfOk result (λ looked. SameItems (map code looked.mates.items) (mates_met arena.now.model plane (faces_above arena.now.model plane s))) }
     ensures sides { AreSides arena.now.model plane sides.new }
 {
     let mut above = Vec::with_capacity(alloc, AT_FIRST)?;
-    let mut level = Vec::with_capacity(alloc, 2 * AT_FIRST)?;
+    let mut mates = Vec::with_capacity(alloc, 2 * AT_FIRST)?;
     let mut last = 0;
     'faces: while let Some(f) = arena.face_after(s, last) {
-        if look_at_face(arena, plane, sides, f, &mut level)? {
+        if is_above(arena, plane, sides, f) {
             above.push(f)?;
+            push_mates(arena, plane, sides, f, &mut mates)?;
         }
         last = f;
     }
-    Ok(Looked { above, level })
+    Ok(Looked { above, mates })
 }

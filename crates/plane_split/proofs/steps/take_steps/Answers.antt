@@ -1,7 +1,7 @@
 use Rattle.plane_split.proofs.Prelude.{◌≡◌, [], false, nat_eq, Ok, sym, ap, subst, ◌∙◌, arith, nat_tests, verdict, split_made, after_steps, steps_after, steps_make, drawing_of, IsSection}
 use Rattle.shapes.proofs.split.Facts.{split_begins}
 use Rattle.split_drawing.specs.Noted.{AreSides}
-use Rattle.plane_split.proofs.Conditions.{section_decides, section_lies, stuck_decides}
+use Rattle.plane_split.proofs.Conditions.{section_decides, stuck_decides}
 use Rattle.plane_split.proofs.Parted.{split_ops_are}
 use Rattle.plane_split.proofs.steps.take_steps.Goals as goal
 
@@ -11,11 +11,6 @@ find_section-requires-clause-plane c = (split_begins c.args.draft.now.model c.ar
 pub find_section-requires-clause-sides : goal.find_section-requires-clause-sides
 find_section-requires-clause-sides c =
     subst (λ X. AreSides X c.args.plane.now c.draw_solid.new.sides) (sym c.arena.ensures.model) c.in_ok-drawn.ensures.sides
-
-pub find_section-requires-clause-lies : goal.find_section-requires-clause-lies
-find_section-requires-clause-lies c =
-    section_lies c.args.draft.now.model c.args.s c.args.plane.now c.args.upper c.requires.begins c.requires.sound (drawing_of c.in_ok-drawn.drawn c.arena.result.now.model [])
-    (ap (λ X. drawing_of c.in_ok-drawn.drawn X []) c.arena.ensures.model ∙ c.in_ok-drawn.ensures.drawn) c.arena.ensures.ready.sound c.if-drawn-ne0.false
 
 pub returns-then-drawn-ne0-clause-carried : goal.returns-then-drawn-ne0-clause-carried
 returns-then-drawn-ne0-clause-carried c =

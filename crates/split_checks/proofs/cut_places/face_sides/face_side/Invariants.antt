@@ -1,4 +1,4 @@
-use Rattle.split_checks.proofs.Prelude.{◌≡◌, ◌||◌, map, length, code, rings_of, Above, Below, boundary, items_in, vertices_in, above, IsLooked}
+use Rattle.split_checks.proofs.Prelude.{◌≡◌, ◌||◌, length, rings_of, Above, Below, vertices_in, above}
 use Rattle.split_checks.specs.Common.{AreSides, reaches, some_lie}
 use Rattle.split_checks.proofs.cut_places.face_sides.face_side.Given as goal
 
@@ -6,7 +6,6 @@ abbrev pub invariant-rings : goal.invariant-rings
 invariant-rings l = record {
   sides : AreSides l.arena.model l.plane l.sides;
   up : some_lie Above l.arena.model l.plane (vertices_in l.arena.model (above l.last (rings_of l.arena.model l.f))) ≡ reaches Above l.arena.model l.plane l.f;
-  level : IsLooked l.arena.model l.plane (map code l.fn.level.items) (map code l.level.items) Below (items_in l.arena.model (above l.last (rings_of l.arena.model l.f))) (boundary l.arena.model l.f);
   down : l.below || some_lie Below l.arena.model l.plane (vertices_in l.arena.model (above l.last (rings_of l.arena.model l.f))) ≡ reaches Below l.arena.model l.plane l.f;
 }
 

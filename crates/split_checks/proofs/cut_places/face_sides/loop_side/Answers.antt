@@ -1,8 +1,7 @@
-use Rattle.split_checks.proofs.Prelude.{◌≡◌, ◌∙◌, ap, sym, subst, map, filter, IfOk, [], list_any, count, Sign, Above, Below, code, content, cycle_of, items_of, point_of, tail, start, vertices_on, filled, lies, side_reached, some_lie, some_start, starts_on, IsLooked}
+use Rattle.split_checks.proofs.Prelude.{◌≡◌, ◌∙◌, ap, sym, list_any, Sign, Above, Below, code, content, cycle_of, items_of, point_of, tail, start, vertices_on, filled, lies, side_reached, some_lie, some_start}
 use Rattle.split_checks.proofs.cut_places_laws.Lists.{any_map}
 use Rattle.split_checks.proofs.cut_places_laws.NotedSides.{lone_side}
-use Rattle.split_checks.proofs.cut_places_laws.Walks.{ring_there, ring_cycle, ring_vertices, lone_items}
-use Rattle.split_checks.proofs.cut_places_laws.Level.{none_looked}
+use Rattle.split_checks.proofs.cut_places_laws.Walks.{ring_there, ring_cycle, ring_vertices}
 use Rattle.split_checks.proofs.cut_places.face_sides.loop_side.Goals as goal
 
 pub content-requires-clause-filled : goal.content-requires-clause-filled
@@ -20,14 +19,4 @@ returns-in-Ring-clause-is c =
     let over : (side : Sign) → some_start side M p (cycle_of M (code c.in-Ring.h)) ≡ some_lie side M p (vertices_on M (content M l)) = λ side.
     ap (list_any (λ h. lies side p (start M h))) (ring_cycle M c.requires.ready.sound l c.in-Ring.h c.in-Ring.ensures)
     ∙ sym (ap (list_any (λ v. lies side p (point_of M v))) (ring_vertices M (content M l) c.in-Ring.h c.in-Ring.ensures) ∙ any_map (λ v. lies side p (point_of M v)) (tail M) (items_of (content M l))) in
-    subst (λ reached. IfOk c.ring_side.result (λ side. side ≡ reached)) (λ i. side_reached (over Above i) (over Below i)) c.ring_side.ensures.is
-
-pub returns-in-Lone-clause-level : goal.returns-in-Lone-clause-level
-returns-in-Lone-clause-level c =
-    let M = c.args.arena.now.model in
-    none_looked M c.args.plane (map code c.args.level.now.items) c.vertex_side.result [] _ (λ x. ap (λ hs. count x (filter (starts_on M c.args.plane) hs)) (sym (lone_items (content M c.args.l) c.in-Lone.v c.in-Lone.ensures)))
-
-pub returns-in-Ring-clause-level : goal.returns-in-Ring-clause-level
-returns-in-Ring-clause-level c =
-    subst (λ hs. IfOk c.ring_side.result (λ side. IsLooked c.args.arena.now.model c.args.plane (map code c.args.level.now.items) (map code c.ring_side.new.level.items) side [] hs))
-    (ring_cycle c.args.arena.now.model c.requires.ready.sound c.args.l c.in-Ring.h c.in-Ring.ensures) c.ring_side.ensures.level
+    c.ring_side.ensures.is ∙ (λ i. side_reached (over Above i) (over Below i))

@@ -1,8 +1,7 @@
-use Rattle.split_checks.proofs.Prelude.{◌≡◌, ◌∙◌, ◌||◌, true, [], ◌∷◌, map, filter, refl, ap, sym, subst, length, arith, count, Sign, Above, Below, On, code, cycle_of, has_half, rotate_to, rotate_to-rotates, start, edge_fits, to_come, cycle_apart, item_there, item_in, start_is, goes_on, comes_back, lies, same_sign, side_reached, some_start, starts_on, IsLooked}
+use Rattle.split_checks.proofs.Prelude.{◌≡◌, ◌∙◌, ◌||◌, true, ap, sym, length, arith, Sign, Above, Below, cycle_of, has_half, start, edge_fits, item_there, item_in, goes_on, lies, same_sign, side_reached, some_start}
 use Rattle.split_checks.proofs.cut_places_laws.NotedSides.{is_up}
 use Rattle.split_checks.proofs.cut_places_laws.RingTests.{left, walk_begins, walk_finds, walk_ended, walk_left, walk_told, walk_adds}
 use Rattle.split_checks.proofs.cut_places_laws.Signs.{sign_lies}
-use Rattle.split_checks.proofs.cut_places_laws.Level.{picked_turned, none_looked, one_looked, looked_on, looked_all, looked_up}
 use Rattle.split_checks.proofs.cut_places.face_sides.ring_side.Goals as goal
 
 pub code-first-requires : goal.code-first-requires
@@ -13,14 +12,11 @@ code-first-requires c =
 pub round-init : goal.round-init
 round-init c =
     let M = c.args.arena.now.model in let sound = c.requires.ready.sound in let h = c.code-first.result in let there = ap (has_half M) c.code-first.ensures ∙ c.requires.there in
-    let hs = cycle_of M h in let test = starts_on M c.args.plane in
     record {
       at_in = item_in M sound h there;
       sides = c.requires.sides;
       up = walk_begins M sound h there (λ k. lies Above c.args.plane (start M k));
       down = walk_begins M sound h there (λ k. lies Below c.args.plane (start M k));
-      level = none_looked M c.args.plane (map code c.args.level.now.items) Below (h ∷ to_come h hs h) hs (λ x. ap (λ ks. count x (filter test ks)) (sym (start_is h hs (cycle_apart M sound h there) (item_in M sound h there)))
-          ∙ picked_turned test hs (rotate_to h hs) (rotate_to-rotates h hs) x);
     }
 
 pub side_of_code-side-requires-clause-there : goal.side_of_code-side-requires-clause-there
@@ -35,11 +31,6 @@ returns-then-same-clause-is c =
     (sym (walk_finds M c.requires.ready.sound c.code-first.result (ap (has_half c.args.arena.now.model) c.code-first.ensures ∙ c.requires.there) (λ k. lies Above p (start M k)) c.round.at lies_up) ∙ c.round.invariant.up)
     ∙ ap (λ x. side_reached (some_start Above M p (cycle_of M x)) (some_start Below M p (cycle_of M x))) c.code-first.ensures
 
-pub returns-then-same-clause-level : goal.returns-then-same-clause-level
-returns-then-same-clause-level c =
-    let M = c.args.arena.now.model in let p = c.args.plane in let old = map code c.args.level.now.items in let now = map code c.round.level.items in let side = c.side_of_code-side.result in
-    subst (λ x. IsLooked M p old now side [] (cycle_of M x)) c.code-first.ensures (looked_up M p old now _ (cycle_of M c.code-first.result) Below side c.round.invariant.level (sym c.same.ensures ∙ c.if-same.true))
-
 pub next_code-at-requires-clause-there : goal.next_code-at-requires-clause-there
 next_code-at-requires-clause-there c = item_there c.args.arena.now.model c.requires.ready.sound c.code-first.result (ap (has_half c.args.arena.now.model) c.code-first.ensures ∙ c.requires.there) c.round.at c.round.invariant.at_in
 
@@ -52,15 +43,6 @@ returns-then-at-first-clause-is c =
     let down = ap (λ b. c.round.below || b) (c.same-below.ensures ∙ told Below) ∙ walk_told M sound h there (λ k. lies Below p (start M k)) c.round.below x r c.round.invariant.at_in (λ _. c.next_code-at.ensures.next) back ∙ c.round.invariant.down in
     c.none_above.ensures ∙ (λ i. side_reached (up i) (down i)) ∙ ap (λ x. side_reached (some_start Above M p (cycle_of M x)) (some_start Below M p (cycle_of M x))) c.code-first.ensures
 
-pub returns-then-at-first-clause-level : goal.returns-then-at-first-clause-level
-returns-then-at-first-clause-level c =
-    let M = c.args.arena.now.model in let p = c.args.plane in let h = c.code-first.result in let x = c.round.at in let there = ap (has_half M) c.code-first.ensures ∙ c.requires.there in
-    let old = map code c.args.level.now.items in let next = map code c.push_if.new.level.items in let rest = to_come h (cycle_of M h) x in
-    let on = c.same-in-round.ensures ∙ ap (λ s. same_sign s On) c.side_of_code-side.ensures.is ∙ sign_lies On p (start M x) in
-    let looked = looked_on M p old _ next (x ∷ []) rest (cycle_of M h) Below Below Below c.round.invariant.level refl (one_looked M p _ next Below _ x c.in_ok-push_if.ensures on) (λ e. e) in
-    let back = comes_back M c.requires.ready.sound h there x c.next_code-at.result c.round.invariant.at_in (λ _. c.next_code-at.ensures.next) c.if-at-first.true in
-    subst (λ k. IsLooked M p old next c.none_above.result [] (cycle_of M k)) c.code-first.ensures (looked_all M p old next rest (cycle_of M h) Below c.none_above.result looked refl back.0)
-
 pub round-smaller : goal.round-smaller
 round-smaller c =
     let on = goes_on c.args.arena.now.model c.requires.ready.sound c.code-first.result (ap (has_half c.args.arena.now.model) c.code-first.ensures ∙ c.requires.there) c.round.at c.next_code-at.result c.round.invariant.at_in (λ _. c.next_code-at.ensures.next) (c.if-at-first.false) in
@@ -71,11 +53,8 @@ round-preserved c =
     let M = c.args.arena.now.model in let sound = c.requires.ready.sound in let p = c.args.plane in let h = c.code-first.result in let there = ap (has_half M) c.code-first.ensures ∙ c.requires.there in let x = c.round.at in let r = c.next_code-at.result in
     let told : (side : Sign) → same_sign c.side_of_code-side.result side ≡ lies side p (start M x) = λ side. ap (λ s. same_sign s side) c.side_of_code-side.ensures.is ∙ sign_lies side p (start M x) in
     let other = c.if-at-first.false in
-    let on = goes_on M sound h there x r c.round.invariant.at_in (λ _. c.next_code-at.ensures.next) other in
-    let old = map code c.args.level.now.items in let next = map code c.push_if.new.level.items in let all = cycle_of M h in
     record {
-      at_in = on.0;
-      level = subst (λ hs. IsLooked M p old next Below hs all) on.1 (looked_on M p old _ next (x ∷ []) _ all Below Below Below c.round.invariant.level refl (one_looked M p _ next Below _ x c.in_ok-push_if.ensures (c.same-in-round.ensures ∙ told On)) (λ e. e));
+      at_in = (goes_on M sound h there x r c.round.invariant.at_in (λ _. c.next_code-at.ensures.next) other).0;
       sides = c.side_of_code-side.ensures.sides;
       up = walk_left M sound h there (λ k. lies Above p (start M k)) x r c.round.invariant.at_in (λ _. c.next_code-at.ensures.next) other (sym (told Above) ∙ sym c.same.ensures ∙ c.if-same.false) ∙ c.round.invariant.up;
       down = ap (λ b. (c.round.below || b) || left M sound h there (λ k. lies Below p (start M k)) r) (c.same-below.ensures ∙ told Below)

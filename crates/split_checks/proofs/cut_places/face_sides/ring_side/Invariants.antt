@@ -1,4 +1,4 @@
-use Rattle.split_checks.proofs.Prelude.{◌≡◌, ◌||◌, ◌∷◌, map, length, IsIn, code, cycle_of, Above, Below, to_come, IsLooked}
+use Rattle.split_checks.proofs.Prelude.{◌≡◌, ◌||◌, ◌∷◌, length, IsIn, cycle_of, Above, Below, to_come}
 use Rattle.split_checks.specs.Common.{AreSides, some_start}
 use Rattle.split_checks.proofs.cut_places.face_sides.ring_side.Given as goal
 
@@ -7,7 +7,6 @@ invariant-round l = record {
   at_in : IsIn l.at (cycle_of l.arena.model l.first);
   sides : AreSides l.arena.model l.plane l.sides;
   up : some_start Above l.arena.model l.plane (l.at ∷ to_come l.first (cycle_of l.arena.model l.first) l.at) ≡ some_start Above l.arena.model l.plane (cycle_of l.arena.model l.first);
-  level : IsLooked l.arena.model l.plane (map code l.fn.level.items) (map code l.level.items) Below (l.at ∷ to_come l.first (cycle_of l.arena.model l.first) l.at) (cycle_of l.arena.model l.first);
   down : l.below || some_start Below l.arena.model l.plane (l.at ∷ to_come l.first (cycle_of l.arena.model l.first) l.at) ≡ some_start Below l.arena.model l.plane (cycle_of l.arena.model l.first);
 }
 

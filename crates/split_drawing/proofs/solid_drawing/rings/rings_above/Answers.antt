@@ -25,7 +25,7 @@ rings-smaller-in_ok-push c = let next = next_ring c.args.arena.now.model c.args.
 pub rings-preserved-in_ok-push : goal.rings-preserved-in_ok-push
 rings-preserved-in_ok-push c =
     let M = c.args.arena.now.model in let f = c.args.f in let l = c.in-Some.l in let test = reaches M c.args.plane in let rest = filter test (above l (rings_of M f)) in
-    let told = c.same.ensures ∙ told_up c.in_ok-side.side _ _ c.in_ok-side.ensures.is in
+    let told = c.same.ensures ∙ told_up c.loop_side.result _ _ c.loop_side.ensures.is in
     record {
       sides = c.loop_side.ensures.sides;
       made = ap (λ (ls : List ℕ). ls ++ rest) c.in_ok-push.ensures.items ∙ append_assoc c.rings.rings.items (l ∷ []) rest
@@ -38,7 +38,7 @@ rings-smaller c = let next = next_ring c.args.arena.now.model c.args.f c.rings.l
 pub rings-preserved : goal.rings-preserved
 rings-preserved c =
     let M = c.args.arena.now.model in let f = c.args.f in let l = c.in-Some.l in let test = reaches M c.args.plane in let rest = filter test (above l (rings_of M f)) in
-    let told = c.same.ensures ∙ told_up c.in_ok-side.side _ _ c.in_ok-side.ensures.is in
+    let told = c.same.ensures ∙ told_up c.loop_side.result _ _ c.loop_side.ensures.is in
     record {
       sides = c.loop_side.ensures.sides;
       made = ap (λ (ls : List ℕ). c.rings.rings.items ++ ls) (sym (ap (filter test) (next_ring M f c.rings.last l c.in-Some.ensures) ∙ ap (λ b. cond b (l ∷ rest) rest) (sym told ∙ c.if-same.false))) ∙ c.rings.invariant.made;

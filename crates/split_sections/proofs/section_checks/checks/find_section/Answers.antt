@@ -1,6 +1,6 @@
-use Rattle.split_sections.proofs.Prelude.{◌≡◌, ◌∙◌, List, ℕ, map, true, Ok, None, Some, sym, ap, subst, SameItems, code, faces_of, strictly_rises, first_refusal, AreOf, taken_of, below_halves, faces_above, section_conditions, AreCyclesOf, IsSection, below_met, leading_above}
+use Rattle.split_sections.proofs.Prelude.{◌≡◌, ◌∙◌, List, ℕ, map, true, Ok, None, Some, sym, ap, subst, code, strictly_rises, first_refusal, AreOf, taken_of, below_halves, faces_above, section_conditions, AreCyclesOf, AreSectionHalves, IsSection, lying_below}
 use Rattle.split_sections.proofs.section_checks_laws.Above.{above_rises, above_of}
-use Rattle.split_sections.proofs.section_edges_laws.Level.{level_there, leading_met}
+use Rattle.split_sections.proofs.section_edges_laws.SectionHalves.{mates_there, section_halves}
 use Rattle.split_sections.specs.declared.section_checks.section.Section.{Section}
 use Rattle.split_sections.proofs.section_checks_laws.Stages.{told, value_told}
 use Rattle.split_sections.proofs.section_checks.checks.find_section.Goals as goal
@@ -15,14 +15,14 @@ check_cycles-requires-clause-of_solid c =
     let M = c.args.arena.now.model in
     subst (λ (fs : List ℕ). AreOf M fs c.args.s) (sym (c.as_slice.ensures.value ∙ c.in_ok-looked.ensures.above)) (above_of M c.requires.ready.sound c.args.s c.args.plane.now)
 
-pub check_cycles-requires-clause-level : goal.check_cycles-requires-clause-level
-check_cycles-requires-clause-level c = level_there c.args.arena.now.model c.requires.ready.sound c.args.plane.now c.args.s _ c.in_ok-looked.ensures.level
+pub check_cycles-requires-clause-there : goal.check_cycles-requires-clause-there
+check_cycles-requires-clause-there c = mates_there c.args.arena.now.model c.requires.ready.sound c.args.plane.now c.args.s _ c.in_ok-looked.ensures.mates
 
-pub check_cycles-requires-clause-met : goal.check_cycles-requires-clause-met
-check_cycles-requires-clause-met c =
-    let M = c.args.arena.now.model in let hs = map code c.in_ok-looked.looked.level.items in
-    subst (λ (fs : List ℕ). SameItems (leading_above M fs hs) (below_met M fs (faces_of M c.args.s))) (sym (c.as_slice.ensures.value ∙ c.in_ok-looked.ensures.above))
-    (leading_met M c.requires.ready.sound c.args.plane.now c.args.s c.requires.lies hs c.in_ok-looked.ensures.level)
+pub check_cycles-requires-clause-halves : goal.check_cycles-requires-clause-halves
+check_cycles-requires-clause-halves c =
+    let M = c.args.arena.now.model in let hs = map code c.in_ok-looked.looked.mates.items in
+    subst (λ (fs : List ℕ). AreSectionHalves M fs c.args.s (lying_below M fs hs)) (sym (c.as_slice.ensures.value ∙ c.in_ok-looked.ensures.above))
+    (section_halves M c.requires.ready.sound c.args.plane.now c.args.s hs c.in_ok-looked.ensures.mates)
 
 pub returns-in-Ok-clause-open : goal.returns-in-Ok-clause-open
 returns-in-Ok-clause-open c = λ q e.

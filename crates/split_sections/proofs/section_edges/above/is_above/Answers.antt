@@ -12,20 +12,20 @@ told_on a b m n e same = let up = told_up On a b e in λ i. up i || (not (told_d
 told_above : (a b n : Bool) → Above ≡ side_reached a b → true ≡ a || (not b && n)
 told_above a b n e = λ i. told_up Above a b e i || (not b && n)
 
-pub returns-in-Below : goal.returns-in-Below
+pub returns-in-Below-clause-is : goal.returns-in-Below-clause-is
 unfolding face_is_above
-returns-in-Below c =
+returns-in-Below-clause-is c =
     let M = c.args.arena.now.model in let p = c.args.plane in let f = c.args.f in
-    told_below (reaches_above M p f) (reaches_below M p f) (not (int_lt (pos 0) (dot (normal M f) (direction p)))) (sym c.in-Below.is ∙ c.requires.side)
+    told_below (reaches_above M p f) (reaches_below M p f) (not (int_lt (pos 0) (dot (normal M f) (direction p)))) (sym c.in-Below.is ∙ c.face_side.ensures.is)
 
-pub returns-in-On : goal.returns-in-On
+pub returns-in-On-clause-is : goal.returns-in-On-clause-is
 unfolding face_is_above
-returns-in-On c =
+returns-in-On-clause-is c =
     let M = c.args.arena.now.model in let p = c.args.plane in let f = c.args.f in
-    told_on (reaches_above M p f) (reaches_below M p f) c.points_along.result (int_lt (pos 0) (dot (normal M f) (direction p))) (sym c.in-On.is ∙ c.requires.side) c.points_along.ensures
+    told_on (reaches_above M p f) (reaches_below M p f) c.points_along.result (int_lt (pos 0) (dot (normal M f) (direction p))) (sym c.in-On.is ∙ c.face_side.ensures.is) c.points_along.ensures
 
-pub returns-in-Above : goal.returns-in-Above
+pub returns-in-Above-clause-is : goal.returns-in-Above-clause-is
 unfolding face_is_above
-returns-in-Above c =
+returns-in-Above-clause-is c =
     let M = c.args.arena.now.model in let p = c.args.plane in let f = c.args.f in
-    told_above (reaches_above M p f) (reaches_below M p f) (not (int_lt (pos 0) (dot (normal M f) (direction p)))) (sym c.in-Above.is ∙ c.requires.side)
+    told_above (reaches_above M p f) (reaches_below M p f) (not (int_lt (pos 0) (dot (normal M f) (direction p)))) (sym c.in-Above.is ∙ c.face_side.ensures.is)
