@@ -1477,9 +1477,9 @@ public:
         return Policy::template failed<void>("load", kind == GWB_REFUSED ? refused : failure(kind));
     }
 
-    /// What a call of gwb_features.h gives (gwb_features.hpp): `made` makes it of what was written. Where that takes memory that is refused, what was made
-    /// is taken back.
-    template <class Call, class Made> auto feature(const char *command, Call call, Made made) -> Returned<decltype(made())>
+    /// What a call of gwb_features.h gives with these arguments (gwb_features.hpp): `made` makes it of what was written. Where that takes memory that is
+    /// refused, what was made is taken back.
+    template <class Call, class Made, class... All> auto feature(const char *command, Call call, Made made, All... arguments) -> Returned<decltype(made())>
     {
         using Of = decltype(made());
         const Steps steps(held());
@@ -1487,7 +1487,7 @@ public:
             return Policy::template failed<Of>(command, failure(steps.kind()));
         gwb_refusal why{};
         state_->begin_whole();
-        const gwb_kind kind = call(held(), &why);
+        const gwb_kind kind = call(held(), arguments..., &why);
         if (kind != GWB_OK)
             return Policy::template failed<Of>(command, feature_failure(kind, why));
         const auto keep = [&] { steps.keep(), state_->end_whole(); };

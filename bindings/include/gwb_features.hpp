@@ -45,12 +45,6 @@ inline std::vector<std::array<std::uint32_t, 2>> pairs(const gwb *g, gwb_list wh
     return rows<std::array<std::uint32_t, 2>>([&](auto *to, std::size_t room) { return gwb_made(g, which, to->data(), 2 * room) / 2; });
 }
 
-/// Gives a call of gwb_features.h with these arguments. `make` makes what it gives of what was written.
-template <class Policy, class Call, class Make, class... All> auto give(Commands<Policy> &bench, const char *command, Make make, Call call, All... arguments)
-{
-    return bench.feature(command, [&](gwb *g, gwb_refusal *why) { return call(g, arguments..., why); }, make);
-}
-
 /// The number of a new solid, where none is given for it.
 template <class Policy> Solid next_solid(Commands<Policy> &bench) { return bench.attempt().template next_free<Solid>().value_or(Solid()); }
 
@@ -60,7 +54,7 @@ auto row(Commands<Policy> &bench, const char *command, Call call, Solid solid, s
 {
     constexpr std::uint32_t most_solids = 1'000'000; // more are refused before any is written
     std::vector<std::uint32_t> made(count > 0 && count <= most_solids ? count - 1 : 0);
-    return give(bench, command, [&] { return things<Solid>(made); }, call, solid.number(), count, arguments..., made.data());
+    return bench.feature(command, call, [&] { return things<Solid>(made); }, solid.number(), count, arguments..., made.data());
 }
 
 /// A pocket or a boss.
@@ -69,15 +63,15 @@ auto raise(Commands<Policy> &bench, const char *command, Call call, Face face, I
 {
     gwb_outline_made made{};
     std::vector<std::uint32_t> sides(points.size());
-    return give(bench, command, [&] { return Pocket{Face(made.face), Loop(made.loop), things<Face>(sides)}; }, call, face.number(), points.data(),
-                points.size(), length, &made, sides.data());
+    return bench.feature(command, call, [&] { return Pocket{Face(made.face), Loop(made.loop), things<Face>(sides)}; }, face.number(), points.data(),
+                         points.size(), length, &made, sides.data());
 }
 
 /// A notch, slot, groove or shoulder.
 template <class Policy, class Call, class... All> auto notch(Commands<Policy> &bench, const char *command, Call call, Face face, All... arguments)
 {
     const auto made = [&] { return Notch{faces(bench.handle(), GWB_MADE_FLOOR), faces(bench.handle(), GWB_MADE_WALLS)}; };
-    return give(bench, command, made, call, face.number(), arguments...);
+    return bench.feature(command, call, made, face.number(), arguments...);
 }
 
 /// A split or a cut; where no number is given for the solid above, it takes the next one.
@@ -86,7 +80,7 @@ Answer<Policy, Split> split(Commands<Policy> &bench, const char *command, Call c
 {
     const Solid upper = above ? *above : next_solid(bench);
     const auto made = [&] { return Split{upper, faces(bench.handle(), GWB_MADE_LOWER_CAPS), faces(bench.handle(), GWB_MADE_UPPER_CAPS)}; };
-    return give(bench, command, made, call, solid.number(), &plane, upper.number());
+    return bench.feature(command, call, made, solid.number(), &plane, upper.number());
 }
 
 template <class T> const T *pointer(const std::optional<T> &value) { return value ? &*value : nullptr; }
@@ -166,21 +160,20 @@ public:
 /// The solid goes, with all its parts.
 template <class Policy> Answer<Policy, void> kill_solid(Commands<Policy> &bench, Solid solid)
 {
-    return features::give(bench, "kill_solid", [] {}, gwb_kill_solid, solid.number());
+    return bench.feature("kill_solid", gwb_kill_solid, [] {}, solid.number());
 }
 
 /// A new solid, that is another one moved; its numbers are free ones, above all in use as long as there are any.
 template <class Policy> Answer<Policy, Copy> copy_solid(Commands<Policy> &bench, Solid solid, const Motion &motion = {})
 {
     std::uint32_t made = 0;
-    return features::give(bench, "copy_solid", [&] { return Copy(bench.handle(), Solid(made)); }, gwb_copy_solid, solid.number(), &motion.row(),
-                                 &made);
+    return bench.feature("copy_solid", gwb_copy_solid, [&] { return Copy(bench.handle(), Solid(made)); }, solid.number(), &motion.row(), &made);
 }
 
 /// A solid lies elsewhere, with the numbers that it has.
 template <class Policy> Answer<Policy, void> move_solid(Commands<Policy> &bench, Solid solid, const Motion &motion)
 {
-    return features::give(bench, "move_solid", [] {}, gwb_move_solid, solid.number(), &motion.row());
+    return bench.feature("move_solid", gwb_move_solid, [] {}, solid.number(), &motion.row());
 }
 
 /// A row of so many solids, of which this is the first, each by the step from the one before it: those that are new. NoCall where there are none.
@@ -201,20 +194,20 @@ Answer<Policy, std::vector<Solid>> pattern_around(Commands<Policy> &bench, Solid
 /// All coordinates times the factor; numbers stay.
 template <class Policy> Answer<Policy, void> scale(Commands<Policy> &bench, std::int64_t factor)
 {
-    return features::give(bench, "scale", [] {}, gwb_scale, factor);
+    return bench.feature("scale", gwb_scale, [] {}, factor);
 }
 
 /// All numbers become as low as they can be, in their order: where none is left for what comes. Notes follow by renumbered().
 template <class Policy> Answer<Policy, Renumbered> renumber(Commands<Policy> &bench)
 {
-    return features::give(bench, "renumber", [&] { return Renumbered(bench.handle()); }, gwb_renumber);
+    return bench.feature("renumber", gwb_renumber, [&] { return Renumbered(bench.handle()); });
 }
 
 /// The solids become the first, glued along the faces that match. NoCall where one stands twice, or there are none.
 template <class Policy> Answer<Policy, void> glue_all(Commands<Policy> &bench, Items<Solid> solids)
 {
     const std::vector<std::uint32_t> numbers = features::numbers(solids);
-    return features::give(bench, "glue_all", [] {}, gwb_glue_all, numbers.data(), solids.size());
+    return bench.feature("glue_all", gwb_glue_all, [] {}, numbers.data(), solids.size());
 }
 
 /// What the command split does, with the faces that close both parts. Refused as split.
@@ -232,7 +225,7 @@ template <class Policy> Answer<Policy, Split> cut(Commands<Policy> &bench, Solid
 /// What lies above the plane goes: the faces that close what is left. Refused as cut.
 template <class Policy> Answer<Policy, std::vector<Face>> trim(Commands<Policy> &bench, Solid solid, const gwb_cut_plane &plane)
 {
-    return features::give(bench, "trim", [&] { return features::faces(bench.handle(), GWB_MADE_LOWER_CAPS); }, gwb_trim, solid.number(), &plane);
+    return bench.feature("trim", gwb_trim, [&] { return features::faces(bench.handle(), GWB_MADE_LOWER_CAPS); }, solid.number(), &plane);
 }
 
 /// Faces that became one with others, or several, each with one that it went into.
@@ -248,7 +241,7 @@ template <class Policy> Answer<Policy, Merged> unite(Commands<Policy> &bench, It
             merged.emplace_back(face, into);
         return merged;
     };
-    return features::give(bench, "union", made, gwb_union, numbers.data(), solids.size());
+    return bench.feature("union", gwb_union, made, numbers.data(), solids.size());
 }
 
 /// A new solid: the outline through the points, moved along the vector.
@@ -256,8 +249,8 @@ template <class Policy> Answer<Policy, Profile> profile(Commands<Policy> &bench,
 {
     gwb_profile_made made{};
     std::vector<std::uint32_t> sides(points.size());
-    return features::give(bench, "profile", [&] { return Profile{solid, Face(made.far), Face(made.base), features::things<Face>(sides)}; }, gwb_profile,
-                          solid.number(), points.data(), points.size(), &along, &made, sides.data());
+    return bench.feature("profile", gwb_profile, [&] { return Profile{solid, Face(made.far), Face(made.base), features::things<Face>(sides)}; },
+                         solid.number(), points.data(), points.size(), &along, &made, sides.data());
 }
 template <class Policy> Answer<Policy, Profile> profile(Commands<Policy> &bench, Items<Point> points, Point along)
 {
@@ -271,8 +264,8 @@ Answer<Policy, Polyhedron> polyhedron(Commands<Policy> &bench, Solid solid, Item
 {
     gwb_polyhedron_made made{};
     const bool has_all = std::accumulate(sizes.begin(), sizes.end(), std::uint64_t{0}) == corners.size();
-    return features::give(bench, "polyhedron", [&] { return Polyhedron{solid, Vertex(made.first_vertex), Face(made.first_face)}; }, gwb_polyhedron,
-                          solid.number(), points.data(), points.size(), corners.data(), sizes.data(), has_all ? sizes.size() : 0, &made);
+    return bench.feature("polyhedron", gwb_polyhedron, [&] { return Polyhedron{solid, Vertex(made.first_vertex), Face(made.first_face)}; },
+                         solid.number(), points.data(), points.size(), corners.data(), sizes.data(), has_all ? sizes.size() : 0, &made);
 }
 template <class Policy>
 Answer<Policy, Polyhedron> polyhedron(Commands<Policy> &bench, Items<Point> points, Items<std::uint32_t> corners, Items<std::uint32_t> sizes)
@@ -286,7 +279,7 @@ template <class Policy> Answer<Policy, Ring> ring(Commands<Policy> &bench, Face 
     gwb_outline_made made{};
     std::vector<std::uint32_t> edges(points.size()), vertices(points.size());
     const auto drawn = [&] { return Ring{Face(made.face), Loop(made.loop), features::things<Edge>(edges), features::things<Vertex>(vertices)}; };
-    return features::give(bench, "ring", drawn, gwb_ring, face.number(), points.data(), points.size(), &made, edges.data(), vertices.data());
+    return bench.feature("ring", gwb_ring, drawn, face.number(), points.data(), points.size(), &made, edges.data(), vertices.data());
 }
 
 /// A pocket so deep behind the outline in the face.
@@ -307,7 +300,7 @@ template <class Policy> Answer<Policy, Hole> hole(Commands<Policy> &bench, Face 
     gwb_outline_made made{};
     std::vector<std::uint32_t> sides(points.size());
     const auto bored = [&] { return Hole{Face(made.face), Loop(made.loop), features::things<Face>(sides), {points.begin(), points.end()}}; };
-    return features::give(bench, "hole", bored, gwb_hole, face.number(), points.data(), points.size(), &made, sides.data());
+    return bench.feature("hole", gwb_hole, bored, face.number(), points.data(), points.size(), &made, sides.data());
 }
 
 /// A hole with a polygon of so many sides around the center, on whole numbers nearest to the circle of the radius: through, where the depth is 0, or so deep.
@@ -319,7 +312,7 @@ Answer<Policy, Hole> drill(Commands<Policy> &bench, Face face, Point center, std
     std::vector<Point> points(sides <= most_sides ? sides : 0); // more are refused before any is written
     std::vector<std::uint32_t> walls(points.size());
     const auto drilled = [&] { return Hole{Face(made.face), Loop(made.loop), features::things<Face>(walls), points}; };
-    return features::give(bench, "drill", drilled, gwb_drill, face.number(), &center, radius, sides, depth, &made, walls.data(), points.data());
+    return bench.feature("drill", gwb_drill, drilled, face.number(), &center, radius, sides, depth, &made, walls.data(), points.data());
 }
 
 /// A pocket whose outline may reach the edges of the face.
@@ -351,7 +344,7 @@ template <class Policy> Answer<Policy, Notch> shoulder(Commands<Policy> &bench, 
 template <class Policy> Answer<Policy, Face> chamfer(Commands<Policy> &bench, Edge edge, std::int64_t width, std::optional<std::int64_t> other = {})
 {
     std::uint32_t made = 0;
-    return features::give(bench, "chamfer", [&] { return Face(made); }, gwb_chamfer, edge.number(), width, other.value_or(width), &made);
+    return bench.feature("chamfer", gwb_chamfer, [&] { return Face(made); }, edge.number(), width, other.value_or(width), &made);
 }
 
 /// The same of different edges at once, as far into the faces on both sides, whose slopes meet where the edges do: the slope of each.
@@ -360,7 +353,7 @@ template <class Policy> Answer<Policy, std::vector<Face>> chamfer_edges(Commands
     const std::vector<std::uint32_t> numbers = features::numbers(edges);
     std::vector<std::uint32_t> slopes(edges.size());
     const auto made = [&] { return features::things<Face>(slopes); };
-    return features::give(bench, "chamfer_edges", made, gwb_chamfer_edges, numbers.data(), edges.size(), width, slopes.data());
+    return bench.feature("chamfer_edges", gwb_chamfer_edges, made, numbers.data(), edges.size(), width, slopes.data());
 }
 
 using CutPlane = gwb_cut_plane;
