@@ -206,8 +206,7 @@ template <class Policy> Answer<Policy, Renumbered> renumber(Commands<Policy> &be
 /// The solids become the first, glued along the faces that match. NoCall where one stands twice, or there are none.
 template <class Policy> Answer<Policy, void> glue_all(Commands<Policy> &bench, Items<Solid> solids)
 {
-    const std::vector<std::uint32_t> numbers = features::numbers(solids);
-    return bench.feature("glue_all", gwb_glue_all, [] {}, numbers.data(), solids.size());
+    return bench.feature("glue_all", gwb_glue_all, [] {}, features::numbers(solids).data(), solids.size());
 }
 
 /// What the command split does, with the faces that close both parts. Refused as split.
@@ -234,14 +233,13 @@ using Merged = std::vector<std::pair<Face, Face>>;
 /// The solids, which touch in faces, become the first (`union` is a word of C++). NoCall where one stands twice, or there are fewer than two.
 template <class Policy> Answer<Policy, Merged> unite(Commands<Policy> &bench, Items<Solid> solids)
 {
-    const std::vector<std::uint32_t> numbers = features::numbers(solids);
     const auto made = [&] {
         Merged merged;
         for (const auto &[face, into] : features::pairs(bench.handle(), GWB_MADE_INTO))
             merged.emplace_back(face, into);
         return merged;
     };
-    return bench.feature("union", gwb_union, made, numbers.data(), solids.size());
+    return bench.feature("union", gwb_union, made, features::numbers(solids).data(), solids.size());
 }
 
 /// A new solid: the outline through the points, moved along the vector.
@@ -350,10 +348,9 @@ template <class Policy> Answer<Policy, Face> chamfer(Commands<Policy> &bench, Ed
 /// The same of different edges at once, as far into the faces on both sides, whose slopes meet where the edges do: the slope of each.
 template <class Policy> Answer<Policy, std::vector<Face>> chamfer_edges(Commands<Policy> &bench, Items<Edge> edges, std::int64_t width)
 {
-    const std::vector<std::uint32_t> numbers = features::numbers(edges);
     std::vector<std::uint32_t> slopes(edges.size());
     const auto made = [&] { return features::things<Face>(slopes); };
-    return bench.feature("chamfer_edges", gwb_chamfer_edges, made, numbers.data(), edges.size(), width, slopes.data());
+    return bench.feature("chamfer_edges", gwb_chamfer_edges, made, features::numbers(edges).data(), edges.size(), width, slopes.data());
 }
 
 using CutPlane = gwb_cut_plane;
