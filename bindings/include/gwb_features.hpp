@@ -16,13 +16,14 @@ template <class Policy, class T> using Answer = typename Policy::template Return
 
 namespace features {
 
-/// The rows that a call writes.
-template <class Row, class Write> std::vector<Row> rows(Write write)
+/// All rows or letters that a call writes: none where it can't.
+template <class Held, class Call, class... All> Held rows(Call call, All... arguments)
 {
-    Row nothing{};
-    std::vector<Row> found(write(&nothing, 0));
+    typename Held::value_type nothing{};
+    const std::size_t count = call(arguments..., &nothing, 0);
+    Held found(count != SIZE_MAX ? count : 0, nothing);
     if (!found.empty())
-        write(found.data(), found.size());
+        call(arguments..., found.data(), found.size());
     return found;
 }
 
@@ -36,13 +37,10 @@ template <class Kind> std::vector<std::uint32_t> numbers(Items<Kind> things)
 template <class Kind> std::vector<Kind> things(const std::vector<std::uint32_t> &numbers) { return std::vector<Kind>(numbers.begin(), numbers.end()); }
 
 /// A list of what the last feature made: faces; numbers, each with another one.
-inline std::vector<Face> faces(const gwb *g, gwb_list which)
-{
-    return things<Face>(rows<std::uint32_t>([&](std::uint32_t *to, std::size_t room) { return gwb_made(g, which, to, room); }));
-}
+inline std::vector<Face> faces(const gwb *g, gwb_list which) { return things<Face>(rows<std::vector<std::uint32_t>>(gwb_made, g, which)); }
 inline std::vector<std::array<std::uint32_t, 2>> pairs(const gwb *g, gwb_list which)
 {
-    return rows<std::array<std::uint32_t, 2>>([&](auto *to, std::size_t room) { return gwb_made(g, which, to->data(), 2 * room) / 2; });
+    return rows<std::vector<std::array<std::uint32_t, 2>>>([&](auto *to, std::size_t room) { return gwb_made(g, which, to->data(), 2 * room) / 2; });
 }
 
 /// The number of a new solid, where none is given for it.
@@ -405,24 +403,13 @@ public:
     /// Whether the model times that number stays in range.
     [[nodiscard]] bool fits() const { return gwb_advice_fits(advice_.get()); }
     /// The edges that the plane cuts between whole points, rising.
-    [[nodiscard]] std::vector<gwb_edge_cut> cuts() const { return rows<gwb_edge_cut>(gwb_advice_cuts); }
+    [[nodiscard]] std::vector<gwb_edge_cut> cuts() const { return features::rows<std::vector<gwb_edge_cut>>(gwb_advice_cuts, advice_.get()); }
     /// The planes beside it that would do, parallel ones first.
-    [[nodiscard]] std::vector<gwb_near_plane> planes() const { return rows<gwb_near_plane>(gwb_advice_planes); }
+    [[nodiscard]] std::vector<gwb_near_plane> planes() const { return features::rows<std::vector<gwb_near_plane>>(gwb_advice_planes, advice_.get()); }
     /// All of it as lines of a script, with this number for the solid above the plane. Empty where memory is refused.
-    [[nodiscard]] std::string advice(Solid above) const
-    {
-        std::string text;
-        const std::size_t length = gwb_advice_text(advice_.get(), above.number(), text.data(), 0);
-        text.resize(length != SIZE_MAX ? length : 0);
-        gwb_advice_text(advice_.get(), above.number(), text.data(), text.size());
-        return text;
-    }
+    [[nodiscard]] std::string advice(Solid above) const { return features::rows<std::string>(gwb_advice_text, advice_.get(), above.number()); }
 
 private:
-    template <class Row> [[nodiscard]] std::vector<Row> rows(std::size_t (*write)(const gwb_advice *, Row *, std::size_t)) const
-    {
-        return features::rows<Row>([&](Row *to, std::size_t room) { return write(advice_.get(), to, room); });
-    }
     std::shared_ptr<gwb_advice> advice_;
 };
 
