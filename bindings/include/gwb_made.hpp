@@ -37,11 +37,8 @@ public:
     /// This motion, and then another.
     [[nodiscard]] Motion then(const Motion &next) const
     {
-        Motion both;
-        for (std::size_t axis = 0; axis < 3; axis++)
-            both.row_.axes[axis] = part(row_.axes, next.row_.axes[axis]);
-        both.row_.by = next(row_.by);
-        return both;
+        const auto &[x, y, z] = next.row_.axes;
+        return Motion(gwb_motion{{part(row_.axes, x), part(row_.axes, y), part(row_.axes, z)}, next(row_.by)});
     }
     /// Whether left becomes right.
     [[nodiscard]] bool is_mirror() const
