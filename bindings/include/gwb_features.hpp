@@ -89,14 +89,12 @@ Answer<Policy, std::vector<Kind>> found(const Commands<Policy> &bench, const cha
 {
     std::vector<std::uint32_t> numbers;
     std::size_t count = 64;
-    gwb_refusal why{};
-    gwb_kind kind = GWB_OK;
-    while (kind == GWB_OK && count > numbers.size()) {
+    while (count > numbers.size()) {
         numbers.resize(count);
-        kind = call(bench.handle(), &query, numbers.data(), numbers.size(), &count, &why);
+        gwb_refusal why{};
+        if (const gwb_kind kind = call(bench.handle(), &query, numbers.data(), numbers.size(), &count, &why); kind != GWB_OK)
+            return Policy::template failed<std::vector<Kind>>(reader, bench.feature_failure(kind, why));
     }
-    if (kind != GWB_OK)
-        return Policy::template failed<std::vector<Kind>>(reader, bench.feature_failure(kind, why));
     numbers.resize(count);
     return things<Kind>(numbers);
 }
@@ -418,8 +416,7 @@ template <class Policy> Answer<Policy, OffLattice> off_lattice(const Commands<Po
 {
     gwb_advice *advice = nullptr;
     gwb_refusal why{};
-    const gwb_kind kind = gwb_off_lattice(bench.handle(), solid.number(), &plane, most, &advice, &why);
-    if (kind != GWB_OK)
+    if (const gwb_kind kind = gwb_off_lattice(bench.handle(), solid.number(), &plane, most, &advice, &why); kind != GWB_OK)
         return Policy::template failed<OffLattice>("off_lattice", bench.feature_failure(kind, why));
     return OffLattice(advice);
 }
