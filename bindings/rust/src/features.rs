@@ -295,9 +295,8 @@ features! {
     }
     /// A new solid: the outline through the points, moved along the vector.
     profile(this, solid: impl Into<Option<Solid>>, points: &[impl Copy + Into<Point>], along: impl Into<Point>) -> Profile {
-        let (solid, points, mut made) = (this.named(solid), listed(points), gwb_sys::ProfileMade::default());
-        let mut sides = vec![Face(0); points.len()];
-        gwb_sys::gwb_profile(solid.0, points.as_ptr(), points.len(), &along.into(), &mut made, sides.as_mut_ptr().cast())
+        let (solid, mut made, mut sides) = (this.named(solid), gwb_sys::ProfileMade::default(), vec![Face(0); points.len()]);
+        gwb_sys::gwb_profile(solid.0, listed(points).as_ptr(), points.len(), &along.into(), &mut made, sides.as_mut_ptr().cast())
             => Profile { solid, far: Face(made.far), base: Face(made.base), sides }
     }
     /// A new solid: points, and faces of so many corners each, by their places among the points from 0 on, counterclockwise as seen from outside.
@@ -310,9 +309,8 @@ features! {
     }
     /// A face inside the face, with the outline through the points, and a ring around it.
     ring(this, face: Face, points: &[impl Copy + Into<Point>]) -> Ring {
-        let (points, mut made, mut edges) = (listed(points), OutlineMade::default(), vec![Edge(0); points.len()]);
-        let mut vertices = vec![Vertex(0); points.len()];
-        gwb_sys::gwb_ring(face.0, points.as_ptr(), points.len(), &mut made, edges.as_mut_ptr().cast(), vertices.as_mut_ptr().cast())
+        let (mut made, mut edges, mut vertices) = (OutlineMade::default(), vec![Edge(0); points.len()], vec![Vertex(0); points.len()]);
+        gwb_sys::gwb_ring(face.0, listed(points).as_ptr(), points.len(), &mut made, edges.as_mut_ptr().cast(), vertices.as_mut_ptr().cast())
             => Ring { face: Face(made.face), of_loop: Loop(made.of_loop), edges, vertices }
     }
     /// A pocket so deep behind the outline in the face.
@@ -342,8 +340,7 @@ features! {
     }
     /// A pocket whose outline may reach the edges of the face.
     notch(this, face: Face, points: &[impl Copy + Into<Point>], depth: i64) -> Notch {
-        let points = listed(points);
-        gwb_sys::gwb_notch(face.0, points.as_ptr(), points.len(), depth) => this.made_notch()
+        gwb_sys::gwb_notch(face.0, listed(points).as_ptr(), points.len(), depth) => this.made_notch()
     }
     /// A slot with a flat floor along a line from one point to another.
     slot(this, face: Face, start: impl Into<Point>, end: impl Into<Point>, width: i64, depth: i64) -> Notch {
