@@ -95,8 +95,7 @@ Answer<Policy, std::vector<Kind>> found(const Commands<Policy> &bench, const cha
         if (const gwb_kind kind = call(bench.handle(), &query, numbers.data(), numbers.size(), &count, &why); kind != GWB_OK)
             return Policy::template failed<std::vector<Kind>>(reader, bench.feature_failure(kind, why));
     }
-    numbers.resize(count);
-    return things<Kind>(numbers);
+    return std::vector<Kind>(numbers.data(), numbers.data() + count);
 }
 
 } // namespace features

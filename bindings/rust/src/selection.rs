@@ -91,7 +91,6 @@ impl Readers {
             found.resize(count, 0);
             told(call(self.handle(), found.as_mut_ptr(), found.len(), &mut count, &mut why), why)?;
         }
-        found.truncate(count);
-        Ok(found.into_iter().map(N::from_number).collect())
+        Ok(found.into_iter().take(count).map(N::from_number).collect())
     }
 }
