@@ -129,8 +129,7 @@ protected:
 };
 
 /// A copy of a solid, which it stands for, and its parts.
-class Copy : public Parts {
-public:
+struct Copy : Parts {
     Copy(const gwb *g, Solid made) : Parts(g), solid(made) {}
     Solid solid;
     operator Solid() const { return solid; }
