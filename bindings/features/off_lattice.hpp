@@ -105,16 +105,23 @@ inline EdgeCut cut_of(const Side &side, const Plane &plane)
     return {side.half.edge(), {part(0), part(1), part(2)}};
 }
 
-/// The whole numbers remainder + k modulus, whose modulus is 1 or more.
-struct Congruence {
-    Wide remainder = 0, modulus = 1;
+/// The least number from 0 on that lies a multiple of the modulus from another one.
+constexpr Wide rest(Wide number, Wide modulus) { return (number % modulus + modulus) % modulus; }
 
-    [[nodiscard]] static Wide rest(Wide number, Wide modulus) { return (number % modulus + modulus) % modulus; }
-    /// The greatest of the numbers that is at most the wanted one.
-    [[nodiscard]] Wide at_most(Wide wanted) const { return wanted - rest(wanted - remainder, modulus); }
+/// Offsets of planes of one normal, both ends among them: remainder + k modulus, whose modulus is 1 or more.
+struct Offsets {
+    Wide low, high, remainder = 0, modulus = 1;
 
-    /// The numbers in both, by the Chinese remainder theorem: Euclid's algorithm tells how many times the modulus leave their greatest common divisor.
-    [[nodiscard]] std::optional<Congruence> and_also(const Congruence &other) const
+    /// How far a fraction lies beside the ends, times its denominator.
+    [[nodiscard]] Wide gap(const Fraction &offset) const
+    {
+        return std::max({low * offset.denominator - offset.numerator, offset.numerator - high * offset.denominator, Wide{0}});
+    }
+    /// Whether others lie between the ends.
+    [[nodiscard]] bool are_around(const Offsets &others) const { return low < others.low && others.high < high; }
+
+    /// Those among others too, by the Chinese remainder theorem: Euclid's algorithm tells how many times the modulus leave their greatest common divisor.
+    [[nodiscard]] std::optional<Offsets> and_also(const Offsets &other) const
     {
         Wide shared = modulus, times = 1;
         for (Wide left = other.modulus, next = 0; left != 0;) {
@@ -125,69 +132,50 @@ struct Congruence {
         const Wide step = other.modulus / shared, apart = other.remainder - remainder;
         if (apart % shared != 0)
             return std::nullopt;
-        return Congruence{rest(remainder + modulus * rest(apart / shared * times, step), modulus * step), modulus * step};
+        return Offsets{low, high, rest(remainder + modulus * rest(apart / shared * times, step), modulus * step), modulus * step};
     }
 };
 
-/// Offsets, both ends among them, at which planes of one normal cut the same edges.
-struct Band {
-    Wide low, high;
-
-    /// How far the fraction lies beside the band, times its denominator.
-    [[nodiscard]] Wide gap(const Fraction &offset) const
-    {
-        return std::max({low * offset.denominator - offset.numerator, offset.numerator - high * offset.denominator, Wide{0}});
-    }
-};
-
-/// The offsets at which planes of one normal meet the ends of an edge, and those at which they meet a whole point of it.
-struct Span {
-    Wide low, high;
-    Congruence whole;
-
-    [[nodiscard]] bool crosses(const Band &band) const { return low < band.low && band.high < high; }
-};
-
-/// An edge that isn't level between its ends has whole points at every so many offsets; a level one is never cut.
-inline Span span_of(const Vector &normal, const Side &side)
+/// Those at which planes meet whole points of an edge. One that isn't level has such at every so many; a level one is never cut.
+inline Offsets span_of(const Vector &normal, const Side &side)
 {
     const Wide first = -dot(normal, side.start), last = -dot(normal, side.end);
     const Wide step = first != last ? magnitude(last - first) / parts_of(side.way()) : 1;
-    return {std::min(first, last), std::max(first, last), {Congruence::rest(first, step), step}};
+    return {std::min(first, last), std::max(first, last), rest(first, step), step};
 }
 
-/// The heights of vertices between the lowest and the highest, and the ranges between them that hold a whole offset; the nearest first.
-inline std::vector<Band> bands_of(const std::vector<Span> &spans, const Fraction &offset)
+/// Those at which planes cut the same edges: the heights of vertices between the lowest and the highest, and the ranges between them that hold a whole
+/// offset; the nearest first.
+inline std::vector<Offsets> bands_of(const std::vector<Offsets> &spans, const Fraction &offset)
 {
     std::set<Wide> levels;
-    for (const Span &span : spans)
+    for (const Offsets &span : spans)
         levels.insert({span.low, span.high});
-    std::vector<Band> bands;
+    std::vector<Offsets> bands;
     for (auto low = levels.begin(), high = std::next(low); high != levels.end(); low = high++) {
         if (*low + 1 < *high)
             bands.push_back({*low + 1, *high - 1});
         if (std::next(high) != levels.end())
             bands.push_back({*high, *high});
     }
-    std::stable_sort(bands.begin(), bands.end(), [&](const Band &a, const Band &b) { return a.gap(offset) < b.gap(offset); });
+    std::stable_sort(bands.begin(), bands.end(), [&](const Offsets &a, const Offsets &b) { return a.gap(offset) < b.gap(offset); });
     return bands;
 }
 
 /// The whole offsets beside a given one, below it and above, as near as the band allows, that all edges which are cut in the band may ask for.
-inline std::vector<Band> asked_in(const Band &band, const Fraction &offset, const std::vector<Span> &spans)
+inline std::vector<Offsets> asked_in(const Offsets &band, const Fraction &offset, const std::vector<Offsets> &spans)
 {
     constexpr Wide wide_enough = Wide{1} << 62; // so that a band has two such numbers at most
-    Congruence common;
-    for (const Span &span : spans)
-        if (span.crosses(band) && common.modulus <= wide_enough) {
-            const std::optional<Congruence> both = common.and_also(span.whole);
-            if (!both)
-                return {};
-            common = *both;
-        }
-    const Wide whole = (offset.numerator - Congruence::rest(offset.numerator, offset.denominator)) / offset.denominator;
-    const Wide below = common.at_most(std::min(band.high, std::max(band.low - 1, whole))), above = below + common.modulus;
-    return filtered(std::vector<Band>{{below, below}, {above, above}}, [&](const Band &one) { return band.low <= one.low && one.high <= band.high; });
+    std::optional<Offsets> common = band;
+    for (const Offsets &span : spans)
+        if (common && span.are_around(band) && common->modulus <= wide_enough)
+            common = common->and_also(span);
+    if (!common)
+        return {};
+    const Wide whole = (offset.numerator - rest(offset.numerator, offset.denominator)) / offset.denominator;
+    const Wide next = std::min(band.high, std::max(band.low - 1, whole));
+    const Wide below = next - rest(next - common->remainder, common->modulus), above = below + common->modulus;
+    return filtered(std::vector<Offsets>{{below, below}, {above, above}}, [&](const Offsets &one) { return band.low <= one.low && one.high <= band.high; });
 }
 
 /// How often a loop passes through a plane, given on which side each of its corners lies; -1 where it only touches it somewhere.
@@ -219,8 +207,8 @@ inline bool is_drawn(const std::vector<Cycle> &loops, const Plane &plane)
 /// The square of how far a cut moves: as a fraction where that fits, and as what is nearest.
 struct SquareMoved {
     Fraction exact;
-    double value = 0;
-    bool fits = true;
+    double value;
+    bool fits;
 
     /// So far along an edge whose square length is this.
     SquareMoved(const Fraction &way, Wide square) : value(way.value() * way.value() * static_cast<double>(square))
@@ -229,11 +217,10 @@ struct SquareMoved {
         fits = !__builtin_mul_overflow(way.numerator, way.numerator, &length) && !__builtin_mul_overflow(length, square, &exact.numerator) &&
                !__builtin_mul_overflow(way.denominator, way.denominator, &exact.denominator);
     }
-    [[nodiscard]] int compare(const SquareMoved &other) const
+    friend bool operator<(const SquareMoved &a, const SquareMoved &b)
     {
-        if (fits && other.fits)
-            return compare_products(exact.numerator, other.exact.denominator, other.exact.numerator, exact.denominator);
-        return (value > other.value) - (value < other.value);
+        const bool fit = a.fits && b.fits;
+        return fit ? compare_products(a.exact.numerator, b.exact.denominator, b.exact.numerator, a.exact.denominator) < 0 : a.value < b.value;
     }
 };
 
@@ -264,12 +251,12 @@ public:
         const Vector normal = reduced(plane_.across);
         const Fraction offset = Fraction::of(plane_.offset, parts_of(plane_.across));
         const auto spans = mapped(edges_, [&](const Side &side) { return span_of(normal, side); });
-        std::optional<Band> best;
-        for (const Band &band : bands_of(spans, offset)) {
+        std::optional<Offsets> best;
+        for (const Offsets &band : bands_of(spans, offset)) {
             go_on();
             if (best && band.gap(offset) >= best->gap(offset))
                 break;
-            for (const Band &one : asked_in(band, offset, spans))
+            for (const Offsets &one : asked_in(band, offset, spans))
                 if ((!best || one.gap(offset) < best->gap(offset)) && is_whole({normal, one.low}) && is_cuttable({normal, one.low}))
                     best = one;
         }
@@ -290,10 +277,8 @@ public:
             if (const std::optional<SquareMoved> square = is_whole(plane) ? square_moved(plane) : std::nullopt)
                 ranked.push_back({*square, length_along_axes(plane.across) + magnitude(plane.offset), plane});
         }
-        std::stable_sort(ranked.begin(), ranked.end(), [](const Ranked &a, const Ranked &b) {
-            const int nearer = a.square.compare(b.square);
-            return nearer != 0 ? nearer < 0 : a.size < b.size;
-        });
+        const auto is_nearer = [](const Ranked &a, const Ranked &b) { return std::tie(a.square, a.size) < std::tie(b.square, b.size); };
+        std::stable_sort(ranked.begin(), ranked.end(), is_nearer);
         std::vector<gwb_near_plane> found;
         for (std::size_t at = 0; at < ranked.size() && found.size() < most; at++)
             if (is_cuttable(ranked[at].plane))
@@ -395,8 +380,7 @@ private:
                 return std::nullopt;
             const Fraction old = met(side, plane_), now = met(side, plane);
             const Fraction way = Fraction::of(now.numerator * old.denominator - old.numerator * now.denominator, old.denominator * now.denominator);
-            if (const SquareMoved moved(way, dot(side.way(), side.way())); moved.compare(most) > 0)
-                most = moved;
+            most = std::max(most, SquareMoved(way, dot(side.way(), side.way())));
         }
         return most;
     }
