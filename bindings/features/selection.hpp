@@ -7,25 +7,20 @@ namespace gwb_session::selection {
 
 using namespace machining;
 
-/// A fraction times a whole number, where that is whole.
-inline std::optional<Wide> whole(const gwb_ratio &ratio, Wide factor)
+/// Whether a vector is so many times as long as a fraction says. That is none that doesn't fit in 64 bits, as edges and twice the areas of faces do.
+inline bool is_as_long(const Vector &way, const gwb_ratio &ratio, Unsigned factor)
 {
-    const Wide product = factor * ratio.numerator;
-    return product % ratio.denominator == 0 ? std::optional<Wide>(product / ratio.denominator) : std::nullopt;
-}
-
-/// Whether a vector has this length. It is none that doesn't fit in 64 bits, as those of edges and twice the areas of faces do.
-inline bool is_as_long(const Vector &way, const std::optional<Wide> &length)
-{
-    Unsigned square = 0;
-    if (!length || *length >= Wide{1} << 64)
+    const Unsigned product = factor * ratio.numerator, length = product / ratio.denominator;
+    if (product % ratio.denominator != 0 || length > UINT64_MAX)
         return false;
+    Unsigned left = length * length;
     for (Wide part : way) {
         const auto size = static_cast<Unsigned>(magnitude(part));
-        if (size > static_cast<Unsigned>(*length) || __builtin_add_overflow(square, size * size, &square))
+        if (size > length || size * size > left)
             return false;
+        left -= size * size;
     }
-    return square == static_cast<Unsigned>(*length) * static_cast<Unsigned>(*length);
+    return left == 0;
 }
 
 inline bool is_called_for(const gwb_ratio *ratio) { return ratio == nullptr || (ratio->numerator != 0 && ratio->denominator != 0); }
@@ -55,7 +50,7 @@ inline bool fits(const Bench &bench, Face face, const gwb_face_query &query)
     };
     return (query.plane == nullptr || lie_in(sides, Plane::of(*query.plane))) &&
            (query.normal == nullptr || (!is_zero(across) && reduced(across) == reduced(vector(*query.normal)) && is_flat)) &&
-           (query.area == nullptr || (is_as_long(across, whole(*query.area, 2)) && is_flat)) &&
+           (query.area == nullptr || (is_as_long(across, *query.area, 2) && is_flat)) &&
            (query.containing == nullptr || holds(vector(*query.containing)));
 }
 
@@ -90,7 +85,7 @@ inline bool fits(const Bench &bench, HalfEdge half, const gwb_edge_query &query)
     return (query.between[0] == 0 || bench.face_of(half.twin()) == Face(query.between[1])) &&
            (query.solid == 0 || solid_of(bench, bench.face_of(half)) == Solid(query.solid)) &&
            (query.along == nullptr || (!is_zero(way) && are_parallel(way, vector(*query.along)))) &&
-           (query.length == nullptr || is_as_long(way, whole(*query.length, 1)));
+           (query.length == nullptr || is_as_long(way, *query.length, 1));
 }
 
 /// The edges for which all holds that is asked, rising. Refused: NoFace, NoSolid.
