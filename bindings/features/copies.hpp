@@ -12,10 +12,8 @@ using namespace sheets;
 /// Whether each coordinate of a point goes to one of its image.
 inline bool is_motion(const gwb_motion &motion)
 {
-    std::array<bool, 4> is_taken = {true};
-    return std::none_of(std::begin(motion.axes), std::end(motion.axes), [&](std::int32_t axis) {
-        return axis < -3 || axis > 3 || std::exchange(is_taken[static_cast<std::size_t>(axis < 0 ? -axis : axis)], true);
-    });
+    const auto has_image = [&](std::int32_t axis) { return any(motion.axes, [&](std::int32_t to) { return to == axis || to == -axis; }); };
+    return has_image(1) && has_image(2) && has_image(3);
 }
 
 /// Where a motion takes a point.

@@ -13,8 +13,8 @@ namespace gwb_session {
 /// Items after those that are there.
 template <class Item, class Added> void append(std::vector<Item> &to, const Added &added) { to.insert(to.end(), added.begin(), added.end()); }
 /// Whether a test holds for all of them, or for any.
-template <class All, class Test> bool all(const All &items, Test test) { return std::all_of(items.begin(), items.end(), test); }
-template <class All, class Test> bool any(const All &items, Test test) { return std::any_of(items.begin(), items.end(), test); }
+template <class All, class Test> bool all(const All &items, Test test) { return std::all_of(std::begin(items), std::end(items), test); }
+template <class All, class Test> bool any(const All &items, Test test) { return std::any_of(std::begin(items), std::end(items), test); }
 /// Those for which it holds.
 template <class All, class Test> auto filtered(const All &items, Test test)
 {
