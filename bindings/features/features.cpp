@@ -18,9 +18,7 @@ void gwb_forget_features(struct beside *of); // for calls.c
 }
 
 /// What is said of a cut, for whoever asked.
-struct gwb_advice {
-    gwb_session::cutting::OffLattice found;
-};
+struct gwb_advice : gwb_session::cutting::OffLattice {};
 
 namespace gwb_session {
 namespace {
@@ -147,10 +145,7 @@ gwb_kind row_of(gwb *g, std::uint32_t solid, std::uint32_t count, Place place, s
 /// Whether each number stands once.
 bool are_different(const std::uint32_t *numbers, std::size_t n)
 {
-    for (std::size_t at = 0; at < n; at++)
-        if (std::find(numbers, numbers + at, numbers[at]) != numbers + at)
-            return false;
-    return true;
+    return std::all_of(numbers, numbers + n, [&](const std::uint32_t &number) { return std::find(numbers, &number, number) == &number; });
 }
 
 // ---- what is found
@@ -399,12 +394,12 @@ gwb_kind gwb_off_lattice(const gwb *g, uint32_t solid, const gwb_cut_plane *plan
 }
 
 void gwb_advice_free(gwb_advice *advice) { delete advice; }
-gwb_wide gwb_advice_factor(const gwb_advice *advice) { return wide(advice->found.factor); }
-bool gwb_advice_fits(const gwb_advice *advice) { return advice->found.fits; }
+gwb_wide gwb_advice_factor(const gwb_advice *advice) { return wide(advice->factor); }
+bool gwb_advice_fits(const gwb_advice *advice) { return advice->fits; }
 
 size_t gwb_advice_cuts(const gwb_advice *advice, gwb_edge_cut *to, size_t room)
 {
-    return rows(advice->found.cuts, to, room, [](const cutting::EdgeCut &cut) {
+    return rows(advice->cuts, to, room, [](const cutting::EdgeCut &cut) {
         const auto &[x, y, z] = cut.point;
         return gwb_edge_cut{cut.edge.number(),
                             {wide(x.numerator), wide(y.numerator), wide(z.numerator)},
@@ -414,13 +409,13 @@ size_t gwb_advice_cuts(const gwb_advice *advice, gwb_edge_cut *to, size_t room)
 
 size_t gwb_advice_planes(const gwb_advice *advice, gwb_near_plane *to, size_t room)
 {
-    return rows(advice->found.near, to, room, [](const gwb_near_plane &near) { return near; });
+    return rows(advice->near, to, room, [](const gwb_near_plane &near) { return near; });
 }
 
 size_t gwb_advice_text(const gwb_advice *advice, uint32_t above, char *buf, size_t room)
 {
     try {
-        const std::string text = advice->found.advice(Solid(above));
+        const std::string text = advice->advice(Solid(above));
         text.copy(buf, room);
         return text.size();
     } catch (const std::bad_alloc &) {
