@@ -222,6 +222,9 @@ public:
         for (Placed &placed : sides_)
             if ((placed.goes_on = divides(placed)) && placed.region == nullptr)
                 beyond.push_back(placed.side.half);
+        for (Placed &placed : sides_)
+            if (!placed.goes_on)
+                join(placed);
         Model made(solid);
         name_vertices(made);
         name_edges(made);
@@ -236,25 +239,12 @@ private:
         const Sheet *region; ///< none of the rest
         Placed *after = nullptr, *mate = nullptr;
         bool goes_on = false; ///< straight from the one before it, as one edge
+        const Placed *edge = nullptr; ///< the first one of that edge
+        std::vector<Side> parts = {}; ///< of the first one: all of them
         Vertex start = {};
         HalfEdge half = {};
 
         [[nodiscard]] bool runs_back(const Vector &way) const { return dot(way, side.way()) < 0; }
-        /// The sides from this one on that are one edge.
-        [[nodiscard]] std::vector<const Placed *> run() const
-        {
-            std::vector<const Placed *> found = {this};
-            while (found.back()->after->goes_on)
-                found.push_back(found.back()->after);
-            return found;
-        }
-        /// All of that edge, with the first old half-edge of its parts.
-        [[nodiscard]] Side whole() const
-        {
-            const auto parts = run();
-            const auto old = std::find_if(parts.begin(), parts.end(), [](const Placed *part) { return part->side.is_old(); });
-            return {side.start, parts.back()->side.end, old != parts.end() ? (*old)->side.half : HalfEdge()};
-        }
     };
     using Row = std::vector<Placed *>;
 
@@ -358,6 +348,20 @@ private:
         return reduced(placed.side.way()) == negative(reduced(onward.side.way()));
     }
 
+    /// The sides from one on that are one edge become this one, with the first old half-edge of its parts.
+    static void join(Placed &own)
+    {
+        own.edge = &own;
+        own.parts = {own.side};
+        for (; own.after->goes_on; own.after = own.after->after) {
+            Placed &part = *own.after;
+            part.edge = &own;
+            own.parts.push_back(part.side);
+            own.side = {own.side.start, part.side.end, own.side.is_old() ? own.side.half : part.side.half};
+            own.mate = part.mate;
+        }
+    }
+
     void name_vertices(Model &made)
     {
         for (Placed &first : sides_)
@@ -377,8 +381,8 @@ private:
     {
         std::set<Vertex> tails;
         for (const Placed *placed : fan)
-            if (placed->side.is_old())
-                tails.insert(held_.model.start(placed->side.half));
+            if (placed->parts[0].is_old())
+                tails.insert(held_.model.start(placed->parts[0].half));
         const std::vector<Vertex> *here = look_up(held_.vertices_at, fan[0]->side.start);
         std::vector<Vertex> found = here != nullptr ? *here : std::vector<Vertex>();
         std::stable_partition(found.begin(), found.end(), [&](Vertex vertex) { return tails.count(vertex) != 0; });
@@ -390,8 +394,8 @@ private:
     {
         for (bool is_whole : {true, false})
             for (Placed &own : sides_)
-                if (!own.goes_on && own.half == HalfEdge() && (!is_whole || held_.is_whole(own.whole()))) {
-                    Placed &mate = *own.run().back()->mate;
+                if (!own.goes_on && own.half == HalfEdge() && (!is_whole || held_.is_whole(own.side))) {
+                    Placed &mate = *own.mate;
                     const std::vector<HalfEdge> halves = old_halves(own, mate);
                     const Edge edge = names_.edges.one(mapped(halves, [](HalfEdge half) { return half.edge(); }));
                     const auto old = std::find_if(halves.begin(), halves.end(), [&](HalfEdge half) { return half.edge() == edge; });
@@ -405,8 +409,8 @@ private:
     /// The old half-edges that the edge of a side is made of, as it runs: those that it is all of first.
     [[nodiscard]] std::vector<HalfEdge> old_halves(const Placed &own, const Placed &mate) const
     {
-        std::vector<Side> parts = mapped(own.run(), [](const Placed *part) { return part->side; });
-        append(parts, mapped(mate.run(), [](const Placed *part) { return part->side.turned(); }));
+        std::vector<Side> parts = own.parts;
+        append(parts, mapped(mate.parts, [](const Side &part) { return part.turned(); }));
         std::vector<HalfEdge> halves, others;
         for (const Side &side : parts)
             if (side.is_old())
@@ -416,30 +420,21 @@ private:
         return halves;
     }
 
-    /// The first sides of the edges of a loop, from the edge on that a side is part of.
-    static std::vector<const Placed *> edges_from(const Placed *start)
-    {
-        std::vector<const Placed *> found;
-        const Placed *at = start;
-        do
-            if (at = at->after; !at->goes_on)
-                found.push_back(at);
-        while (at != start);
-        std::rotate(found.begin(), found.end() - 1, found.end());
-        return found;
-    }
-
     void name_face(Model &made, Sheet &region, const Row &starts)
     {
         std::vector<Loop> row;
         for (const Placed *start : starts) {
-            const std::vector<const Placed *> edges = edges_from(start);
+            std::vector<HalfEdge> halves;
             std::vector<Loop> wanted;
-            for (const Placed *edge : edges)
-                if (const Side whole = edge->whole(); whole.is_old())
-                    wanted.push_back(held_.loop_of(whole.half));
+            const Placed *edge = start->edge;
+            do {
+                halves.push_back(edge->half);
+                if (edge->side.is_old())
+                    wanted.push_back(held_.loop_of(edge->side.half));
+                edge = edge->after;
+            } while (edge != start->edge);
             row.push_back(names_.loops.one(wanted));
-            made.loops[row.back()] = from_least(mapped(edges, [](const Placed *edge) { return edge->half; }));
+            made.loops[row.back()] = from_least(std::move(halves));
         }
         std::sort(row.begin() + 1, row.end());
         region.face = names_.faces.one(region.owners);
