@@ -94,40 +94,35 @@ Combined combined(const Bench &bench, const Model &part, const std::vector<Sheet
     return found;
 }
 
-/// The operators that move rings of a face that weren't looked at to the faces that it went into; none where all corners of one lie on outlines.
-inline std::optional<std::vector<Operator>> moves(const Bench &bench, const Surface &surface, Face face, const std::vector<Loop> &looked_at,
-                                                  const Regions &became)
+/// Puts in the operators that move rings of a face that weren't looked at to the faces that it went into, where these are several. Whether the face is one
+/// of them, and no ring has all of its corners on outlines.
+inline bool put_moves(const Bench &bench, const Surface &surface, Face face, const std::vector<Loop> &looked_at, const Regions &became,
+                      std::vector<Operator> &moves)
 {
-    std::vector<Operator> found;
-    for (Loop ring : bench.rings(face)) {
+    const auto is_moved = [&](Loop ring) {
         go_on();
         if (std::binary_search(looked_at.begin() + 1, looked_at.end(), ring))
-            continue;
+            return true;
         const auto around = std::find_if(became.begin(), became.end(), [&](const auto &region) {
             return any(surface.cycle(ring), [&](const Side &side) { return region.second->locate({side.start}) == Place::inside; });
         });
-        if (around == became.end())
-            return std::nullopt;
-        if (around->first != face)
-            found.push_back(changing::operator_of(&Bench::ring_in, ring, around->first));
-    }
-    return found;
+        if (around != became.end() && around->first != face)
+            moves.push_back(changing::operator_of(&Bench::ring_in, ring, around->first));
+        return around != became.end();
+    };
+    return became.count(face) != 0 && (became.size() == 1 || all(bench.rings(face), is_moved));
 }
 
 /// The operators that turn a part of a solid into what comes of it; none where they aren't of the kind, or rings not looked at are in the way.
 inline std::optional<std::vector<Operator>> operators_for(const Bench &bench, const Surface &surface, const Part &part, const Combined &combined,
                                                           AllNames &names)
 {
-    if (any(part.fast, [&](Face face) { return combined.became(face).count(face) == 0; }))
+    std::vector<Operator> moves;
+    if (!all(part.fast, [&](Face face) { return put_moves(bench, surface, face, part.model.faces.at(face), combined.became(face), moves); }))
         return std::nullopt;
     auto operators = changing::operators_between(changing::Pair{part.model, combined.model, part.fast}, names);
-    for (Face face : part.fast)
-        if (const Regions became = combined.became(face); operators && became.size() > 1) {
-            const auto moved = moves(bench, surface, face, part.model.faces.at(face), became);
-            if (!moved)
-                return std::nullopt;
-            append(*operators, *moved);
-        }
+    if (operators)
+        append(*operators, moves);
     return operators;
 }
 
