@@ -63,19 +63,6 @@ inline std::vector<Face> faces(const Bench &bench, const gwb_face_query &query)
     return filtered(solid != Solid() ? bench.faces(solid) : bench.numbers<Face>(), [&](Face face) { return fits(bench, face, query); });
 }
 
-/// The half-edges of the edges among which others are sought. Refused: NoFace, NoSolid.
-inline std::vector<gwb_half_edge_row> candidates(const Bench &bench, const gwb_edge_query &query)
-{
-    const Solid solid(query.solid);
-    for (std::uint32_t face : query.between)
-        if (face != 0)
-            (void)solid_of(bench, Face(face));
-    if (solid != Solid())
-        require_solid(bench, solid);
-    if (query.between[0] != 0)
-        return bench.half_edge_rows(Face(query.between[0]));
-    return solid != Solid() ? bench.half_edge_rows(solid) : bench.half_edge_rows();
-}
 
 /// Whether an edge fits a query, by a half-edge of its first face.
 inline bool fits(const Bench &bench, HalfEdge half, const gwb_edge_query &query)
@@ -91,9 +78,17 @@ inline bool fits(const Bench &bench, HalfEdge half, const gwb_edge_query &query)
 /// The edges for which all holds that is asked, rising. Refused: NoFace, NoSolid.
 inline std::vector<Edge> edges(const Bench &bench, const gwb_edge_query &query)
 {
+    const Solid solid(query.solid);
+    const Face first(query.between[0]);
+    for (std::uint32_t face : query.between)
+        if (face != 0)
+            (void)solid_of(bench, Face(face));
+    if (solid != Solid())
+        require_solid(bench, solid);
+    const auto rows = first != Face() ? bench.half_edge_rows(first) : solid != Solid() ? bench.half_edge_rows(solid) : bench.half_edge_rows();
     std::set<Edge> found;
-    for (const gwb_half_edge_row &row : candidates(bench, query))
-        if (const HalfEdge half(row.half_edge); (query.between[0] != 0 || !half.is_second()) && fits(bench, half, query))
+    for (const gwb_half_edge_row &row : rows)
+        if (const HalfEdge half(row.half_edge); (first != Face() || !half.is_second()) && fits(bench, half, query))
             found.insert(half.edge());
     return {found.begin(), found.end()};
 }
