@@ -24,14 +24,6 @@ inline Vector image(const Vector &at, const Motion &motion)
     return add({part(axes[0]), part(axes[1]), part(axes[2])}, vector(by));
 }
 
-/// A motion by a vector. One that is out of range stays so.
-inline Motion moving(Vector by)
-{
-    constexpr Wide most = 4 * Wide{farthest};
-    for (Wide &part : by)
-        part = std::clamp(part, -most, most);
-    return Motion::move(point(by));
-}
 
 // ---- numbers
 
@@ -69,11 +61,12 @@ private:
 
 // ---- models
 
-/// The model elsewhere, so many times as large first; loops of a mirror image run back, by mates. Refused: PointRange, with the least vertex.
-inline Model moved(Model model, const Motion &motion, Wide factor = 1)
+/// The model elsewhere, so many times as large first, and moved on by a vector last; loops of a mirror image run back, by mates. Refused: PointRange, with
+/// the least vertex.
+inline Model moved(Model model, const Motion &motion, const Vector &by = {}, Wide factor = 1)
 {
     for (auto &[vertex, at] : model.vertices)
-        require(is_in_range(at = image(times(at, factor), motion)), refused(GWB_WHY_POINT_RANGE, vertex.number()));
+        require(is_in_range(at = add(image(times(at, factor), motion), by)), refused(GWB_WHY_POINT_RANGE, vertex.number()));
     if (!motion.is_mirror())
         return model;
     for (auto &[loop, halves] : model.loops) {
@@ -126,7 +119,7 @@ inline Solid make(Bench &bench, const Model &model, Lists &lists)
 
 // ---- features
 
-/// So many solids, of which one is the first, each placed by its place after it: those that are new.
+/// So many solids, of which one is the first, each as its place after that makes the model: those that are new.
 template <class Place> std::vector<Solid> patterned(Bench &bench, Solid solid, std::uint32_t count, Place place, Lists &lists)
 {
     const Model model = Model::whole(bench, solid);
@@ -134,15 +127,15 @@ template <class Place> std::vector<Solid> patterned(Bench &bench, Solid solid, s
     require(count <= most, refused(GWB_WHY_NUMBERS_SPENT, GWB_SOLID + 1U));
     std::vector<Solid> row;
     for (std::uint32_t at = 1; at < count; at++)
-        row.push_back(make(bench, moved(model, place(at)), lists));
+        row.push_back(make(bench, place(model, at), lists));
     return row;
 }
 
-/// By so many quarters about the axis through a point. (If the point is far out of range, nothing stays in range.)
-inline Motion turn(std::uint32_t axis, std::uint32_t quarters, const gwb_point &about)
+/// The model by so many quarters about the axis through a point.
+inline Model turned(const Model &model, std::uint32_t axis, std::uint32_t quarters, const gwb_point &about)
 {
-    const Vector way = vector(about);
-    return moving(negative(way)).then(Motion::quarter_turns(axis, quarters)).then(moving(way));
+    const Motion turn = Motion::quarter_turns(axis, quarters);
+    return moved(model, turn, subtract(vector(about), image(vector(about), turn)));
 }
 
 inline std::vector<Model> all_read(const Bench &bench)

@@ -134,7 +134,7 @@ template <class Make> gwb_kind listed(gwb *g, gwb_list first, gwb_refusal *why, 
 /// What is answered to a call whose arguments make none.
 gwb_kind no_call(const gwb *g) { return gwb_is_open(g) ? GWB_NO_CALL : GWB_CLOSED; }
 
-/// A row of solids, each by its place in it.
+/// A row of solids, each as its place in it makes the model.
 template <class Place>
 gwb_kind row_of(gwb *g, std::uint32_t solid, std::uint32_t count, Place place, std::uint32_t *solids, gwb_refusal *why)
 {
@@ -229,7 +229,8 @@ gwb_kind gwb_move_solid(gwb *g, uint32_t solid, const gwb_motion *motion, gwb_re
 
 gwb_kind gwb_pattern(gwb *g, uint32_t solid, uint32_t count, const gwb_point *step, uint32_t *solids, gwb_refusal *why)
 {
-    return row_of(g, solid, count, [&](uint32_t place) { return copies::moving(exact::times(exact::vector(*step), place)); }, solids, why);
+    const auto place = [&](const sheets::Model &model, uint32_t at) { return copies::moved(model, Motion(), exact::times(exact::vector(*step), at)); };
+    return row_of(g, solid, count, place, solids, why);
 }
 
 gwb_kind gwb_pattern_around(gwb *g, uint32_t solid, uint32_t count, uint32_t axis, uint32_t quarters, const gwb_point *about, uint32_t *solids,
@@ -238,7 +239,8 @@ gwb_kind gwb_pattern_around(gwb *g, uint32_t solid, uint32_t count, uint32_t axi
     const bool are_apart = quarters == 2 ? count <= 2 : quarters % 2 == 1 && quarters < 4 && count <= 4;
     if (axis > 2 || !are_apart)
         return no_call(g);
-    return row_of(g, solid, count, [&](uint32_t place) { return copies::turn(axis, quarters * place, *about); }, solids, why);
+    const auto place = [&](const sheets::Model &model, uint32_t at) { return copies::turned(model, axis, quarters * at, *about); };
+    return row_of(g, solid, count, place, solids, why);
 }
 
 gwb_kind gwb_scale(gwb *g, int64_t factor, gwb_refusal *why)
@@ -246,7 +248,7 @@ gwb_kind gwb_scale(gwb *g, int64_t factor, gwb_refusal *why)
     return made(g, why, [&](Bench &bench, Lists &) {
         machining::require_sizes({factor});
         for (const sheets::Model &model : copies::all_read(bench))
-            sheets::make_anew(bench, copies::moved(model, Motion(), factor));
+            sheets::make_anew(bench, copies::moved(model, Motion(), {}, factor));
     });
 }
 
