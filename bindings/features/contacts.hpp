@@ -61,8 +61,7 @@ public:
         compare_edges();
         for (const Sheet &face : faces_) {
             go_on();
-            compare_with_vertices(face);
-            compare_with_edges(face);
+            compare_with_sides(face, face.owners[0]);
             compare_with_faces(face);
         }
     }
@@ -122,25 +121,22 @@ private:
         }
     }
 
-    void compare_with_vertices(const Sheet &face)
+    void compare_with_sides(const Sheet &face, Face own)
     {
         for (std::size_t vertex : vertices_.boxes.meeting(face.box)) {
             const auto &[side, faces] = vertices_.rows.at(vertex);
-            if (faces.count(face.owners[0]) == 0 && face.height({side.start}) == 0 && face.locate({side.start}) == Place::inside)
-                found.insert({Kind::vertex_on_face, vertex, face.owners[0].number()});
+            if (faces.count(own) == 0 && face.height({side.start}) == 0 && face.locate({side.start}) == Place::inside)
+                found.insert({Kind::vertex_on_face, vertex, own.number()});
         }
-    }
-    void compare_with_edges(const Sheet &face)
-    {
         for (std::size_t edge : edges_.boxes.meeting(face.box)) {
             const auto &[side, faces] = edges_.rows.at(edge);
-            if (faces.count(face.owners[0]) != 0)
+            if (faces.count(own) != 0)
                 continue;
             const Wide before = face.height({side.start}), after = face.height({side.end});
             if (sign(before) * sign(after) < 0 && face.locate(divided(side, before, after)) == Place::inside)
-                found.insert({Kind::edge_through_face, edge, face.owners[0].number()});
+                found.insert({Kind::edge_through_face, edge, own.number()});
             else if (before == 0 && after == 0 && face.has_part(side))
-                found.insert({Kind::edge_along_face, edge, face.owners[0].number()});
+                found.insert({Kind::edge_along_face, edge, own.number()});
         }
     }
 
