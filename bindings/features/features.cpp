@@ -88,12 +88,15 @@ void put(const Pocket &made, gwb_outline_made *to, std::uint32_t *sides)
 
 // ---- what is made
 
-/// Makes something as one command, in the heap of the session. What makes something is given the session, and the lists for what it tells by them.
-/// In the end, when nothing can be refused any more, it writes what the caller is told.
-template <class Make> gwb_kind made(gwb *g, gwb_refusal *why, Make make) noexcept
+/// What is answered to a call whose arguments make none.
+gwb_kind no_call(const gwb *g) { return gwb_is_open(g) ? GWB_NO_CALL : GWB_CLOSED; }
+
+/// Makes something as one command, in the heap of the session, where the arguments make a call. What makes something is given the session, and the lists
+/// for what it tells by them. In the end, when nothing can be refused any more, it writes what the caller is told.
+template <class Make> gwb_kind made_if(bool is_call, gwb *g, gwb_refusal *why, Make make) noexcept
 {
-    if (!gwb_is_open(g))
-        return GWB_CLOSED;
+    if (!is_call || !gwb_is_open(g))
+        return no_call(g);
     struct beside &of = *beside_of(g);
     const gwb_heap *heap = gwb_use_heap(of.heap);
     const gwb_kind kind = guarded(g, why, [&] {
@@ -121,6 +124,8 @@ template <class Make> gwb_kind made(gwb *g, gwb_refusal *why, Make make) noexcep
     return kind;
 }
 
+template <class Make> gwb_kind made(gwb *g, gwb_refusal *why, Make make) noexcept { return made_if(true, g, why, make); }
+
 /// The same of what makes faces that are told by a list and the next one.
 template <class Make> gwb_kind listed(gwb *g, gwb_list first, gwb_refusal *why, Make make)
 {
@@ -131,15 +136,13 @@ template <class Make> gwb_kind listed(gwb *g, gwb_list first, gwb_refusal *why, 
     });
 }
 
-/// What is answered to a call whose arguments make none.
-gwb_kind no_call(const gwb *g) { return gwb_is_open(g) ? GWB_NO_CALL : GWB_CLOSED; }
-
 /// A row of solids, each as its place in it makes the model.
 template <class Place>
-gwb_kind row_of(gwb *g, std::uint32_t solid, std::uint32_t count, Place place, std::uint32_t *solids, gwb_refusal *why)
+gwb_kind row_of(bool is_call, gwb *g, std::uint32_t solid, std::uint32_t count, Place place, std::uint32_t *solids, gwb_refusal *why)
 {
-    const auto make = [&](Bench &bench, Lists &lists) { put(copies::patterned(bench, Solid(solid), count, place, lists), solids); };
-    return count == 0 ? no_call(g) : made(g, why, make);
+    return made_if(is_call && count != 0, g, why, [&](Bench &bench, Lists &lists) {
+        put(copies::patterned(bench, Solid(solid), count, place, lists), solids);
+    });
 }
 
 /// Whether each number stands once.
@@ -213,34 +216,30 @@ gwb_kind gwb_kill_solid(gwb *g, uint32_t solid, gwb_refusal *why)
 
 gwb_kind gwb_copy_solid(gwb *g, uint32_t solid, const gwb_motion *motion, uint32_t *out, gwb_refusal *why)
 {
-    const auto make = [&](Bench &bench, Lists &lists) {
+    return made_if(copies::is_motion(*motion), g, why, [&](Bench &bench, Lists &lists) {
         *out = copies::make(bench, copies::moved(sheets::Model::whole(bench, Solid(solid)), {Motion(*motion)}), lists).number();
-    };
-    return copies::is_motion(*motion) ? made(g, why, make) : no_call(g);
+    });
 }
 
 gwb_kind gwb_move_solid(gwb *g, uint32_t solid, const gwb_motion *motion, gwb_refusal *why)
 {
-    const auto make = [&](Bench &bench, Lists &) {
+    return made_if(copies::is_motion(*motion), g, why, [&](Bench &bench, Lists &) {
         sheets::make_anew(bench, copies::moved(sheets::Model::whole(bench, Solid(solid)), {Motion(*motion)}));
-    };
-    return copies::is_motion(*motion) ? made(g, why, make) : no_call(g);
+    });
 }
 
 gwb_kind gwb_pattern(gwb *g, uint32_t solid, uint32_t count, const gwb_point *step, uint32_t *solids, gwb_refusal *why)
 {
     const auto place = [&](const sheets::Model &model, uint32_t at) { return copies::moved(model, Motion(), exact::times(exact::vector(*step), at)); };
-    return row_of(g, solid, count, place, solids, why);
+    return row_of(true, g, solid, count, place, solids, why);
 }
 
 gwb_kind gwb_pattern_around(gwb *g, uint32_t solid, uint32_t count, uint32_t axis, uint32_t quarters, const gwb_point *about, uint32_t *solids,
                             gwb_refusal *why)
 {
     const bool are_apart = quarters == 2 ? count <= 2 : quarters % 2 == 1 && quarters < 4 && count <= 4;
-    if (axis > 2 || !are_apart)
-        return no_call(g);
     const auto place = [&](const sheets::Model &model, uint32_t at) { return copies::turned(model, axis, quarters * at, *about); };
-    return row_of(g, solid, count, place, solids, why);
+    return row_of(axis <= 2 && are_apart, g, solid, count, place, solids, why);
 }
 
 gwb_kind gwb_scale(gwb *g, int64_t factor, gwb_refusal *why)
@@ -256,9 +255,9 @@ gwb_kind gwb_renumber(gwb *g, gwb_refusal *why) { return made(g, why, copies::re
 
 gwb_kind gwb_glue_all(gwb *g, const uint32_t *solids, size_t n, gwb_refusal *why)
 {
-    if (n == 0 || !are_different(solids, n))
-        return no_call(g);
-    return made(g, why, [&](Bench &bench, Lists &) { gluing::glue_all(bench, std::vector<Solid>(solids, solids + n)); });
+    return made_if(n != 0 && are_different(solids, n), g, why, [&](Bench &bench, Lists &) {
+        gluing::glue_all(bench, std::vector<Solid>(solids, solids + n));
+    });
 }
 
 gwb_kind gwb_split_solid(gwb *g, uint32_t solid, const gwb_cut_plane *plane, uint32_t above, gwb_refusal *why)
@@ -278,9 +277,7 @@ gwb_kind gwb_trim(gwb *g, uint32_t solid, const gwb_cut_plane *plane, gwb_refusa
 
 gwb_kind gwb_union(gwb *g, const uint32_t *solids, size_t n, gwb_refusal *why)
 {
-    if (n < 2 || !are_different(solids, n))
-        return no_call(g);
-    return made(g, why, [&](Bench &bench, Lists &lists) {
+    return made_if(n >= 2 && are_different(solids, n), g, why, [&](Bench &bench, Lists &lists) {
         uniting::tell(uniting::unite(bench, std::vector<Solid>(solids, solids + n)), lists[GWB_MADE_INTO]);
     });
 }
@@ -299,9 +296,8 @@ gwb_kind gwb_polyhedron(gwb *g, uint32_t solid, const gwb_point *points, size_t 
                         gwb_polyhedron_made *out, gwb_refusal *why)
 {
     const size_t count = std::accumulate(sizes, sizes + faces, size_t{0});
-    if (faces == 0 || n == 0 || std::any_of(corners, corners + count, [&](uint32_t corner) { return corner >= n; }))
-        return no_call(g);
-    return made(g, why, [&](Bench &bench, Lists &) {
+    const bool are_places = std::all_of(corners, corners + count, [&](uint32_t corner) { return corner < n; });
+    return made_if(faces != 0 && n != 0 && are_places, g, why, [&](Bench &bench, Lists &) {
         *out = polyhedra::make(bench, Solid(solid), {points, n}, corners, Items<uint32_t>(sizes, faces));
     });
 }
@@ -336,8 +332,7 @@ gwb_kind gwb_drill(gwb *g, uint32_t face, const gwb_point *center, int64_t radiu
 {
     return made(g, why, [&](Bench &bench, Lists &) {
         const Hole found = drilling::drill(bench, Face(face), *center, radius, n, depth);
-        *out = {found.other.number(), found.loop.number()};
-        put(found.sides, sides);
+        put({found.other, found.loop, found.sides}, out, sides);
         std::copy(found.points.begin(), found.points.end(), points);
     });
 }
@@ -375,9 +370,9 @@ gwb_kind gwb_chamfer(gwb *g, uint32_t edge, int64_t width, int64_t other, uint32
 
 gwb_kind gwb_chamfer_edges(gwb *g, const uint32_t *edges, size_t n, int64_t width, uint32_t *faces, gwb_refusal *why)
 {
-    if (n == 0 || !are_different(edges, n))
-        return no_call(g);
-    return made(g, why, [&](Bench &bench, Lists &) { put(shaping::make_chamfers(bench, std::vector<Edge>(edges, edges + n), width, width), faces); });
+    return made_if(n != 0 && are_different(edges, n), g, why, [&](Bench &bench, Lists &) {
+        put(shaping::make_chamfers(bench, std::vector<Edge>(edges, edges + n), width, width), faces);
+    });
 }
 
 gwb_kind gwb_find_faces(const gwb *g, const gwb_face_query *query, uint32_t *buf, size_t room, size_t *found, gwb_refusal *why)
