@@ -379,13 +379,11 @@ private:
     /// The old vertices at the point where sides start: those first at which half-edges of theirs did.
     [[nodiscard]] std::vector<Vertex> old_vertices(const Row &fan) const
     {
-        std::set<Vertex> tails;
-        for (const Placed *placed : fan)
-            if (placed->parts[0].is_old())
-                tails.insert(held_.model.start(placed->parts[0].half));
         const std::vector<Vertex> *here = look_up(held_.vertices_at, fan[0]->side.start);
         std::vector<Vertex> found = here != nullptr ? *here : std::vector<Vertex>();
-        std::stable_partition(found.begin(), found.end(), [&](Vertex vertex) { return tails.count(vertex) != 0; });
+        std::stable_partition(found.begin(), found.end(), [&](Vertex vertex) {
+            return any(fan, [&](const Placed *side) { return side->parts[0].is_old() && held_.model.start(side->parts[0].half) == vertex; });
+        });
         return found;
     }
 
@@ -396,7 +394,7 @@ private:
             for (Placed &own : sides_)
                 if (!own.goes_on && own.half == HalfEdge() && (!is_whole || held_.is_whole(own.side))) {
                     Placed &mate = *own.mate;
-                    const std::vector<HalfEdge> halves = old_halves(own, mate);
+                    const std::vector<HalfEdge> halves = old_halves(own);
                     const Edge edge = names_.edges.one(mapped(halves, [](HalfEdge half) { return half.edge(); }));
                     const auto old = std::find_if(halves.begin(), halves.end(), [&](HalfEdge half) { return half.edge() == edge; });
                     const bool is_second = old != halves.end() ? old->is_second() : mate.start < own.start;
@@ -407,10 +405,10 @@ private:
     }
 
     /// The old half-edges that the edge of a side is made of, as it runs: those that it is all of first.
-    [[nodiscard]] std::vector<HalfEdge> old_halves(const Placed &own, const Placed &mate) const
+    [[nodiscard]] std::vector<HalfEdge> old_halves(const Placed &own) const
     {
         std::vector<Side> parts = own.parts;
-        append(parts, mapped(mate.parts, [](const Side &part) { return part.turned(); }));
+        append(parts, mapped(own.mate->parts, [](const Side &part) { return part.turned(); }));
         std::vector<HalfEdge> halves, others;
         for (const Side &side : parts)
             if (side.is_old())
