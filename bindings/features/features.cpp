@@ -5,7 +5,6 @@
 #include "copies.hpp"
 #include "cuts.hpp"
 #include "drilling.hpp"
-#include "gluing.hpp"
 #include "off_lattice.hpp"
 #include "polyhedra.hpp"
 #include "selection.hpp"
@@ -256,7 +255,7 @@ gwb_kind gwb_renumber(gwb *g, gwb_refusal *why) { return made(g, why, copies::re
 gwb_kind gwb_glue_all(gwb *g, const uint32_t *solids, size_t n, gwb_refusal *why)
 {
     return made_if(n != 0 && are_different(solids, n), g, why, [&](Bench &bench, Lists &) {
-        gluing::glue_all(bench, std::vector<Solid>(solids, solids + n));
+        uniting::glue_all(bench, std::vector<Solid>(solids, solids + n));
     });
 }
 
