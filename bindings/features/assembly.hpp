@@ -171,8 +171,6 @@ private:
 
 // ---- a closed surface of regions
 
-/// Faces with their regions.
-using Regions = std::map<Face, const Sheet *>;
 
 /// The model of a surface, and its regions, which know their faces.
 struct Combined {
@@ -184,21 +182,11 @@ struct Combined {
     [[nodiscard]] std::vector<Face> marked(std::size_t from, std::size_t count) const
     {
         const auto is_marked = [&](std::size_t mark) { return from <= mark && mark - from < count; };
-        std::vector<Face> found;
+        std::set<Face> found;
         for (const Sheet &region : regions)
             if (any(region.marks, is_marked))
-                found.push_back(region.face);
-        std::sort(found.begin(), found.end());
-        return found;
-    }
-    /// What a face went into.
-    [[nodiscard]] Regions became(Face face) const
-    {
-        Regions found;
-        for (const Sheet &region : regions)
-            if (any(region.owners, [&](Face owner) { return owner == face; }))
-                found.emplace(region.face, &region);
-        return found;
+                found.insert(region.face);
+        return {found.begin(), found.end()};
     }
 };
 
@@ -343,9 +331,8 @@ private:
     [[nodiscard]] bool divides(const Placed &placed) const
     {
         const Placed &onward = *placed.mate->after;
-        if (&onward == &placed || onward.mate->after != &placed || held_.is_fixed(placed.side.start))
-            return false;
-        return reduced(placed.side.way()) == negative(reduced(onward.side.way()));
+        return &onward != &placed && onward.mate->after == &placed && !held_.is_fixed(placed.side.start) &&
+               reduced(placed.side.way()) == negative(reduced(onward.side.way()));
     }
 
     /// The sides from one on that are one edge become this one, with the first old half-edge of its parts.

@@ -253,9 +253,13 @@ Combined combined(const Bench &bench, const Model &part, const std::vector<Sheet
 
 /// Puts in the operators that move rings of a face that weren't looked at to the faces that it went into, where these are several. Whether the face is one
 /// of them, and no ring has all of its corners on outlines.
-inline bool put_moves(const Bench &bench, const Surface &surface, Face face, const std::vector<Loop> &looked_at, const Regions &became,
+inline bool put_moves(const Bench &bench, const Surface &surface, Face face, const std::vector<Loop> &looked_at, const Combined &combined,
                       std::vector<Operator> &moves)
 {
+    std::map<Face, const Sheet *> became;
+    for (const Sheet &region : combined.regions)
+        if (any(region.owners, [&](Face owner) { return owner == face; }))
+            became.emplace(region.face, &region);
     const auto is_moved = [&](Loop ring) {
         go_on();
         if (std::binary_search(looked_at.begin() + 1, looked_at.end(), ring))
@@ -275,7 +279,7 @@ inline std::optional<std::vector<Operator>> operators_for(const Bench &bench, co
                                                           AllNames &names)
 {
     std::vector<Operator> moves;
-    if (!all(part.fast, [&](Face face) { return put_moves(bench, surface, face, part.model.faces.at(face), combined.became(face), moves); }))
+    if (!all(part.fast, [&](Face face) { return put_moves(bench, surface, face, part.model.faces.at(face), combined, moves); }))
         return std::nullopt;
     auto operators = changing::operators_between(changing::Pair{part.model, combined.model, part.fast}, names);
     if (operators)
