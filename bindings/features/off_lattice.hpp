@@ -41,8 +41,6 @@ struct Fraction {
 struct EdgeCut {
     Edge edge;
     std::array<Fraction, 3> point;
-
-    [[nodiscard]] bool is_whole() const { return point[0].is_whole() && point[1].is_whole() && point[2].is_whole(); }
 };
 
 /// A cut of a solid by a plane, of which some points may not be whole.
@@ -61,31 +59,29 @@ struct OffLattice {
     [[nodiscard]] std::string advice(Solid above) const
     {
         std::string text;
+        const auto offer = [&](const std::string &comment, const gwb_cut_plane &by) {
+            text += comment;
+            put(text, ":\nsplit ", solid.number(), by.a, by.b, by.c, by.d, above.number());
+            text += "\n";
+        };
         for (const EdgeCut &cut : cuts)
-            if (const auto &[x, y, z] = cut.point; !cut.is_whole())
+            if (const auto &[x, y, z] = cut.point; !x.is_whole() || !y.is_whole() || !z.is_whole())
                 text += "# edge " + std::to_string(cut.edge.number()) + " is cut at " + x.text() + " " + y.text() + " " + z.text() + "\n";
         const std::string times = factor != 0 ? Fraction::digits(factor) : "more than 10^36";
         if (!fits)
             text += "# times " + times + " all points are whole, but the model would lie past 1,000,000,000\n";
         else if (factor != 1)
-            text += "# times " + times + " (gwb-script --scale " + times + ") all points are whole:\n" +
-                    split({plane.a, plane.b, plane.c, static_cast<std::int64_t>(plane.d * factor)}, above);
+            offer("# times " + times + " (gwb-script --scale " + times + ") all points are whole",
+                  {plane.a, plane.b, plane.c, static_cast<std::int64_t>(plane.d * factor)});
         if (factor != 1 && (near.empty() || !near.front().is_parallel))
             text += "# no parallel plane cuts at whole points\n";
         for (const gwb_near_plane &beside : near) {
             const auto hundredths = static_cast<std::int64_t>(beside.moved * 100 + 0.5);
-            text += std::string(beside.is_parallel ? "# parallel" : "# tilted") + ", the cut moves by at most " + std::to_string(hundredths / 100) + "." +
-                    std::to_string(100 + hundredths % 100).substr(1) + " along an edge:\n" + split(beside.plane, above);
+            offer(std::string(beside.is_parallel ? "# parallel" : "# tilted") + ", the cut moves by at most " + std::to_string(hundredths / 100) + "." +
+                      std::to_string(100 + hundredths % 100).substr(1) + " along an edge",
+                  beside.plane);
         }
         return text;
-    }
-
-private:
-    [[nodiscard]] std::string split(const gwb_cut_plane &by, Solid above) const
-    {
-        std::string text;
-        put(text, "split ", solid.number(), by.a, by.b, by.c, by.d, above.number());
-        return text + "\n";
     }
 };
 
@@ -117,8 +113,6 @@ struct Offsets {
     {
         return std::max({low * offset.denominator - offset.numerator, offset.numerator - high * offset.denominator, Wide{0}});
     }
-    /// Whether others lie between the ends.
-    [[nodiscard]] bool are_around(const Offsets &others) const { return low < others.low && others.high < high; }
 
     /// Those among others too, by the Chinese remainder theorem: Euclid's algorithm tells how many times the modulus leave their greatest common divisor.
     [[nodiscard]] std::optional<Offsets> and_also(const Offsets &other) const
@@ -168,7 +162,7 @@ inline std::vector<Offsets> asked_in(const Offsets &band, const Fraction &offset
     constexpr Wide wide_enough = Wide{1} << 62; // so that a band has two such numbers at most
     std::optional<Offsets> common = band;
     for (const Offsets &span : spans)
-        if (common && span.are_around(band) && common->modulus <= wide_enough)
+        if (common && span.low < band.low && band.high < span.high && common->modulus <= wide_enough)
             common = common->and_also(span);
     if (!common)
         return {};
@@ -291,10 +285,8 @@ private:
     [[nodiscard]] std::vector<Side> spread() const
     {
         constexpr std::size_t most = 12;
-        const auto points = mapped(cuts_, [&](const Side &side) {
-            const auto point = cut_of(side, plane_).point;
-            return std::array{point[0].value(), point[1].value(), point[2].value()};
-        });
+        const auto value = [](const Fraction &part) { return part.value(); };
+        const auto points = mapped(cuts_, [&](const Side &side) { return mapped(cut_of(side, plane_).point, value); });
         std::vector<double> gaps(cuts_.size(), std::numeric_limits<double>::infinity());
         std::vector<Side> found;
         while (found.size() < std::min(most, cuts_.size())) {
@@ -341,13 +333,11 @@ private:
     /// The plane through three points that looks the given way; none where they lie on a line, it is parallel, or out of range.
     [[nodiscard]] std::optional<Plane> through(const Vector &first, const Vector &second, const Vector &third) const
     {
-        Vector normal = cross(subtract(second, first), subtract(third, first));
+        const Vector normal = reduced(cross(subtract(second, first), subtract(third, first)));
         const Wide way = dot(normal, plane_.across);
-        if (way == 0 || are_parallel(normal, plane_.across))
-            return std::nullopt;
-        normal = way > 0 ? normal : negative(normal);
-        const Plane plane = Plane::through(first, reduced(normal));
-        return longest(plane.across) <= farthest && magnitude(plane.offset) <= farthest_offset ? std::optional(plane) : std::nullopt;
+        const Plane plane = Plane::through(first, way > 0 ? normal : negative(normal));
+        const bool is_near = longest(plane.across) <= farthest && magnitude(plane.offset) <= farthest_offset;
+        return way != 0 && is_near && !are_parallel(normal, plane_.across) ? std::optional(plane) : std::nullopt;
     }
 
     /// Whether the plane parts the solid, crossing edges at whole points alone.
