@@ -240,8 +240,7 @@ Combined combined(const Bench &bench, const Model &part, const std::vector<Sheet
 {
     const std::vector<Sheet> sheets = sheets_of(part);
     Result<std::vector<Sheet>> regions = tried([&] { return overlaid(sheets, added); });
-    if (!regions)
-        throw regions.error().is(Misfit::off_lattice) ? regions.error() : why;
+    require(has(regions), regions.error().is(Misfit::off_lattice) ? regions.error() : why);
     if (regions->empty() && all(bench.faces(part.solid), [&](Face face) { return part.faces.count(face) != 0; }))
         throw impossible(Misfit::nothing_left, part.solid.number());
     const Held held(bench, part.with(Model(), other));
