@@ -29,12 +29,11 @@ inline gwb_polyhedron_made make(Bench &bench, Solid solid, Items<Point> points, 
 {
     AllNames names(bench);
     Model model(solid);
-    std::vector<Vertex> vertices;
     for (const Point &at : points) {
-        require(is_in_range(vector(at)), refused(GWB_WHY_POINT_RANGE, place(vertices.size())));
-        vertices.push_back(names.vertices.spare());
-        model.vertices[vertices.back()] = vector(at);
+        require(is_in_range(vector(at)), refused(GWB_WHY_POINT_RANGE, place(model.vertices.size())));
+        model.vertices[names.vertices.spare()] = vector(at);
     }
+    const std::uint32_t first = model.vertices.begin()->first.number(); // which the others follow one by one
     Sides sides;
     for (std::uint32_t size : sizes) {
         go_on();
@@ -46,11 +45,11 @@ inline gwb_polyhedron_made make(Bench &bench, Solid solid, Items<Point> points, 
     for (const auto &[ends, side] : sides) {
         require(sides.count({ends.second, ends.first}) != 0, impossible(Misfit::not_closed, place(side.second)));
         if (!side.first.is_second())
-            model.edges[side.first.edge()] = {vertices[ends.first], vertices[ends.second]};
+            model.edges[side.first.edge()] = {Vertex(first + ends.first), Vertex(first + ends.second)};
     }
     names.require_enough();
     bench.load(model.listing());
-    return gwb_polyhedron_made{model.vertices.begin()->first.number(), model.faces.begin()->first.number()};
+    return gwb_polyhedron_made{first, model.faces.begin()->first.number()};
 }
 
 } // namespace gwb_session::polyhedra
