@@ -171,7 +171,6 @@ private:
 
 // ---- a closed surface of regions
 
-
 /// The model of a surface, and its regions, which know their faces.
 struct Combined {
     Model model;

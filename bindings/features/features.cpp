@@ -2,11 +2,10 @@
 #pragma GCC visibility push(default)
 #include "gwb_features.h"
 #pragma GCC visibility pop
-#include "copies.hpp"
 #include "cuts.hpp"
 #include "drilling.hpp"
+#include "models.hpp"
 #include "off_lattice.hpp"
-#include "polyhedra.hpp"
 #include "selection.hpp"
 #include "shaping.hpp"
 #include "uniting.hpp"
@@ -140,7 +139,7 @@ template <class Place>
 gwb_kind row_of(bool is_call, gwb *g, std::uint32_t solid, std::uint32_t count, Place place, std::uint32_t *solids, gwb_refusal *why)
 {
     return made_if(is_call && count != 0, g, why, [&](Bench &bench, Lists &lists) {
-        put(copies::patterned(bench, Solid(solid), count, place, lists), solids);
+        put(models::patterned(bench, Solid(solid), count, place, lists), solids);
     });
 }
 
@@ -215,21 +214,21 @@ gwb_kind gwb_kill_solid(gwb *g, uint32_t solid, gwb_refusal *why)
 
 gwb_kind gwb_copy_solid(gwb *g, uint32_t solid, const gwb_motion *motion, uint32_t *out, gwb_refusal *why)
 {
-    return made_if(copies::is_motion(*motion), g, why, [&](Bench &bench, Lists &lists) {
-        *out = copies::make(bench, copies::moved(sheets::Model::whole(bench, Solid(solid)), {Motion(*motion)}), lists).number();
+    return made_if(models::is_motion(*motion), g, why, [&](Bench &bench, Lists &lists) {
+        *out = models::make(bench, models::moved(sheets::Model::whole(bench, Solid(solid)), {Motion(*motion)}), lists).number();
     });
 }
 
 gwb_kind gwb_move_solid(gwb *g, uint32_t solid, const gwb_motion *motion, gwb_refusal *why)
 {
-    return made_if(copies::is_motion(*motion), g, why, [&](Bench &bench, Lists &) {
-        sheets::make_anew(bench, copies::moved(sheets::Model::whole(bench, Solid(solid)), {Motion(*motion)}));
+    return made_if(models::is_motion(*motion), g, why, [&](Bench &bench, Lists &) {
+        sheets::make_anew(bench, models::moved(sheets::Model::whole(bench, Solid(solid)), {Motion(*motion)}));
     });
 }
 
 gwb_kind gwb_pattern(gwb *g, uint32_t solid, uint32_t count, const gwb_point *step, uint32_t *solids, gwb_refusal *why)
 {
-    const auto place = [&](const sheets::Model &model, uint32_t at) { return copies::moved(model, Motion(), exact::times(exact::vector(*step), at)); };
+    const auto place = [&](const sheets::Model &model, uint32_t at) { return models::moved(model, Motion(), exact::times(exact::vector(*step), at)); };
     return row_of(true, g, solid, count, place, solids, why);
 }
 
@@ -237,7 +236,7 @@ gwb_kind gwb_pattern_around(gwb *g, uint32_t solid, uint32_t count, uint32_t axi
                             gwb_refusal *why)
 {
     const bool are_apart = quarters == 2 ? count <= 2 : quarters % 2 == 1 && quarters < 4 && count <= 4;
-    const auto place = [&](const sheets::Model &model, uint32_t at) { return copies::turned(model, axis, quarters * at, *about); };
+    const auto place = [&](const sheets::Model &model, uint32_t at) { return models::turned(model, axis, quarters * at, *about); };
     return row_of(axis <= 2 && are_apart, g, solid, count, place, solids, why);
 }
 
@@ -245,12 +244,12 @@ gwb_kind gwb_scale(gwb *g, int64_t factor, gwb_refusal *why)
 {
     return made(g, why, [&](Bench &bench, Lists &) {
         machining::require_sizes({factor});
-        for (const sheets::Model &model : copies::all_read(bench))
-            sheets::make_anew(bench, copies::moved(model, Motion(), {}, factor));
+        for (const sheets::Model &model : models::all_read(bench))
+            sheets::make_anew(bench, models::moved(model, Motion(), {}, factor));
     });
 }
 
-gwb_kind gwb_renumber(gwb *g, gwb_refusal *why) { return made(g, why, copies::renumber); }
+gwb_kind gwb_renumber(gwb *g, gwb_refusal *why) { return made(g, why, models::renumber); }
 
 gwb_kind gwb_glue_all(gwb *g, const uint32_t *solids, size_t n, gwb_refusal *why)
 {
@@ -297,7 +296,7 @@ gwb_kind gwb_polyhedron(gwb *g, uint32_t solid, const gwb_point *points, size_t 
     const size_t count = std::accumulate(sizes, sizes + faces, size_t{0});
     const bool are_places = std::all_of(corners, corners + count, [&](uint32_t corner) { return corner < n; });
     return made_if(faces != 0 && n != 0 && are_places, g, why, [&](Bench &bench, Lists &) {
-        *out = polyhedra::make(bench, Solid(solid), {points, n}, corners, Items<uint32_t>(sizes, faces));
+        *out = models::make_polyhedron(bench, Solid(solid), {points, n}, corners, Items<uint32_t>(sizes, faces));
     });
 }
 
