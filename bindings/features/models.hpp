@@ -72,7 +72,6 @@ inline Vector image(const Vector &at, const Motion &motion)
     return add({part(axes[0]), part(axes[1]), part(axes[2])}, vector(by));
 }
 
-
 // ---- numbers
 
 /// The numbers that parts of each kind get, by those that they have.

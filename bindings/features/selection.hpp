@@ -63,7 +63,6 @@ inline std::vector<Face> faces(const Bench &bench, const gwb_face_query &query)
     return filtered(solid != Solid() ? bench.faces(solid) : bench.numbers<Face>(), [&](Face face) { return fits(bench, face, query); });
 }
 
-
 /// Whether an edge fits a query, by a half-edge of its first face.
 inline bool fits(const Bench &bench, HalfEdge half, const gwb_edge_query &query)
 {
