@@ -116,9 +116,9 @@ class Arguments(unittest.TestCase):
 
     def setUp(self):
         self.bench = Workbench(library())
-        self.lines = self.bench._bench.kernel.lines
+        self.lines = self.bench._kernel.lines
         self.addCleanup(self.lines.close)
-        self.bench._bench.kernel.lines = Silent()
+        self.bench._kernel.lines = Silent()
 
     def test_every_method_is_tried(self):
         methods = {name for name in dir(Workbench) if not name.startswith('_')}

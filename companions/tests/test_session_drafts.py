@@ -386,7 +386,7 @@ class TwelveCommands(Twelve):
                     self.out_of_memory(place, is_caught)
 
     def out_of_memory(self, place, is_caught):
-        lines = self.bench._bench.kernel.lines
+        lines = self.bench._kernel.lines
         ask, refused = lines.ask, MemoryRefused('memory was refused')
 
         def refusing(line):

@@ -212,11 +212,11 @@ class Interrupted(unittest.TestCase):
             def append(self, _):
                 raise Left
         with Workbench(library()) as bench:
-            bench._bench.kernel.blocks = Leaving()
+            bench._kernel.blocks = Leaving()
             for begin in (bench.draft, bench.group):
                 with self.assertRaises(Left), begin():
                     self.fail('it has begun')
-            bench._bench.kernel.blocks = []
+            bench._kernel.blocks = []
             bench.block((0, 0, 0), (2, 2, 2))
             bench.undo()
 
@@ -273,16 +273,16 @@ class Interrupted(unittest.TestCase):
     def test_a_handler_that_gives_a_call_in_a_call(self):
         with Workbench(library()) as bench:
             bench.block((0, 0, 0), (2, 2, 2))
-            ask = bench._bench.kernel.lines.ask
+            ask = bench._kernel.lines.ask
 
             def within(line):
                 with self.assertRaises(OutOfStep):
                     bench.block((5, 5, 5), (1, 1, 1))
                 return ask(line)
 
-            bench._bench.kernel.lines.ask = within
+            bench._kernel.lines.ask = within
             bench.block((9, 0, 0), (1, 1, 1))
-            bench._bench.kernel.lines.ask = ask
+            bench._kernel.lines.ask = ask
             self.assertEqual([bench.volume(solid) for solid in (1, 2)], [8, 1])
 
 

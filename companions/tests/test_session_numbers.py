@@ -127,7 +127,7 @@ class Numbers(unittest.TestCase):
                 continue
             after = bench.listing()
             self.compare(name, result, before, after, seed)
-            self.assertEqual(tuple(bench._bench.kernel.lines.greatest(kind) for kind in KINDS), greatest_of(after), (seed, name))
+            self.assertEqual(tuple(bench._kernel.lines.greatest(kind) for kind in KINDS), greatest_of(after), (seed, name))
             if play.random.random() < 0.2:
                 self.assertEqual(as_listed(bench), after, (seed, name))
             before = after

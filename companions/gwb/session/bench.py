@@ -9,25 +9,21 @@ from typing import Iterable, Iterator, List, Optional, Set, Tuple
 from ..geometry.flat_face import FlatFace
 from ..geometry.measures import why_unfit
 from ..geometry.model import Model
-from ..geometry.plane_figures import Exact, Place
+from ..geometry.plane_figures import Place
 from ..geometry.vectors import same_direction
 from . import arguments
 from .kernel import Kernel
-from .library import find_path
 from .reading import Part, SolidPart
 from .steps import Block
 from .turns import TakesTurns
 
 
-class Bench:
-    """A kernel, and what the arguments of methods stand for in it."""
+class Methods(TakesTurns):
+    """Methods of a workbench on one subject: over its kernel, and what their arguments stand for in it."""
 
-    def __init__(self, library: Optional[arguments.Path] = None, unit: Exact = 1) -> None:
-        """Opens a session, as a workbench does."""
-        size = arguments.factor('unit', unit)
-        self.kernel = Kernel(find_path() if library is None else arguments.path('library', library), size)
+    _kernel: Kernel
 
-    def number(self, name: str, value: object, kind: str = '', least: int = 0) -> int:
+    def _number(self, name: str, value: object, kind: str = '', least: int = 0) -> int:
         """The number of a thing of the kind, by default the one that the argument is named after: a number, of which those past 1,000,000 are for the
         kernel to refuse, a thing of this workbench, or for a solid what the command that made it returned."""
         wanted = kind or name
@@ -36,70 +32,63 @@ class Bench:
             return arguments.whole(name, value if made is None else made, least, arguments.GREATEST_WORD)
         if value.kind != wanted:
             raise arguments.wrong(name, f'an {wanted}' if wanted[0] in 'aeiou' else f'a {wanted}', value)
-        if value._kernel is not self.kernel:
+        if value._kernel is not self._kernel:
             raise ValueError(f'{name}: {arguments.thing(value)} is of another workbench')
         return value.number
 
-    def several(self, name: str, value: object, kind: str) -> List[int]:
+    def _several(self, name: str, value: object, kind: str) -> List[int]:
         """The numbers of things of the kind."""
-        return [self.number(f'{name}[{place}]', item, kind) for place, item in enumerate(arguments.items(name, value))]
+        return [self._number(f'{name}[{place}]', item, kind) for place, item in enumerate(arguments.items(name, value))]
 
-    def different(self, name: str, value: object, kind: str, least: int = 1) -> List[int]:
+    def _different(self, name: str, value: object, kind: str, least: int = 1) -> List[int]:
         """The numbers of different things of the kind, at least so many."""
-        found = self.several(name, value, kind)
+        found = self._several(name, value, kind)
         if len(found) < least or len(set(found)) < len(found):
             raise ValueError(f'{name}: different numbers are wanted, at least {least}')
         return found
 
-    def half_edge(self, name: str, value: object) -> int:
+    def _half_edge(self, name: str, value: object) -> int:
         """A half-edge, `+e` or `-e`: an edge's number with a sign, or an edge of this workbench, which stands for `+e`."""
         if isinstance(value, Part) and value.kind != 'edge':
             raise arguments.wrong(name, 'a half-edge', value)
-        return self.number(name, value, 'edge', -arguments.GREATEST_WORD)
+        return self._number(name, value, 'edge', -arguments.GREATEST_WORD)
 
-    def half(self, name: str, value: object) -> str:
+    def _half(self, name: str, value: object) -> str:
         """The word for a half-edge."""
-        return f'{self.half_edge(name, value):+d}'
+        return f'{self._half_edge(name, value):+d}'
 
-    def corner(self, name: str, value: object) -> str:
+    def _corner(self, name: str, value: object) -> str:
         """The word for a corner, in a lone loop or at a half-edge."""
-        return f'@{self.number(f"{name}.loop", value.loop, "loop")}' if isinstance(value, arguments.Lone) else self.half(name, value)
+        return f'@{self._number(f"{name}.loop", value.loop, "loop")}' if isinstance(value, arguments.Lone) else self._half(name, value)
 
-    def new(self, kind: str, given: Optional[int]) -> int:
+    def _new(self, kind: str, given: Optional[int]) -> int:
         """The number that was given, by the argument of the kind's name, or a new one."""
-        return self.kernel.numbers.next(kind) if given is None else self.number(kind, given)
+        return self._kernel.numbers.next(kind) if given is None else self._number(kind, given)
 
-    def label_alike(self, kind: str, others: Iterable[Tuple[int, int]]) -> None:
+    def _label_alike(self, kind: str, others: Iterable[Tuple[int, int]]) -> None:
         """Of each pair of solids or faces the second one gets the label that the first one has, if it has one."""
-        labels = self.kernel.notes.labels
-        self.kernel.notes.put(*(((kind, other), labels[kind, number]) for number, other in others if (kind, number) in labels))
+        labels = self._kernel.notes.labels
+        self._kernel.notes.put(*(((kind, other), labels[kind, number]) for number, other in others if (kind, number) in labels))
 
     @contextmanager
-    def parting(self, *solids: int) -> Iterator[Set[int]]:
+    def _parting(self, *solids: int) -> Iterator[Set[int]]:
         """A step that cuts faces of the first solid into parts: new faces of the solids get the labels of the faces in which they lie, except those that
         are put into what this gives."""
-        lines, labels = self.kernel.lines, self.kernel.notes.labels
+        lines, labels = self._kernel.lines, self._kernel.notes.labels
         held = {*lines.faces_of(solids[0])} if any(kind == 'face' for kind, _ in labels) else set()
         model = lines.model(face for face in held if ('face', face) in labels)
         wholes = [(FlatFace(model, face), labels['face', face]) for face in model.faces if why_unfit(model, face) is None]
         made: Set[int] = set()
-        with Block(self.kernel, False):
+        with Block(self._kernel, False):
             yield made
             parts = lines.model({face for solid in solids for face in lines.faces_of(solid)} - held - made if wholes else ())
             looks = {face: [look for whole, look in wholes if _lies_in(parts, face, whole)] for face in parts.faces}
-            self.kernel.notes.put(*((('face', face), look[0]) for face, look in looks.items() if look))
+            self._kernel.notes.put(*((('face', face), look[0]) for face, look in looks.items() if look))
 
-    def alone(self, solid: object) -> Tuple[Model, int]:
+    def _alone(self, solid: object) -> Tuple[Model, int]:
         """The model of one solid, and its number. Refused: NoSolid."""
-        number = self.number('solid', solid)
-        return self.kernel.lines.model(SolidPart(self.kernel, number).faces.numbers), number
-
-
-class Methods(TakesTurns):
-    """Methods of a workbench on one subject, over what they share."""
-
-    _bench: Bench
-    _kernel: Kernel
+        number = self._number('solid', solid)
+        return self._kernel.lines.model(SolidPart(self._kernel, number).faces.numbers), number
 
 
 def _lies_in(model: Model, face: int, shape: FlatFace) -> bool:

@@ -19,70 +19,69 @@ class Commands(Methods):
              loop: Optional[int] = None, vertex: Optional[int] = None) -> NewSolid:
         """A new solid of one face, whose outer loop is one vertex at the point."""
         place = arguments.point('point', point)
-        made = NewSolid(self._bench.new('solid', solid), self._bench.new('face', face),
-                        self._bench.new('loop', loop), self._bench.new('vertex', vertex))
+        made = NewSolid(self._new('solid', solid), self._new('face', face), self._new('loop', loop), self._new('vertex', vertex))
         self._kernel.do('mvfs', *made, *place)
         return made
 
     def kvfs(self, solid: arguments.Solid) -> None:
         """The solid goes, with its one face, loop and vertex."""
-        self._kernel.do('kvfs', self._bench.number('solid', solid))
+        self._kernel.do('kvfs', self._number('solid', solid))
 
     def mev(self, first: Corner, second: Corner, point: arguments.Point, *,
             edge: Optional[int] = None, vertex: Optional[int] = None) -> NewEdge:
         """A new edge from the vertex of both corners to a new one at the point."""
-        corners = self._bench.corner('first', first), self._bench.corner('second', second)
+        corners = self._corner('first', first), self._corner('second', second)
         place = arguments.point('point', point)
-        made = NewEdge(self._bench.new('edge', edge), self._bench.new('vertex', vertex))
+        made = NewEdge(self._new('edge', edge), self._new('vertex', vertex))
         self._kernel.do('mev', *corners, *made, *place)
         return made
 
     def kev(self, half: arguments.Edge) -> None:
         """The edge goes, and the vertex at which the half-edge ends."""
-        self._kernel.do('kev', self._bench.half('half', half))
+        self._kernel.do('kev', self._half('half', half))
 
     def mef(self, first: arguments.Edge, second: arguments.Edge, *, edge: Optional[int] = None,
             face: Optional[int] = None, loop: Optional[int] = None) -> NewFace:
         """A new edge across a face; the part of its loop from the first half-edge to before the second is of the new face."""
-        halves = self._bench.half('first', first), self._bench.half('second', second)
-        made = NewFace(self._bench.new('edge', edge), self._bench.new('face', face), self._bench.new('loop', loop))
+        halves = self._half('first', first), self._half('second', second)
+        made = NewFace(self._new('edge', edge), self._new('face', face), self._new('loop', loop))
         self._kernel.do('mef', *halves, *made)
         return made
 
     def kef(self, half: arguments.Edge) -> None:
         """The edge goes, and the face on the other side of the half-edge."""
-        self._kernel.do('kef', self._bench.half('half', half))
+        self._kernel.do('kef', self._half('half', half))
 
     def kemr(self, half: arguments.Edge, *, loop: Optional[int] = None) -> int:
         """The edge goes, and the part of its loop after the half-edge is a new ring: its number."""
-        word, made = self._bench.half('half', half), self._bench.new('loop', loop)
+        word, made = self._half('half', half), self._new('loop', loop)
         self._kernel.do('kemr', word, made)
         return made
 
     def mekr(self, first: Corner, second: Corner, *, edge: Optional[int] = None) -> int:
         """A new edge from the first corner to one in a ring of the same face, which becomes part of the first one's loop."""
-        corners, made = (self._bench.corner('first', first), self._bench.corner('second', second)), self._bench.new('edge', edge)
+        corners, made = (self._corner('first', first), self._corner('second', second)), self._new('edge', edge)
         self._kernel.do('mekr', *corners, made)
         return made
 
     def kfmrh(self, face: arguments.Face, other: arguments.Face) -> None:
         """The other face goes, and its loop becomes a ring of the face."""
-        self._kernel.do('kfmrh', self._bench.number('face', face), self._bench.number('other', other, 'face'))
+        self._kernel.do('kfmrh', self._number('face', face), self._number('other', other, 'face'))
 
     def mfkrh(self, ring: arguments.LoopNumber, *, face: Optional[int] = None) -> int:
         """The ring becomes the outer loop of a new face: its number."""
-        loop, made = self._bench.number('ring', ring, 'loop'), self._bench.new('face', face)
+        loop, made = self._number('ring', ring, 'loop'), self._new('face', face)
         self._kernel.do('mfkrh', loop, made)
         return made
 
     def ringmv(self, ring: arguments.LoopNumber, face: arguments.Face, way: str) -> None:
         """The ring becomes a ring of the face (way `in`), or its outer loop (way `out`)."""
-        self._kernel.do('ringmv', self._bench.number('ring', ring, 'loop'), self._bench.number('face', face), arguments.word('way', way, ('in', 'out')))
+        self._kernel.do('ringmv', self._number('ring', ring, 'loop'), self._number('face', face), arguments.word('way', way, ('in', 'out')))
 
     def lamina(self, points: arguments.Points, *, solid: Optional[int] = None) -> Lamina:
         """A new solid of two faces, back to back, through up to 64 points. The front is seen with the points counterclockwise."""
         places = arguments.points('points', points, arguments.MOST_LAMINA_POINTS)
-        number = self._bench.new('solid', solid)
+        number = self._new('solid', solid)
         self._kernel.do('lamina', number, *(part for place in places for part in place))
         fresh = self._kernel.lines.fresh
         front, back = fresh('face')
@@ -91,7 +90,7 @@ class Commands(Methods):
     def block(self, point: arguments.Point, sizes: arguments.Point, *, solid: Optional[int] = None) -> Block:
         """A new solid: the block from the point on with edges along the axes, so long as the sizes say."""
         place, lengths = arguments.point('point', point), arguments.point('sizes', sizes)
-        number = self._bench.new('solid', solid)
+        number = self._new('solid', solid)
         self._kernel.do('block', number, *place, *lengths)
         fresh = self._kernel.lines.fresh
         top, bottom, *sides = fresh('face')
@@ -101,7 +100,7 @@ class Commands(Methods):
         """The face moves by the vector and leaves a side behind each of its half-edges.
 
         A lamina's front is swept along its normal, its back along the opposite one: the other way the solid is inside out."""
-        number, way = self._bench.number('face', face), arguments.point('vector', vector)
+        number, way = self._number('face', face), arguments.point('vector', vector)
         self._kernel.do('sweep', number, *way)
         fresh = self._kernel.lines.fresh
         edges = iter(fresh('edge'))
@@ -115,7 +114,7 @@ class Commands(Methods):
 
     def glue(self, face: arguments.Face, other: arguments.Face) -> int:
         """The solids of the two faces become one along them: its number."""
-        faces = self._bench.number('face', face), self._bench.number('other', other, 'face')
+        faces = self._number('face', face), self._number('other', other, 'face')
         kept = self._kernel.lines.solid_of(faces[0])
         self._kernel.do('glue', *faces)
         return kept
@@ -149,5 +148,5 @@ class Commands(Methods):
 
     def _asked(self, word: str, kind: str, thing: object) -> Reply:
         """The reply to a question of one thing. Refused: that it isn't there."""
-        number = self._bench.number(kind, thing)
+        number = self._number(kind, thing)
         return self._kernel.lines.asked(f'{word} {number}')

@@ -48,7 +48,7 @@ class Exporting(Methods):
             if type(number) is not int:
                 raise TypeError(f'thing: a solid or a face is wanted, not {thing!r}')
             thing = SolidPart(self._kernel, number)
-        number = self._bench.number('thing', thing, thing.kind)
+        number = self._number('thing', thing, thing.kind)
         _there = thing.faces if isinstance(thing, SolidPart) else thing.solid
         self._kernel.notes.put(((thing.kind, number), None if look == Appearance() else look))
 

@@ -55,7 +55,7 @@ class FeatureMethods(Methods):
         Refused: FewPoints, RepeatedPoint; NoArea: the outline has no area; NotInPlane: a point lies off the plane of the others;
         OutlineCrossed: the outline crosses or touches itself; AlongPlane: the vector lies in the plane of the points."""
         outline, way = arguments.points('points', points), Point(*arguments.point('along', along))
-        number = self._bench.new('solid', solid)
+        number = self._new('solid', solid)
         return Profile(number, *self._kernel.outline('profile', number, outline, way))
 
     def polyhedron(self, points: arguments.Points, faces: Sequence[Sequence[int]], *, solid: Optional[int] = None) -> Polyhedron:
@@ -66,7 +66,7 @@ class FeatureMethods(Methods):
         runs the other way; PointRange. ValueError: a point is of no face, or of faces that meet in it alone."""
         corners = arguments.points('points', points)
         places = arguments.corners('faces', faces, len(corners))
-        number, made = self._bench.new('solid', solid), Pair()
+        number, made = self._new('solid', solid), Pair()
         if not 1 <= number <= LARGEST:
             raise refused('polyhedron', NUMBERS['NumberRange'], number)    # (of which the call says nothing)
         self._kernel.give('polyhedron', number, rows(corners), len(corners), words([corner for face in places for corner in face]),
@@ -80,7 +80,7 @@ class FeatureMethods(Methods):
 
         Refused: NoFace; NotFlat; NotInPlane: the origin or `right` lies off the plane, or no axis lies in it; OffLattice: no whole vector in the
         plane is as long as `right` and across it."""
-        part = FacePart(self._kernel, self._bench.number('face', face))
+        part = FacePart(self._kernel, self._number('face', face))
         start, wanted = (None if value is None else arguments.point(name, value) for name, value in (('origin', origin), ('right', right)))
         points, why = part.points, why_unfit(self._kernel.lines.model([part.number]), part.number)
         if why is not None:
@@ -104,7 +104,7 @@ class FeatureMethods(Methods):
         Refused: NoFace; NotFlat: the face isn't flat; FewPoints, RepeatedPoint; NoArea: the outline has no area; NotInPlane: a point lies off
         the plane of the face; OutlineCrossed: the outline crosses or touches itself; OutlineOutside: it crosses or touches the boundary of the
         face, or doesn't lie inside; OutlineAroundRing: a ring of the face lies inside the outline."""
-        number, outline = self._bench.number('face', face), arguments.points('points', points)
+        number, outline = self._number('face', face), arguments.points('points', points)
         vertices = (WORD * len(outline))()
         return Ring(*self._kernel.outline('ring', number, outline, beside=[vertices]), tuple(vertices))
 
@@ -113,7 +113,7 @@ class FeatureMethods(Methods):
 
         Refused as ring is; OffLattice: no whole vector along the normal is so long; Meets: the pocket would come through, or meet
         or touch something of the solid."""
-        number, outline = self._bench.number('face', face), arguments.points('points', points)
+        number, outline = self._number('face', face), arguments.points('points', points)
         return Pocket(*self._kernel.outline('pocket', number, outline, arguments.positive('depth', depth)))
 
     def boss(self, face: arguments.Face, points: arguments.Points, height: int) -> Pocket:
@@ -121,7 +121,7 @@ class FeatureMethods(Methods):
 
         Refused as ring is; OffLattice: no whole vector along the normal is so long; Meets: the boss would meet or touch something
         of the solid."""
-        number, outline = self._bench.number('face', face), arguments.points('points', points)
+        number, outline = self._number('face', face), arguments.points('points', points)
         return Pocket(*self._kernel.outline('boss', number, outline, arguments.positive('height', height)))
 
     def hole(self, face: arguments.Face, points: arguments.Points) -> Hole:
@@ -130,7 +130,7 @@ class FeatureMethods(Methods):
         Refused as ring is, also for the boundary and the rings of the opposite face; NoOpposite: there is nothing behind the outline; NotParallel: the
         face behind it isn't parallel; OffLattice: its plane lies off the lattice behind the face; Meets: the hole would meet or touch something else of
         the solid."""
-        number, outline = self._bench.number('face', face), arguments.points('points', points)
+        number, outline = self._number('face', face), arguments.points('points', points)
         return Hole(*self._kernel.outline('hole', number, outline), tuple(outline))
 
     def drill(self, face: arguments.Face, center: arguments.Point, radius: int, sides: int, *, depth: Optional[int] = None) -> Hole:
@@ -142,7 +142,7 @@ class FeatureMethods(Methods):
         face or of the opposite one, or doesn't lie inside; OutlineAroundRing: a ring of either face lies inside the polygon; NoOpposite: there
         is nothing behind it; NotParallel: the face behind it isn't parallel; Meets: the hole would meet or touch something else of the solid,
         or with a depth come through it."""
-        number, middle = self._bench.number('face', face), arguments.point('center', center)
+        number, middle = self._number('face', face), arguments.point('center', center)
         reach, count = arguments.positive('radius', radius), arguments.sides('sides', sides)
         deep = 0 if depth is None else arguments.positive('depth', depth)
         made, along, corners = Pair(), (WORD * count)(), (Point * count)()
@@ -154,7 +154,7 @@ class FeatureMethods(Methods):
 
         Refused: NoMatch: no chain of matching faces joins a solid with the first; GluedTwice: two of them match along more than the one face that a
         gluing takes, so that the rest would touch."""
-        numbers = self._bench.different('solids', solids, 'solid')
+        numbers = self._different('solids', solids, 'solid')
         self._kernel.give('glue_all', words(numbers), len(numbers))
         return numbers[0]
 
@@ -166,7 +166,7 @@ class FeatureMethods(Methods):
         OutlineCrossed for the points; OutlineOutside: the outline reaches beyond the face; OffLattice: no whole vector along the normal is
         so long, or edges would cross between whole coordinates; Meets: what is cut out reaches out of the solid elsewhere, or the solid
         would touch itself."""
-        number, outline = self._bench.number('face', face), arguments.points('points', points)
+        number, outline = self._number('face', face), arguments.points('points', points)
         return self._shaped('notch', number, rows(outline), len(outline), depth=depth)
 
     def slot(self, face: arguments.Face, start: arguments.Point, end: arguments.Point, width: int, depth: int) -> Notch:
@@ -182,7 +182,7 @@ class FeatureMethods(Methods):
     def shoulder(self, face: arguments.Face, edge: arguments.Edge, width: int, depth: int) -> Notch:
         """A step along an edge of the face: so wide in the face, from the edge on, and so deep behind it. Refused as notch is; NoEdge,
         NotOfFace: the edge isn't one of the face."""
-        number, along = self._bench.number('face', face), self._bench.number('edge', edge)
+        number, along = self._number('face', face), self._number('edge', edge)
         return self._shaped('shoulder', number, along, width=width, depth=depth)
 
     def chamfer(self, edge: arguments.Edge, width: int, other: Optional[int] = None) -> int:
@@ -191,7 +191,7 @@ class FeatureMethods(Methods):
 
         Refused: NoEdge; NotFlat: a face of the edge isn't flat, or the slope wouldn't be; FlatEdge: both lie in one plane; OffLattice: a
         corner wouldn't be whole; OutlineOutside, Meets: there is no room for it."""
-        number, wide = self._bench.number('edge', edge), arguments.positive('width', width)
+        number, wide = self._number('edge', edge), arguments.positive('width', width)
         far = wide if other is None else arguments.positive('other', other)
         return self._sloped('chamfer', [number], number, wide, far)[0]
 
@@ -201,15 +201,15 @@ class FeatureMethods(Methods):
 
         Refused: as chamfer is; NoCorner: slopes of edges that end at a vertex don't meet in one point, or more than three edges end there; NotAlike: an
         edge is of another solid than the first, or bends the other way."""
-        numbers, wide = self._bench.different('edges', edges, 'edge'), arguments.positive('width', width)
+        numbers, wide = self._different('edges', edges, 'edge'), arguments.positive('width', width)
         return self._sloped('chamfer_edges', numbers, words(numbers), len(numbers), wide)
 
     def _shaped(self, word: str, face: arguments.Face, *values: Any, **more: Any) -> Notch:
         """Gives a feature in a face, with its ends and sizes by name, that leaves a floor and walls in its solid, whose labels the parts of its faces
         get. Refused: NoFace."""
-        number = self._bench.number('face', face)
+        number = self._number('face', face)
         sizes = [Point(*arguments.point(name, size)) if name in ('start', 'end') else arguments.positive(name, size) for name, size in more.items()]
-        with self._bench.parting(FacePart(self._kernel, number).solid.number) as new:
+        with self._parting(FacePart(self._kernel, number).solid.number) as new:
             self._kernel.give(word, number, *values, *sizes)
             made = Notch(self._kernel.made(FLOOR), self._kernel.made(WALLS))
             new.update(*made)
@@ -218,7 +218,7 @@ class FeatureMethods(Methods):
     def _sloped(self, word: str, edges: Sequence[int], *values: Any) -> Numbers:
         """Gives a feature that makes slopes of edges, which are returned; the parts of faces get the labels of these."""
         solid, *_ = [EdgePart(self._kernel, edge).solid.number for edge in edges]
-        with self._bench.parting(solid) as new:
+        with self._parting(solid) as new:
             made = (WORD * len(edges))()
             self._kernel.give(word, *values, made)
             new.update(made)

@@ -26,23 +26,23 @@ class Reading(Methods):
 
     def solid(self, solid: arguments.Solid) -> SolidPart:
         """The solid of this number. If there is none, what is asked of it raises Refused; the same holds for the four kinds below."""
-        return SolidPart(self._kernel, self._bench.number('solid', solid))
+        return SolidPart(self._kernel, self._number('solid', solid))
 
     def face(self, face: arguments.Face) -> FacePart:
         """The face of this number."""
-        return FacePart(self._kernel, self._bench.number('face', face))
+        return FacePart(self._kernel, self._number('face', face))
 
     def loop(self, loop: arguments.LoopNumber) -> LoopPart:
         """The loop of this number."""
-        return LoopPart(self._kernel, self._bench.number('loop', loop))
+        return LoopPart(self._kernel, self._number('loop', loop))
 
     def edge(self, edge: arguments.Edge) -> EdgePart:
         """The edge of this number."""
-        return EdgePart(self._kernel, self._bench.number('edge', edge))
+        return EdgePart(self._kernel, self._number('edge', edge))
 
     def vertex(self, vertex: arguments.Vertex) -> VertexPart:
         """The vertex of this number."""
-        return VertexPart(self._kernel, self._bench.number('vertex', vertex))
+        return VertexPart(self._kernel, self._number('vertex', vertex))
 
     def solids(self) -> 'Selection[SolidPart]':
         """All solids."""
@@ -65,7 +65,7 @@ class Reading(Methods):
     def edges(self, *, solid: Optional[arguments.Solid] = None, between: Optional[Tuple[arguments.Face, arguments.Face]] = None,
               along: Optional[arguments.Point] = None, length: Optional[Exact] = None) -> 'Selection[EdgePart]':
         """The edges that fit: of the solid; between two faces; along the vector, one way or the other; so long, exactly."""
-        pair = self._bench.several('between', (0, 0) if between is None else between, 'face')
+        pair = self._several('between', (0, 0) if between is None else between, 'face')
         if len(pair) != 2:
             raise ValueError(f'between: two numbers are wanted, not {len(pair)}')
         query = EdgeQuery(
@@ -84,21 +84,21 @@ class Reading(Methods):
 
     def bounding_box(self, solid: arguments.Solid) -> solid_measures.BoundingBox:
         """The least box with sides along the axes around the solid. Refused: NoSolid."""
-        return solid_measures.bounding_box(*self._bench.alone(solid))
+        return solid_measures.bounding_box(*self._alone(solid))
 
     def centroid(self, solid: arguments.Solid) -> solid_measures.ExactPoint:
         """The centre of mass of the solid, of even density. Refused: NoSolid. Raises NoVolume where it encloses none."""
-        return solid_measures.centroid(*self._bench.alone(solid))
+        return solid_measures.centroid(*self._alone(solid))
 
     def inertia(self, solid: arguments.Solid, about: Optional[ExactVector] = None) -> solid_measures.Inertia:
         """The moments of inertia of the solid, of density one, about a point or else its centroid. Refused: NoSolid. Raises NoVolume where it
         encloses none and no point is given."""
         place = None if about is None else arguments.exact_point('about', about)
-        return solid_measures.inertia(*self._bench.alone(solid), place)
+        return solid_measures.inertia(*self._alone(solid), place)
 
     def surface_area(self, solid: arguments.Solid) -> float:
         """The area of all faces of the solid, rounded. Refused: NoSolid."""
-        return solid_measures.surface_area(*self._bench.alone(solid))
+        return solid_measures.surface_area(*self._alone(solid))
 
     def area(self, face: arguments.Face) -> float:
         """The area of the face, rounded: the root of square_area. Refused: NoFace."""
@@ -128,13 +128,13 @@ class Reading(Methods):
         """The polygons in which the plane a x + b y + c z + d = 0 cuts the solid, seen from above the plane: outlines run counterclockwise,
         holes clockwise; none where it misses the solid. Refused: NoSolid. Raises ValueError where a, b and c are zero."""
         coefficients = arguments.plane('plane', plane)
-        return sections.section(*self._bench.alone(solid), coefficients)
+        return sections.section(*self._alone(solid), coefficients)
 
     def off_lattice(self, solid: arguments.Solid, plane: arguments.Point) -> lattice_cuts.OffLatticeCut:
         """Where the plane cuts the edges of the solid, by which factor all of these points would be whole, and planes nearby that `split`
         takes. Refused: NoSolid; PlaneRange: a coefficient is out of range. Raises ValueError where a, b and c are zero."""
         coefficients = arguments.plane('plane', plane)
-        found, number = self._bench.alone(solid)
+        found, number = self._alone(solid)
         self._kernel.whole_factor(number, coefficients)    # (refused where one is out of range)
         return lattice_cuts.off_lattice_cut(found, number, coefficients)
 
@@ -160,18 +160,18 @@ class Reading(Methods):
 
     def _sought_in(self, solid: Optional[arguments.Solid]) -> int:
         """The number of a solid for a query, in which 0 stands for all."""
-        return 0 if solid is None else arguments.positive('solid', self._bench.number('solid', solid))
+        return 0 if solid is None else arguments.positive('solid', self._number('solid', solid))
 
     def _faces(self, **faces: arguments.Face) -> Tuple[Any, ...]:
         """The faces alone, and their numbers. Refused: NoFace."""
-        numbers = [self._bench.number(name, face, 'face') for name, face in faces.items()]
+        numbers = [self._number(name, face, 'face') for name, face in faces.items()]
         for number in numbers:
             FacePart(self._kernel, number).loops
         return (self._kernel.lines.model(numbers), *numbers)
 
     def _edge(self, edge: arguments.Edge) -> Tuple[Model, int]:
         """The edge alone, and its number. Refused: NoEdge."""
-        number = abs(self._bench.half_edge('edge', edge))
+        number = abs(self._half_edge('edge', edge))
         ends = EdgePart(self._kernel, number).vertices
         return Model((), {}, {}, {number: (ends[0].number, ends[1].number)}, {end.number: end.point for end in ends}), number
 

@@ -15,7 +15,7 @@ from ..protocol.complaints import refused
 from ..protocol.language import NUMBERS
 from ..protocol.replies import Reply
 from . import arguments
-from .bench import Bench, Methods, warn
+from .bench import Methods, warn
 from .c_calls import EDGES, FACES, INTO, LOOPS, LOWER_CAPS, SOLIDS, UPPER_CAPS, VERTICES, WORD, CutPlane, FaceQuery, Motion, Point, words
 from .kernel import NewNumbers
 from .reading import Found, Part
@@ -38,36 +38,36 @@ class Copy:
     edges: Mapping[int, int]
     vertices: Mapping[int, int]
     original: int
-    _bench: Bench = field(repr=False, compare=False)
+    _bench: Methods = field(repr=False, compare=False)
 
     def face(self, face: arguments.Face) -> int:
         """The copy of the face."""
-        return self.faces[self._bench.number('face', face)]
+        return self.faces[self._bench._number('face', face)]
 
     def loop(self, loop: arguments.LoopNumber) -> int:
         """The copy of the loop."""
-        return self.loops[self._bench.number('loop', loop)]
+        return self.loops[self._bench._number('loop', loop)]
 
     def edge(self, edge: arguments.Edge) -> int:
         """The copy of the edge."""
-        return self.edges[self._bench.number('edge', edge)]
+        return self.edges[self._bench._number('edge', edge)]
 
     def half_edge(self, half: arguments.Edge) -> int:
         """The copy of the half-edge: it starts at the copy of its vertex. In a mirrored copy the loop of its mate has it."""
-        edge = self._bench.half_edge('half', half)
+        edge = self._bench._half_edge('half', half)
         copied = self.edges[abs(edge)]
         return copied if edge > 0 else -copied
 
     def vertex(self, vertex: arguments.Vertex) -> int:
         """The copy of the vertex."""
-        return self.vertices[self._bench.number('vertex', vertex)]
+        return self.vertices[self._bench._number('vertex', vertex)]
 
     def of(self, part: Found) -> Found:
         """The copy of a thing of the original, as a thing of the same kind."""
         if not isinstance(part, Part):
             raise arguments.wrong('part', 'a thing of the model', part)
         numbers = dict(zip(KINDS, ({self.original: self.solid}, self.faces, self.loops, self.edges, self.vertices)))
-        return type(part)(part._kernel, numbers[part.kind][self._bench.number('part', part, part.kind)])
+        return type(part)(part._kernel, numbers[part.kind][self._bench._number('part', part, part.kind)])
 
 
 class SolidMethods(Methods):
@@ -75,7 +75,7 @@ class SolidMethods(Methods):
 
     def delete(self, solid: arguments.Solid) -> None:
         """The solid goes, with all that it has. Refused: NoSolid."""
-        self._kernel.give('kill_solid', self._bench.number('solid', solid))
+        self._kernel.give('kill_solid', self._number('solid', solid))
 
     def copy(self, solid: arguments.Solid, *, move: arguments.Point = ZERO, mirror: Optional[arguments.Point] = None) -> Copy:
         """A copy of the solid, mirrored in a plane where one is given, and then moved by the vector: the numbers of its things by those of
@@ -83,21 +83,21 @@ class SolidMethods(Methods):
 
         Refused: NoSolid; PointRange: a point would leave the range; OffLattice: one would be mirrored between whole coordinates;
         NumbersSpent: there are no free numbers."""
-        number, by = self._bench.number('solid', solid), arguments.point('move', move)
+        number, by = self._number('solid', solid), arguments.point('move', move)
         change = moving(by) if mirror is None else mirroring(arguments.plane_across('mirror', mirror), by)
         motion = _motion(change)
         if motion is not None:
             return self._in_a_row('copy_solid', number, 1, motion)[0]
-        model = _changed('copy_solid', self._bench.alone(number)[0], change)
+        model = _changed('copy_solid', self._alone(number)[0], change)
         new = self._kernel.numbers.instead_of(model)
         with Block(self._kernel, False):
             self._kernel.load(renumbered(model, new))
-            return self._labelled(Copy(new['solid'][number], new['face'], new['loop'], new['edge'], new['vertex'], number, self._bench))
+            return self._labelled(Copy(new['solid'][number], new['face'], new['loop'], new['edge'], new['vertex'], number, self))
 
     def pattern(self, solid: arguments.Solid, count: int, step: arguments.Point) -> Tuple[Copy, ...]:
         """Copies of the solid, each a step farther than the one before, so that there are `count` of it with itself. Refused as copy is. Raises
         ValueError where the count is below 2 or the step is zero."""
-        number, many, way = self._bench.number('solid', solid), arguments.positive('count', count), arguments.vector('step', step)
+        number, many, way = self._number('solid', solid), arguments.positive('count', count), arguments.vector('step', step)
         if many < 2:
             raise ValueError(f'count: {many} is below 2')
         if many > LARGEST:
@@ -107,7 +107,7 @@ class SolidMethods(Methods):
     def pattern_around(self, solid: arguments.Solid, count: int, axis: str, times: int = 1, *, about: arguments.Point = ZERO) -> Tuple[Copy, ...]:
         """Copies of the solid around the axis 'x', 'y' or 'z' through a point, each so many quarter turns on from the one before it, counterclockwise as
         seen from where the axis points, so that there are `count` of it with itself: at most 4, or 2 by half turns. Refused as copy is."""
-        number, round_axis, quarters = self._bench.number('solid', solid), arguments.word('axis', axis, _AXES), arguments.whole('times', times) % 4
+        number, round_axis, quarters = self._number('solid', solid), arguments.word('axis', axis, _AXES), arguments.whole('times', times) % 4
         middle, most = Point(*arguments.point('about', about)), (1, 4, 2, 4)[quarters]
         if most == 1:
             raise ValueError(f'times: {times} quarter turns lead back')
@@ -153,7 +153,7 @@ class SolidMethods(Methods):
         With scale=True a cut that is refused NotLattice is made in a finer unit: all coordinates of the bench are multiplied by the least whole
         number that makes the points of the cut whole, and `unit` is divided by it, as one command with the cut. Refused besides: PointRange: a
         point would then lie past 1,000,000,000."""
-        new, made = self._cut_by('split', self._bench.number('solid', solid), arguments.plane('plane', plane), scale, above)
+        new, made = self._cut_by('split', self._number('solid', solid), arguments.plane('plane', plane), scale, above)
         return Split(new, *made)
 
     def cut(self, solid: arguments.Solid, plane: arguments.Point, *, keep: str = 'both', above: Optional[int] = None, scale: bool = False) -> Cut:
@@ -164,7 +164,7 @@ class SolidMethods(Methods):
         Where split refuses the plane for what it touches or how it runs through faces and holes, the solid is cut face by face, and faces in
         the plane are one with the caps beside them. Refused: what split says of the solid, the plane and its points: NoSolid,
         SolidTaken, LoneLoop, NotFlat, PlaneMisses, NotLattice; Meets: a part would touch itself."""
-        number, level, wanted = self._bench.number('solid', solid), arguments.plane('plane', plane), arguments.word('keep', keep, ('both', 'below', 'above'))
+        number, level, wanted = self._number('solid', solid), arguments.plane('plane', plane), arguments.word('keep', keep, ('both', 'below', 'above'))
         if above is not None and wanted != 'both':
             raise ValueError(f'above: the part above the plane gets no number of its own where {keep!r} alone is kept')
         if wanted == 'above':
@@ -184,7 +184,7 @@ class SolidMethods(Methods):
 
         Refused: NoSolid, NotFlat; NoContact: a solid touches the others in no face; Overlap: two have room in common, or the union
         would touch itself; OffLattice: edges of two solids cross between whole coordinates."""
-        numbers = self._bench.different('solids', solids, 'solid', 2)
+        numbers = self._different('solids', solids, 'solid', 2)
         with Block(self._kernel, False):
             self._kernel.give('union', words(numbers), len(numbers))
             merged: Dict[int, List[int]] = {}
@@ -193,7 +193,7 @@ class SolidMethods(Methods):
             for part, faces in merged.items():
                 if len({self._kernel.notes.labels.get(('face', face)) for face in faces}) > 1:
                     warn('faces {} become one, which keeps the label of face {}'.format(' and '.join(map(str, faces)), faces[0]))
-                self._bench.label_alike('face', [(faces[0], part)])
+                self._label_alike('face', [(faces[0], part)])
         return numbers[0]
 
     def _in_a_row(self, word: str, solid: int, count: int, *way: Any) -> Tuple[Copy, ...]:
@@ -203,22 +203,22 @@ class SolidMethods(Methods):
             self._kernel.give(word, solid, *way, made)
             lists = [self._kernel.pairs(which) for which in (FACES, LOOPS, EDGES, VERTICES)]
             shares = [[dict(pairs[place * len(pairs) // count:(place + 1) * len(pairs) // count]) for pairs in lists] for place in range(count)]
-            copies = (Copy(number, faces, loops, edges, vertices, solid, self._bench) for number, (faces, loops, edges, vertices) in zip(made, shares))
+            copies = (Copy(number, faces, loops, edges, vertices, solid, self) for number, (faces, loops, edges, vertices) in zip(made, shares))
             return tuple(map(self._labelled, copies))
 
     def _labelled(self, copy: Copy) -> Copy:
         """A copy, with the labels that the solid and its faces have."""
-        self._bench.label_alike('solid', [(copy.original, copy.solid)])
-        self._bench.label_alike('face', copy.faces.items())
+        self._label_alike('solid', [(copy.original, copy.solid)])
+        self._label_alike('face', copy.faces.items())
         return copy
 
     def _placed(self, solid: arguments.Solid, change: Change) -> int:
         """A solid comes to another place, and all its numbers stay: its number. Refused: NoSolid, PointRange, OffLattice."""
-        number, motion = self._bench.number('solid', solid), _motion(change)
+        number, motion = self._number('solid', solid), _motion(change)
         if motion is not None:
             self._kernel.give('move_solid', number, motion)
         else:
-            after = _changed('move_solid', self._bench.alone(number)[0], change)
+            after = _changed('move_solid', self._alone(number)[0], change)
             with Block(self._kernel, False):
                 self._kernel.give('kill_solid', number)
                 self._kernel.load(after)
@@ -228,7 +228,7 @@ class SolidMethods(Methods):
         """Cuts a solid by a plane: the number for what is above it, and what is made. Where points of the cut aren't whole, it is refused with the
         least factor by which they are, or made once the unit is so much finer. Refused besides: PointRange: a point would then leave the range."""
         may_scale = arguments.flag('scale', scale)
-        new = self._bench.new('solid', None) if above is None else self._bench.number('above', above, 'solid')
+        new = self._new('solid', None) if above is None else self._number('above', above, 'solid')
         try:
             return new, self._parted(word, solid, plane, new)
         except Refused as refused:
@@ -255,7 +255,7 @@ class SolidMethods(Methods):
         """Cuts a solid as one command: the caps of both parts, and of a split all new faces, edges and vertices. The part above, if it is kept, and
         parts of faces have the labels of what they were part of."""
         kernel, lines, level = self._kernel, self._kernel.lines, CutPlane(*plane)
-        with self._bench.parting(solid, above) as new:
+        with self._parting(solid, above) as new:
             if word == 'split':
                 kernel.do('split', solid, *plane, above)
                 # (some fresh numbers are taken on the way)
@@ -266,7 +266,7 @@ class SolidMethods(Methods):
                 kernel.give(word, solid, level, *([above] if word == 'cut' else []))
                 made = [kernel.made(LOWER_CAPS), kernel.made(UPPER_CAPS)]
             if lines.in_use('solid', above):
-                self._bench.label_alike('solid', [(solid, above)])
+                self._label_alike('solid', [(solid, above)])
             new.update(*made[:2])
         return made
 

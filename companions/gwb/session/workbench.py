@@ -8,7 +8,7 @@
     Fraction(96, 1)
 
 Numbers of new things may be given, by name, as the script language does; where one isn't, the workbench takes a free one.
-Methods are in parts over one bench (bench.py): commands (commands.py), what is held (selection.py), features (feature_methods.py), solids as things
+Methods are in parts over what they share (bench.py): commands (commands.py), what is held (selection.py), features (feature_methods.py), solids as things
 (solids.py), labels and files (exporting.py), and the session itself, scripts and drawings here.
 """
 
@@ -31,11 +31,11 @@ from ..protocol.replies import Reply, is_listed
 from ..scripts.inversion import script_of
 from ..scripts.unit_comments import unit_in, unit_line
 from . import arguments
-from .bench import Bench
 from .commands import Commands
 from .exporting import Exporting
 from .feature_methods import FeatureMethods
 from .kernel import Kernel
+from .library import find_path
 from .results import Numbers
 from .selection import Reading
 from .solids import SolidMethods
@@ -57,8 +57,8 @@ class Workbench(SolidMethods, FeatureMethods, Commands, Reading, Exporting):
 
         `unit` is how many millimetres a coordinate stands for, a whole number or a fraction, as `Fraction(1, 60)`.
         """
-        self._bench = Bench(library, unit)
-        self._kernel = self._bench.kernel
+        size = arguments.factor('unit', unit)
+        self._kernel = Kernel(find_path() if library is None else arguments.path('library', library), size)
 
     def __reduce__(self) -> NoReturn:
         raise TypeError('a workbench holds a running session, so it is neither copied nor pickled: save() writes its script')
@@ -99,7 +99,7 @@ class Workbench(SolidMethods, FeatureMethods, Commands, Reading, Exporting):
 
     def half_edges(self, loop: arguments.LoopNumber) -> Numbers:
         """The half-edges of a loop, from the least on: none of a lone loop, or of one that is not there."""
-        number = self._bench.number('loop', loop)
+        number = self._number('loop', loop)
         found = self._kernel.lines.loop(number)
         return found.halves if found else ()
 
@@ -130,7 +130,7 @@ class Workbench(SolidMethods, FeatureMethods, Commands, Reading, Exporting):
         bench = cls(library)
         try:
             bench._take(file, enumerate(script.split(b'\n'), 1))
-            bench._bench.kernel.notes.begin_with(appearances_in(data.decode('utf-8', 'replace').splitlines()))
+            bench._kernel.notes.begin_with(appearances_in(data.decode('utf-8', 'replace').splitlines()))
         except BaseException:
             bench.close()
             raise
