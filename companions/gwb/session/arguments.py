@@ -46,13 +46,8 @@ _LEAST, _GREATEST = -2 ** 63, 2 ** 63 - 1
 
 def wrong(name: str, wanted: str, value: object) -> TypeError:
     """The error for a value that is of another kind than what is wanted."""
-    kind = f'the {type(value).__name__} {value!r}'
-    return TypeError(f'{name}: {wanted} is wanted, not {thing(value) if isinstance(value, Part) else "None" if value is None else kind}')
-
-
-def thing(part: Part) -> str:
-    """How an error names a thing of the model."""
-    return f'the {part.kind} {part.number}'
+    given = 'None' if value is None else f'the {value.kind} {value.number}' if isinstance(value, Part) else f'the {type(value).__name__} {value!r}'
+    return TypeError(f'{name}: {wanted} is wanted, not {given}')
 
 
 def whole(name: str, value: object, least: int = _LEAST, greatest: int = _GREATEST) -> int:

@@ -33,7 +33,7 @@ class Methods(TakesTurns):
         if value.kind != wanted:
             raise arguments.wrong(name, f'an {wanted}' if wanted[0] in 'aeiou' else f'a {wanted}', value)
         if value._kernel is not self._kernel:
-            raise ValueError(f'{name}: {arguments.thing(value)} is of another workbench')
+            raise ValueError(f'{name}: the {wanted} {value.number} is of another workbench')
         return value.number
 
     def _several(self, name: str, value: object, kind: str) -> List[int]:
