@@ -59,7 +59,7 @@ class Exporting(Methods):
 
     def page(self) -> str:
         """A page in HTML to turn the model and to pick from it, as `gwb-view` makes it, with the labels."""
-        return _page(self._kernel.listing(), self._kernel.labels(), self.unit)
+        return page_of(self._kernel.listing(), 'gwb' if self.unit == 1 else f'gwb, unit {self.unit}', looks=self._kernel.labels())
 
     def export(self, path: arguments.Path) -> None:
         """Writes what is held to a file, by the ending of its name: .step or .stp, .3mf, .glb, .obj (colours in a .mtl beside it), .off, .stl, .html.
@@ -67,16 +67,17 @@ class Exporting(Methods):
         ValueError for another ending, Unfit where a face isn't flat and plain, nothing is held, or a coordinate is past what GLB holds, OSError where
         the file can't be written, or a .mtl is there that the .obj doesn't name. Warns where solids touch and the form doesn't keep them apart."""
         file = Path(arguments.path('path', path))
-        if file.suffix.lower() not in _ENDINGS:
+        form = file.suffix.lower()
+        if form not in _ENDINGS:
             raise ValueError(f'{file.name}: the endings are {" ".join(_ENDINGS)}')
         model = self._kernel.listing()
-        if not model.solids and file.suffix.lower() != '.html':
+        if not model.solids and form != '.html':
             raise Unfit(f'{file.name}: no solid is held, so there is nothing to write')
-        touching = next(touching_solids(model), None) if file.suffix.lower() in ('.off', '.stl') else None
+        touching = next(touching_solids(model), None) if form in ('.off', '.stl') else None
         if touching:
             warn('solids {} and {} touch or overlap, and {} does not keep solids apart: many programs will read one wrong body; .3mf and .step keep them '
                  'apart'.format(*touching, file.suffix))
-        file.write_bytes(_written(model, Said(self._kernel.labels(), self.unit), file))
+        file.write_bytes(self.page().encode() if form == '.html' else _written(model, Said(self._kernel.labels(), self.unit), file))
 
     def import_file(self, path: arguments.Path, *, form: str = '', scale: Exact = 1, rounded: bool = False, keep_triangles: bool = False,
                     repair: bool = False, within: Exact = 0, flat: bool = False) -> 'Selection[SolidPart]':
@@ -115,15 +116,9 @@ def _colour(text: str) -> Optional[Colour]:
         raise ValueError(f'colour: {error}') from None
 
 
-def _page(model: Model, labels: Appearances, unit: Fraction) -> str:
-    return page_of(model, 'gwb' if unit == 1 else f'gwb, unit {unit}', looks=labels)
-
-
 def _written(model: Model, said: Said, file: Path) -> bytes:
     """What is to stand in a file, by the ending of its name; a .mtl beside it is written on the way."""
     form = file.suffix.lower()
-    if form == '.html':
-        return _page(model, *said).encode()
     if form in ('.step', '.stp'):
         return step_text(model, *said).encode()
     mesh = mesh_of(model)
