@@ -2,6 +2,7 @@
 
 import os
 import re
+from contextlib import closing
 from typing import Dict, Iterable, List, NamedTuple, Optional, Sequence, Set, Tuple, Union
 
 from ..drawing.page import Step
@@ -155,16 +156,13 @@ def _player() -> Union[LibraryPlayer, ProgramPlayer]:
 
 def played(script: bytes) -> Played:
     """The commands of a script, run one after another."""
-    player, rows = _player(), PageRows()
-    try:
-        steps = []
+    rows, steps = PageRows(), []
+    with closing(_player()) as player:
         for line in filter(is_answered, script.split(b'\n')):
             reply, before, after = player.give(line.decode('utf-8', 'surrogateescape'))
             told = shortened(line.decode('ascii', 'backslashreplace').strip(), 200)
             steps.append(Step(told, _told(line, reply), reply.is_complaint, rows.changed(before, after)))
         return Played(steps, player.whole())
-    finally:
-        player.close()
 
 
 class Ended(NamedTuple):
@@ -176,17 +174,14 @@ class Ended(NamedTuple):
 
 def run_to_its_end(script: bytes) -> Ended:
     """Runs the commands of a script through the program."""
-    pipe = Pipe(find_program())
     complaints: List[str] = []
-    try:
+    with closing(Pipe(find_program())) as pipe:
         for number, line in ((number, line) for number, line in enumerate(script.split(b'\n'), 1) if is_answered(line)):
             reply = pipe.ask(line.decode('utf-8', 'surrogateescape'))
             if reply.is_complaint:
                 told = shortened(line.decode('ascii', 'backslashreplace').strip(), 60)
                 complaints.append(f'line {number}: {told}: {_told(line, reply)}')
         return Ended(pipe.model(), complaints)
-    finally:
-        pipe.close()
 
 
 def _told(line: bytes, reply: Reply) -> str:
