@@ -226,19 +226,19 @@ class Library:
         vertex = self._number('lone_vertex', loop)
         codes = [] if vertex else filled(WORD, lambda buffer, room: int(self.library.half_edges(self.handle, loop, buffer, room)))
         halves = from_least(map(_half, codes)) if codes else ()
-        return Loop(halves, vertex) if halves or vertex else None
+        return Loop(halves, vertex or None) if halves or vertex else None
 
     def face_of_loop(self, loop: int) -> int:
         """The face of a loop that is there."""
-        return self._number('loop', loop) or 0
+        return self._number('loop', loop)
 
     def face_at(self, half: int) -> int:
         """The face in whose loops a half-edge stands that is there."""
-        return self.face_of_loop(self._number('half_edge_loop', _code(half)) or 0)
+        return self.face_of_loop(self._number('half_edge_loop', _code(half)))
 
     def next_half(self, half: int) -> int:
         """The half-edge after another in its loop; 0 where it is not there."""
-        return _half(self._number('next_half_edge', _code(half)) or 0)
+        return _half(self._number('next_half_edge', _code(half)))
 
     def tail(self, half: int) -> int:
         """The vertex at which a half-edge starts that is there."""
@@ -269,16 +269,16 @@ class Library:
         self.require_open()
         return row if getattr(self.library, name)(self.handle, *given, row) == FOUND else None
 
-    def _number(self, name: str, *given: int) -> Optional[int]:
-        """The number that a reader finds; None where there is none."""
+    def _number(self, name: str, *given: int) -> int:
+        """The number that a reader finds; 0 where there is none."""
         row = self._read(name, WORD(), *given)
-        return None if row is None else row.value
+        found: int = 0 if row is None else row.value
+        return found
 
     def _rising(self, name: str, of: int) -> Iterator[int]:
-        number = self._number(name, of, 0)
-        while number is not None:
+        number = 0
+        while number := self._number(name, of, number):
             yield number
-            number = self._number(name, of, number)
 
 
 def _code(half: int) -> int:
