@@ -66,10 +66,9 @@ def load(path: str) -> ctypes.PyDLL:
     if found // 10_000 != _MAJOR:
         raise ProgramMissing(f'{path}: version {found // 10_000}.{found // 100 % 100}.{found % 100} of the library, where {_MAJOR} is needed')
     for name, (result, taken) in PROTOTYPES.items():
-        try:
-            function = getattr(library, name)
-        except AttributeError:
-            raise ProgramMissing(f'{path}: this is no library of gwb, or an older one: it has no {name}') from None
+        function = getattr(library, name, None)
+        if function is None:
+            raise ProgramMissing(f'{path}: this is no library of gwb, or an older one: it has no {name}')
         function.restype, function.argtypes = result, taken
         setattr(library, name.replace('gwb_', '').replace('lent_', ''), function)
     return library

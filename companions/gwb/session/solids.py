@@ -122,8 +122,7 @@ class SolidMethods(Methods):
     def turn(self, solid: arguments.Solid, axis: str, times: int = 1, *, about: arguments.Point = ZERO) -> int:
         """The solid turns by quarters about the axis 'x', 'y' or 'z' through a point, counterclockwise as seen from where the axis points:
         its number. Refused as move is."""
-        turn = turning(arguments.word('axis', axis, _AXES), arguments.whole('times', times), arguments.point('about', about))
-        return self._placed(solid, turn)
+        return self._placed(solid, turning(arguments.word('axis', axis, _AXES), arguments.whole('times', times), arguments.point('about', about)))
 
     def mirror(self, solid: arguments.Solid, plane: arguments.Point) -> int:
         """The solid becomes its image in the plane a x + b y + c z + d = 0: its number. Each loop runs the other way, by the mates of its
