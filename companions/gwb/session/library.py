@@ -30,8 +30,11 @@ class TextRefused(CompanionError):
 def find_path() -> str:
     """The library: what the environment variable GWB names, else the one that lies in this package, is built in this repository or installed with
     this package, else that of the system. Raises ProgramMissing."""
-    named = os.environ.get('GWB', '')
-    built = (str(path) for path in _places() if path.is_file())
+    named, top = os.environ.get('GWB', ''), _PACKAGE.parents[1]
+    places = [_PACKAGE / '_lib' / 'libgwb.so', top / 'bindings' / 'out' / 'libgwb.so']
+    if top.parts[-2:] == ('share', 'gwb'):    # (`make install` puts it into PREFIX/lib, and this package into PREFIX/share/gwb)
+        places.append(top.parents[1] / 'lib' / f'libgwb.so.{_MAJOR}')
+    built = (str(path) for path in places if path.is_file())
     path = named if is_library(named) else next(built, '') or find_library('gwb')
     if path is None:
         raise ProgramMissing('libgwb.so was not found: the environment variable GWB may name it; in a copy of the sources '
@@ -42,15 +45,6 @@ def find_path() -> str:
 def is_library(path: str) -> bool:
     """Whether the name is that of a shared object, libgwb.so or libgwb.so.3; the environment variable GWB may name a program too."""
     return re.search(r'\.so(\.[0-9]+)*$', path) is not None
-
-
-def _places() -> Iterator[Path]:
-    """Where it lies in this package, in this repository, and as `make install` puts it: PREFIX/lib, beside PREFIX/share/gwb."""
-    top = _PACKAGE.parents[1]
-    yield _PACKAGE / '_lib' / 'libgwb.so'
-    yield top / 'bindings' / 'out' / 'libgwb.so'
-    if top.parts[-2:] == ('share', 'gwb'):
-        yield top.parents[1] / 'lib' / f'libgwb.so.{_MAJOR}'
 
 
 def load(path: str) -> ctypes.PyDLL:
