@@ -6,7 +6,6 @@ from typing import List, Optional
 
 from ..protocol.replies import Reply
 from . import arguments
-from .arguments import Corner
 from .bench import Methods
 from .reading import FacePart
 from .results import Block, Count, Lamina, NewEdge, NewFace, NewSolid, Plane, Sweep
@@ -27,7 +26,7 @@ class Commands(Methods):
         """The solid goes, with its one face, loop and vertex."""
         self._kernel.do('kvfs', self._number('solid', solid))
 
-    def mev(self, first: Corner, second: Corner, point: arguments.Point, *,
+    def mev(self, first: arguments.Corner, second: arguments.Corner, point: arguments.Point, *,
             edge: Optional[int] = None, vertex: Optional[int] = None) -> NewEdge:
         """A new edge from the vertex of both corners to a new one at the point."""
         corners = self._corner('first', first), self._corner('second', second)
@@ -58,7 +57,7 @@ class Commands(Methods):
         self._kernel.do('kemr', word, made)
         return made
 
-    def mekr(self, first: Corner, second: Corner, *, edge: Optional[int] = None) -> int:
+    def mekr(self, first: arguments.Corner, second: arguments.Corner, *, edge: Optional[int] = None) -> int:
         """A new edge from the first corner to one in a ring of the same face, which becomes part of the first one's loop."""
         corners, made = (self._corner('first', first), self._corner('second', second)), self._new('edge', edge)
         self._kernel.do('mekr', *corners, made)
