@@ -104,7 +104,7 @@ class AtRandom:
                 shown[kind] = {number: row for number, row in {**shown[kind], **changed}.items() if row is not None}
             held = model_of(player.ask('list'))
             self.assertEqual(shown, listed.of(held), f'{seed}: {line}')
-            self.assertEqual(player.whole(), held, f'{seed}: {line}')
+            self.assertEqual(player.model(), held, f'{seed}: {line}')
             accepted[line.split()[0]] += reply.word == 'ok'
         return accepted
 

@@ -44,10 +44,10 @@ class ProgramPlayer(Pipe):
         """Runs a command."""
         before, reply = self._held, self.ask(line)
         if reply.word == 'ok':
-            self._held = self.model()
+            self._held = super().model()
         return reply, before, self._held
 
-    def whole(self) -> Model:
+    def model(self) -> Model:
         """The model held."""
         return self._held
 
@@ -75,10 +75,6 @@ class LibraryPlayer(Library):
     def vertex(self, vertex: int) -> Optional[Vector]:
         """The point of a vertex."""
         return self._points.get(vertex) or super().vertex(vertex)
-
-    def whole(self) -> Model:
-        """The model held."""
-        return self.model(self.numbers('face'))
 
     def give(self, line: str) -> Answer:
         """Runs a command."""
@@ -162,7 +158,7 @@ def played(script: bytes) -> Played:
             reply, before, after = player.give(line.decode('utf-8', 'surrogateescape'))
             told = shortened(line.decode('ascii', 'backslashreplace').strip(), 200)
             steps.append(Step(told, _told(line, reply), reply.is_complaint, rows.changed(before, after)))
-        return Played(steps, player.whole())
+        return Played(steps, player.model())
 
 
 class Ended(NamedTuple):

@@ -95,7 +95,7 @@ class Kernel:
         """The model held."""
         state = self.lines.state()
         if state not in self._listing:
-            self._listing = {state: self.lines.model(self.lines.numbers('face'))}
+            self._listing = {state: self.lines.model()}
         return self._listing[state]
 
     def labels(self) -> Dict[Thing, Appearance]:

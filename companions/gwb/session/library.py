@@ -248,9 +248,9 @@ class Library:
         row = self._read('vertex', Point(), vertex)
         return row and (row.x, row.y, row.z)
 
-    def model(self, faces: Iterable[int]) -> Model:
-        """The model of those of these faces that are there, without the rest: of an edge the other side may be missing."""
-        rows = {face: row for face in sorted(faces) for row in [self.face(face)] if row}
+    def model(self, faces: Optional[Iterable[int]] = None) -> Model:
+        """The model held, or that of those of these faces that are there, without the rest: of an edge the other side may be missing."""
+        rows = {face: row for face in (self.numbers('face') if faces is None else sorted(faces)) for row in [self.face(face)] if row}
         loops = {loop: row for loop in sorted(loop for face in rows.values() for loop in face.loops) for row in [self.loop(loop)] if row}
         edges = {edge: ends for edge in sorted({abs(half) for loop in loops.values() for half in loop.halves}) for ends in [self.edge(edge)] if ends}
         used = {vertex for ends in edges.values() for vertex in ends} | {loop.vertex for loop in loops.values() if loop.vertex}
