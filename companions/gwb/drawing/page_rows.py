@@ -31,8 +31,12 @@ class PageRows:
                 'edges': _differences(before.edges, after.edges), 'vertices': _differences(before.vertices, after.vertices)}
 
     def _face(self, model: Model, face: int, key: Hashable) -> List[object]:
+        """The solid, the loops, the plane (as text, since its numbers may be large), whether it is flat, and the triangles."""
         if key not in self._faces:
-            self._faces[key] = _face_row(model, face)
+            across = normal(model, face)
+            loops = [[loop, model.loops[loop].halves, model.loops[loop].vertex] for loop in model.faces[face].loops]
+            plane = [str(number) for number in (*across, -dot(across, anchor(model, face)))]
+            self._faces[key] = [model.faces[face].solid, loops, plane, off_plane(model, face, across) is None, _corners(model, face)]
         return self._faces[key]
 
 
@@ -45,14 +49,6 @@ def _keys(model: Model) -> Dict[int, Hashable]:
     """For each face all that its row is told by."""
     return {number: (face, tuple(model.loops[loop] for loop in face.loops), tuple((it, model.vertices[it]) for it in model.face_vertices(number)))
             for number, face in model.faces.items()}
-
-
-def _face_row(model: Model, face: int) -> List[object]:
-    """The solid, the loops, the plane (as text, since its numbers may be large), whether it is flat, and the triangles."""
-    across = normal(model, face)
-    loops = [[loop, model.loops[loop].halves, model.loops[loop].vertex] for loop in model.faces[face].loops]
-    plane = [str(number) for number in (*across, -dot(across, anchor(model, face)))]
-    return [model.faces[face].solid, loops, plane, off_plane(model, face, across) is None, _corners(model, face)]
 
 
 def _corners(model: Model, face: int) -> List[int]:

@@ -88,15 +88,11 @@ class LibraryPlayer(Library):
         near.edges.update(before.edges if word in _WHOLE else ())
         if word not in _TURNS:
             self._commands[place:] = [near]
-        return reply, before, self._read_again(near, before)
-
-    def _read_again(self, near: _Near, before: Model) -> Model:
-        """The faces after a command."""
         self._edges.update(dict.fromkeys(near.edges))
         after = self.model(near.faces)
         self._edges.update({**dict.fromkeys(before.edges), **after.edges})
         self._points.update({**dict.fromkeys(before.vertices), **after.vertices})
-        return after
+        return reply, before, after
 
     def _near(self, word: str, given: Sequence[str]) -> _Near:
         """What a command may change, should it be accepted; `undo` and `redo` change what theirs did."""
