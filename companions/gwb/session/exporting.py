@@ -10,7 +10,7 @@ from ..drawing.page import page_of
 from ..errors import Unfit
 from ..formats.appearance import LONGEST_NAME, Appearance, Appearances, Colour, Said, colour_of
 from ..formats.importing import read_file
-from ..formats.mesh import Mesh, mesh_of
+from ..formats.mesh import mesh_of
 from ..formats.mesh_files import FORMS
 from ..formats.obj import mtl_text, obj_text
 from ..formats.polygon_files import FORMS as FORMS_IN
@@ -122,10 +122,8 @@ def _written(model: Model, said: Said, file: Path) -> bytes:
     if form in ('.step', '.stp'):
         return step_text(model, *said).encode()
     mesh = mesh_of(model)
-    return _coloured(mesh, said, file) if form == '.obj' and any(look.colour for look in said.looks.values()) else FORMS[form[1:]](mesh, said)
-
-
-def _coloured(mesh: Mesh, said: Said, file: Path) -> bytes:
+    if form != '.obj' or not any(look.colour for look in said.looks.values()):
+        return FORMS[form[1:]](mesh, said)
     materials = file.with_suffix('.mtl')
     text = obj_text(mesh, said.looks, materials.name, unit=said.unit)
     is_named = file.exists() and f'mtllib {materials.name}'.encode() in file.read_bytes().splitlines()
