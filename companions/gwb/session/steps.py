@@ -66,12 +66,9 @@ class _Work:
             kernel.lines.abandon()
             kernel.go_to(self._before)
         kernel.notes.go_back(self._looks, self._unit)
-        if not self._is_part and (kernel.lines.ahead != len(self._ahead) or kernel.notes.ahead() != self._ahead):
-            self._give_again()
-
-    def _give_again(self) -> None:
-        """What could be redone can be redone, as much as there is memory for."""
-        kernel = self._kernel
+        if self._is_part or kernel.lines.ahead == len(self._ahead) and kernel.notes.ahead() == self._ahead:
+            return
+        # What could be redone is given again, as much as there is memory for.
         try:
             for note in self._ahead:
                 kernel.lines.open_draft()
