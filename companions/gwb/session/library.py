@@ -222,7 +222,7 @@ class Library:
         return Loop(halves, vertex or None) if halves or vertex else None
 
     def face_of_loop(self, loop: int) -> int:
-        """The face of a loop that is there."""
+        """The face of a loop; 0 where it is not there."""
         return self._number('loop', loop)
 
     def face_at(self, half: int) -> int:

@@ -215,8 +215,7 @@ class LoopPart(Part):
     @property
     def face(self) -> 'FacePart':
         """The face it is of."""
-        self._content()
-        return FacePart(self._kernel, self._kernel.lines.face_of_loop(self.number))
+        return FacePart(self._kernel, self._there(self._kernel.lines.face_of_loop(self.number)))
 
     def _content(self) -> Loop:
         return self._there(self._kernel.lines.loop(self.number))
