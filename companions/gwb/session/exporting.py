@@ -4,11 +4,11 @@ import os
 from fractions import Fraction
 from pathlib import Path
 from types import MappingProxyType
-from typing import Optional, Union
+from typing import Union
 
 from ..drawing.page import page_of
 from ..errors import Unfit
-from ..formats.appearance import LONGEST_NAME, Appearance, Appearances, Colour, Said, colour_of
+from ..formats.appearance import LONGEST_NAME, Appearance, Appearances, Said, colour_of
 from ..formats.importing import read_file
 from ..formats.mesh import mesh_of
 from ..formats.mesh_files import FORMS
@@ -40,7 +40,11 @@ class Exporting(Methods):
         """Gives a solid, or what a command returned that made it, or a face a name, and a colour such as '#FF8000'; with neither what it had is
         taken away. Raises ValueError where the colour is none, the name is longer than 200 characters, or the thing is of another workbench.
         Refused: NoSolid, NoFace."""
-        look = Appearance(arguments.text('name', name, 'strict'), _colour(arguments.text('colour', colour)))
+        said, shade = arguments.text('name', name, 'strict'), arguments.text('colour', colour)
+        try:
+            look = Appearance(said, colour_of(shade) if shade else None)
+        except ValueError as error:
+            raise ValueError(f'colour: {error}') from None
         if len(look.name) > LONGEST_NAME:
             raise ValueError(f'name: {len(look.name)} characters are more than {LONGEST_NAME}')
         if not isinstance(thing, (SolidPart, FacePart)):
@@ -106,14 +110,6 @@ class Exporting(Methods):
             looks = [((kind, new[kind][number]), look._replace(name=look.name[:LONGEST_NAME])) for (kind, number), look in found.looks.items()]
             self._kernel.notes.put(*looks)
         return Selection('solid', '', [SolidPart(self._kernel, new['solid'][solid]) for solid in found.model.solids])
-
-
-def _colour(text: str) -> Optional[Colour]:
-    """The colour of a text, none of an empty one."""
-    try:
-        return colour_of(text) if text else None
-    except ValueError as error:
-        raise ValueError(f'colour: {error}') from None
 
 
 def _written(model: Model, said: Said, file: Path) -> bytes:

@@ -152,7 +152,9 @@ class Workbench(SolidMethods, FeatureMethods, Commands, Reading, Exporting):
                 try:
                     self._kernel.do(text)
                 except (Complaint, InDraft) as error:
-                    error.args = (f'{file}, line {number}: {error.args[0]}{_hint(file, text)}',)
+                    is_polygons = file.suffix.lower() in _IMPORTED or text.split(' ', 1)[0] in _FIRST_WORDS
+                    hint = ' (it looks like a file of polygons, which import_file and gwb-import read)' if is_polygons else ''
+                    error.args = (f'{file}, line {number}: {error.args[0]}{hint}',)
                     raise
                 given += 1
             if given == most:
@@ -204,11 +206,3 @@ def _script_in(file: Path, data: bytes) -> bytes:
     except CompanionError as error:
         error.args = (f'{file}: {error}',)
         raise
-
-
-def _hint(file: Path, line: str) -> str:
-    """Where to turn with a file of another form."""
-    word = line.split(' ', 1)[0]
-    if file.suffix.lower() in _IMPORTED or word in _FIRST_WORDS:
-        return ' (it looks like a file of polygons, which import_file and gwb-import read)'
-    return ''
