@@ -57,7 +57,10 @@ def _corners(model: Model, face: int) -> List[int]:
     fan = [vertex for pair in zip(corners[1:], corners[2:]) for vertex in (corners[0], *pair)]
     if not fan or normal(model, face) == ZERO or _is_plain(model, face):
         return fan
-    bare = _without_lone_rings(model, face)
+    # The face alone, without its rings that are one vertex.
+    solid, outer, rings = model.faces[face]
+    row = Face(solid, outer, tuple(ring for ring in rings if not model.loops[ring].is_lone))
+    bare = Model((), {face: row}, {loop: model.loops[loop] for loop in row.loops}, model.edges, model.vertices)
     try:
         return [vertex for triangle in face_triangles(bare, face, touched_edges(bare)) for vertex in triangle]
     except Unfit:
@@ -83,10 +86,3 @@ def _is_plain(model: Model, face: int) -> bool:
     first, second = flat_axes(normal(model, face))
     start, *others = [(point[first], point[second]) for point in model.loop_points(model.faces[face].outer)]
     return all(turn(start, a, b) > 0 for a, b in [*zip(others, others[1:]), (others[0], others[-1])])
-
-
-def _without_lone_rings(model: Model, face: int) -> Model:
-    """The face alone, without its rings that are one vertex."""
-    solid, outer, rings = model.faces[face]
-    bare = Face(solid, outer, tuple(ring for ring in rings if not model.loops[ring].is_lone))
-    return Model((), {face: bare}, {loop: model.loops[loop] for loop in bare.loops}, model.edges, model.vertices)
