@@ -6,7 +6,6 @@ from operator import and_, index, or_, sub
 from typing import Callable, ClassVar, FrozenSet, Iterable, Iterator, Optional, Sequence, Tuple, TypeVar, Union, overload
 
 from ..errors import NotOne, Refused
-from ..geometry.model import Loop
 from ..geometry.solid_measures import root, square_area
 from ..geometry.vectors import Vector, dot, subtract
 from ..protocol.language import NUMBERS
@@ -199,7 +198,7 @@ class LoopPart(Part):
     @property
     def half_edges(self) -> Tuple[int, ...]:
         """Its half-edges in their order, from the least on."""
-        return self._content().halves
+        return self._there(self._kernel.lines.loop(self.number)).halves
 
     @property
     def edges(self) -> Tuple[EdgePart, ...]:
@@ -209,16 +208,13 @@ class LoopPart(Part):
     @property
     def vertices(self) -> Tuple[VertexPart, ...]:
         """The vertices at which its half-edges start, in their order, or its one vertex."""
-        halves, lone = self._content()
+        halves, lone = self._there(self._kernel.lines.loop(self.number))
         return tuple(VertexPart(self._kernel, vertex) for vertex in ([lone] if lone else map(self._kernel.lines.tail, halves)))
 
     @property
     def face(self) -> 'FacePart':
         """The face it is of."""
         return FacePart(self._kernel, self._there(self._kernel.lines.face_of_loop(self.number)))
-
-    def _content(self) -> Loop:
-        return self._there(self._kernel.lines.loop(self.number))
 
 
 class FacePart(Part):
