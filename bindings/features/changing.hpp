@@ -140,11 +140,21 @@ public:
     /// Whether a loop runs along none of the edges between the faces.
     [[nodiscard]] bool is_left(Loop loop) const { return !any(model_.loops.at(loop), [&](HalfEdge half) { return is_inner(half); }); }
 
-    /// Takes them apart.
+    /// Takes them apart, but for the loops that are left: of the others each part that inner edges join.
     void take(const std::set<Loop> &left, RingFaces &ring_faces)
     {
-        rings_out(left, ring_faces);
-        for (const auto &[name, loops] : connected(left))
+        JoinedSets<Loop> joined;
+        for (Edge edge : inner_)
+            joined.join(loop_of_.at(plus(edge)), loop_of_.at(minus(edge)));
+        std::map<Loop, std::vector<Loop>> parts; // by the names of their sets
+        for (Face face : faces)
+            for (Loop loop : model_.faces.at(face))
+                if (left.count(loop) == 0) {
+                    parts[joined.name(loop)].push_back(loop);
+                    if (loop != model_.faces.at(face)[0])
+                        ring_out(face, loop, ring_faces[loop]);
+                }
+        for (const auto &[name, loops] : parts)
             down(loops);
         require(!cores.empty(), OtherKind());
         for (const auto &[loop, vertex] : roots_)
@@ -162,32 +172,13 @@ private:
     [[nodiscard]] bool is_inner(HalfEdge half) const { return inner_.count(half.edge()) != 0; }
     [[nodiscard]] bool is_fast(Face face) const { return pair_.fast.count(face) != 0; }
 
-    /// Each ring that isn't left becomes the outer loop of a face of its own.
-    void rings_out(const std::set<Loop> &left, RingFaces &ring_faces)
+    /// A ring becomes the outer loop of a face of its own: of a spare one where that has no number yet.
+    void ring_out(Face face, Loop ring, Face &spare)
     {
-        for (Face face : faces)
-            for (Loop ring : model_.faces.at(face))
-                if (ring != model_.faces.at(face)[0] && left.count(ring) == 0) {
-                    const auto [spare, is_new] = ring_faces.try_emplace(ring);
-                    if (is_new)
-                        spare->second = names_.faces.spare();
-                    face_of_[ring] = spare->second;
-                    step(operator_of(&Bench::mfkrh, ring, spare->second), operator_of(&Bench::kfmrh, face, spare->second));
-                }
-    }
-
-    /// The loops of the faces that differ, in parts that inner edges join, each by the name of its set.
-    std::map<Loop, std::vector<Loop>> connected(const std::set<Loop> &left)
-    {
-        JoinedSets<Loop> joined;
-        for (Edge edge : inner_)
-            joined.join(loop_of_.at(plus(edge)), loop_of_.at(minus(edge)));
-        std::map<Loop, std::vector<Loop>> parts;
-        for (Face face : faces)
-            for (Loop loop : model_.faces.at(face))
-                if (left.count(loop) == 0)
-                    parts[joined.name(loop)].push_back(loop);
-        return parts;
+        if (spare == Face())
+            spare = names_.faces.spare();
+        face_of_[ring] = spare;
+        step(operator_of(&Bench::mfkrh, ring, spare), operator_of(&Bench::kfmrh, face, spare));
     }
 
     /// One connected part becomes a face for each of its outlines, or comes down to a vertex.
@@ -255,7 +246,8 @@ private:
     void bridge_out(HalfEdge half)
     {
         require(halves_.after(half) != half.twin() && halves_.after(half.twin()) != half, OtherKind());
-        const Face face = face_at(half), spare = names_.faces.spare();
+        const Face face = face_at(half);
+        Face spare = names_.faces.spare();
         const Loop ring = names_.loops.spare();
         const std::set<HalfEdge> outline = pair_.same_outline(face);
         const auto beyond = [&](HalfEdge side) { return halves_.run(halves_.after(side), side.twin()); };
@@ -263,11 +255,10 @@ private:
             half = half.twin();
         for (HalfEdge other : beyond(half))
             loop_of_[other] = ring;
-        face_of_[ring] = spare;
         faces_++;
         take_edge(half, operator_of(&Bench::kemr, half, ring),
                   [&](Edge edge) { return operator_of(&Bench::mekr, halves_.after(half.twin()), halves_.after(half), edge); });
-        step(operator_of(&Bench::mfkrh, ring, spare), operator_of(&Bench::kfmrh, face, spare));
+        ring_out(face, ring, spare);
     }
 
     /// The edge goes, and the face and the loop on the side of its second half-edge; where that face is fast, those on its other side.
