@@ -186,17 +186,14 @@ private:
     {
         go_on();
         std::vector<HalfEdge> edges, border;
-        std::set<Vertex> vertices;
         for (Loop loop : loops)
-            for (HalfEdge half : model_.loops.at(loop)) {
-                vertices.insert(model_.start(half));
+            for (HalfEdge half : model_.loops.at(loop))
                 if (!is_inner(half))
                     border.push_back(half);
                 else if (!half.is_second())
                     edges.push_back(half);
-            }
         const auto start = [&](HalfEdge half) { return model_.start(half); };
-        const std::vector<HalfEdge> tree = tree_from(border.empty() ? std::vector<Vertex>{start(edges[0])} : mapped(border, start), edges, vertices);
+        const std::vector<HalfEdge> tree = tree_from(border.empty() ? std::vector<Vertex>{start(edges[0])} : mapped(border, start), edges);
         faces_out(edges, tree);
         std::for_each(tree.rbegin(), tree.rend(), [&](HalfEdge half) { leaf_off(half); });
         std::set<Loop> outlines; // each is that of a face by now
@@ -209,7 +206,7 @@ private:
     }
 
     /// Half-edges that lead from the roots to all inner vertices, each after the one that leads to its start: first ones where it can be helped.
-    std::vector<HalfEdge> tree_from(std::vector<Vertex> waiting, const std::vector<HalfEdge> &edges, const std::set<Vertex> &vertices)
+    std::vector<HalfEdge> tree_from(std::vector<Vertex> waiting, const std::vector<HalfEdge> &edges)
     {
         std::map<Vertex, std::vector<HalfEdge>> ways;
         for (bool is_second : {false, true})
@@ -223,7 +220,7 @@ private:
                     waiting.push_back(end);
                     tree.push_back(half);
                 }
-        require(all(vertices, [&](Vertex vertex) { return outer_.count(vertex) + seen.count(vertex) != 0; }), OtherKind());
+        require(all(ways, [&](const auto &way) { return outer_.count(way.first) + seen.count(way.first) != 0; }), OtherKind());
         return tree;
     }
 
