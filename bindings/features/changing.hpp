@@ -388,26 +388,21 @@ inline std::vector<Operator> renamings(const Pair &pair, const Cores &old, const
     return first;
 }
 
-/// The operators that turn a part into another one, where these edges stay.
-inline std::vector<Operator> operators_between(const Pair &pair, const std::set<Edge> &stay, AllNames &names)
-{
-    TakenDown takes(pair, TakenDown::Way::takes, stay, names), makes(pair, TakenDown::Way::makes, stay, names);
-    const std::set<Loop> left = rings_left(pair, takes, makes);
-    RingFaces ring_faces;
-    takes.take(left, ring_faces);
-    makes.take(left, ring_faces);
-    std::vector<Operator> found = takes.operators;
-    append(found, renamings(pair, takes.cores, makes.cores, names));
-    found.insert(found.end(), makes.operators.rbegin(), makes.operators.rend());
-    return found;
-}
-
-/// The same, where the edges stay that both have, else whatever edges stay; none where the faces that differ aren't of the kind.
+/// The operators that turn a part into another one, where the edges stay that both have, else whatever edges stay; none where the faces that differ
+/// aren't of the kind.
 inline std::optional<std::vector<Operator>> operators_between(const Pair &pair, AllNames &names)
 {
     for (const std::set<Edge> &stay : {pair.edges, std::set<Edge>()})
         try {
-            return operators_between(pair, stay, names);
+            TakenDown takes(pair, TakenDown::Way::takes, stay, names), makes(pair, TakenDown::Way::makes, stay, names);
+            const std::set<Loop> left = rings_left(pair, takes, makes);
+            RingFaces ring_faces;
+            takes.take(left, ring_faces);
+            makes.take(left, ring_faces);
+            std::vector<Operator> found = takes.operators;
+            append(found, renamings(pair, takes.cores, makes.cores, names));
+            found.insert(found.end(), makes.operators.rbegin(), makes.operators.rend());
+            return found;
         } catch (const OtherKind &) {
         }
     return std::nullopt;
