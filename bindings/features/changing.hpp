@@ -85,19 +85,17 @@ struct Pair {
         alike(old.loops, made.loops, [&](const auto &row) { return all(row, [&](HalfEdge half) { return edges.count(half.edge()) != 0; }); });
     const std::set<Face> faces =
         alike(old.faces, made.faces, [&](const auto &row) { return all(row, [&](Loop loop) { return loops.count(loop) != 0; }); });
-
-    /// The half-edges that the outer loops of a face have in both.
-    [[nodiscard]] std::set<HalfEdge> same_outline(Face face) const
-    {
-        const std::vector<Loop> *before = look_up(old.faces, face), *after = look_up(made.faces, face);
-        if (before == nullptr || after == nullptr)
-            return {};
-        const std::vector<HalfEdge> &halves = made.loops.at(after->front());
-        const std::set<HalfEdge> all(halves.begin(), halves.end());
-        const auto same = filtered(old.loops.at(before->front()), [&](HalfEdge half) { return all.count(half) != 0; });
-        return {same.begin(), same.end()};
-    }
 };
+
+/// The half-edges of the outer loop of a face: none where the model doesn't have it.
+inline std::set<HalfEdge> outline_of(const Model &model, Face face)
+{
+    const std::vector<Loop> *loops = look_up(model.faces, face);
+    if (loops == nullptr)
+        return {};
+    const std::vector<HalfEdge> &halves = model.loops.at(loops->front());
+    return {halves.begin(), halves.end()};
+}
 
 /// What a connected part of faces comes down to: a face and its loop.
 struct Core {
@@ -246,9 +244,9 @@ private:
         const Face face = face_at(half);
         Face spare = names_.faces.spare();
         const Loop ring = names_.loops.spare();
-        const std::set<HalfEdge> outline = pair_.same_outline(face);
+        const std::set<HalfEdge> before = outline_of(pair_.old, face), after = outline_of(pair_.made, face);
         const auto beyond = [&](HalfEdge side) { return halves_.run(halves_.after(side), side.twin()); };
-        if (any(beyond(half), [&](HalfEdge other) { return outline.count(other) != 0; }))
+        if (any(beyond(half), [&](HalfEdge other) { return before.count(other) + after.count(other) == 2; }))
             half = half.twin();
         for (HalfEdge other : beyond(half))
             loop_of_[other] = ring;
