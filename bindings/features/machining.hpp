@@ -322,13 +322,6 @@ inline Ring draw(Bench &bench, Face face, const Path &path)
     return close_path(bench, bench.kemr(plus(spur.edge)), spur.vertex, path);
 }
 
-/// Moves a face, and finds the sides over half-edges of it.
-inline std::vector<Face> sides_of_sweep(Bench &bench, Face face, const Vector &way, const std::vector<Edge> &edges, bool of_first)
-{
-    bench.sweep(face, point(way));
-    return mapped(edges, [&](Edge edge) { return bench.face_of(of_first ? plus(edge) : minus(edge)); });
-}
-
 inline Profile make_profile(Bench &bench, Solid solid, Items<Point> points, Point along)
 {
     const Path path = path_of(points);
@@ -344,7 +337,8 @@ inline Profile make_profile(Bench &bench, Solid solid, Items<Point> points, Poin
     const Vertex first = bench.next_free<Vertex>();
     bench.mvfs(solid, far, loop, first, point(drawn[0]));
     const Ring flat = close_path(bench, loop, first, drawn);
-    const std::vector<Face> sides = sides_of_sweep(bench, far, way, flat.edges, true);
+    bench.sweep(far, along);
+    const std::vector<Face> sides = mapped(flat.edges, [&](Edge edge) { return bench.face_of(plus(edge)); });
     return Profile{solid, far, flat.face, side < 0 ? backwards(sides) : sides};
 }
 
@@ -387,7 +381,8 @@ inline Pocket move_outline(Bench &bench, Face face, const Drawing &drawn, const 
         (void)surface.ring_path(bench, other, far);
     require_room(bench, surface, drawn.across, drawn.path, far, face, other);
     const Ring ring = draw(bench, face, drawn.path);
-    const std::vector<Face> sides = sides_of_sweep(bench, ring.face, way, ring.edges, false);
+    bench.sweep(ring.face, point(way));
+    const std::vector<Face> sides = mapped(ring.edges, [&](Edge edge) { return bench.face_of(minus(edge)); });
     const Loop far_ring = bench.face(ring.face).outer_loop;
     if (other != Face())
         bench.kfmrh(other, ring.face);
