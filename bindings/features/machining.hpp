@@ -279,17 +279,14 @@ inline std::pair<Face, Vector> opposite(const Bench &bench, const Surface &surfa
 {
     require(longest(across) <= 2 * farthest, impossible(Misfit::off_lattice, face.number()));
     const Vector back = negative(across);
-    Face nearest;
-    ScaledPoint way{{}, 0}; // to the nearest one
+    std::map<ScaledPoint, Face> behind; // by how many times as far as the normal is long
     for (const auto &[other, loops] : surface.near(bench, Box::between(start, add(start, times(back, 2 * farthest))))) {
         const Plane *plane = other != face ? surface.plane(other) : nullptr;
-        if (plane == nullptr || surface.shape(other, loops).hit({start}, back) == Place::outside)
-            continue;
-        const ScaledPoint own = on_way({}, {1, 0, 0}, magnitude(plane->height(start)), magnitude(dot(plane->across, back)));
-        if (nearest == Face() || own < way)
-            std::tie(nearest, way) = std::tuple(other, own);
+        if (plane != nullptr && surface.shape(other, loops).hit({start}, back) != Place::outside)
+            behind.emplace(on_way({}, {1, 0, 0}, magnitude(plane->height(start)), magnitude(dot(plane->across, back))), other);
     }
-    require(nearest != Face(), impossible(Misfit::no_opposite, face.number()));
+    require(!behind.empty(), impossible(Misfit::no_opposite, face.number()));
+    const auto &[way, nearest] = *behind.begin();
     require(are_parallel(surface.plane(nearest)->across, back), impossible(Misfit::not_parallel, nearest.number()));
     return {nearest, on_way({}, back, way.at[0], way.scale).whole_at(nearest)};
 }
