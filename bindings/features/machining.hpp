@@ -240,38 +240,32 @@ inline void require_room(const Bench &bench, const Surface &surface, const Vecto
     const Vector way = subtract(far[0], path[0]);
     Box box = box_of(path);
     box.take(box_of(far));
-    std::vector<Shape> lids, walls;
-    const auto need_shapes = [&] { // where something is near
-        if (!lids.empty())
-            return;
-        lids = {{Plane::through(path[0], across), {cycle_of(path)}}, {Plane::through(far[0], across), {cycle_of(far)}}};
-        for (const Side &side : lids[0].sides)
-            walls.push_back(Shape({cycle_of({side.start, side.end, add(side.end, way), add(side.start, way)})}));
-        if (other == Face())
-            walls.push_back(lids[1]);
-    };
-    const auto is_between = [&](const Vector &at) {
-        return lids[0].hit({at}, negative(way)) != Place::outside && lids[1].hit({at}, way) != Place::outside;
-    };
-    const auto meets = [&](const Side &edge) { // has a point within, or on a wall
+    std::vector<Side> edges; // that are near, and other faces
+    std::vector<Shape> faces;
+    for (const auto &[of, loops] : surface.near(bench, box)) {
+        for (Loop loop : loops)
+            append(edges, filtered(surface.cycle(loop), [&](const Side &edge) { return box_of(edge).meets(box); }));
+        if (of != face && of != other && surface.plane(of) != nullptr)
+            faces.push_back(surface.shape(of, loops));
+    }
+    if (edges.empty() && faces.empty())
+        return;
+    const std::array lids = {Shape(Plane::through(path[0], across), {cycle_of(path)}), Shape(Plane::through(far[0], across), {cycle_of(far)})};
+    std::vector<Shape> walls = mapped(lids[0].sides, [&](const Side &side) {
+        return Shape({cycle_of({side.start, side.end, add(side.end, way), add(side.start, way)})});
+    });
+    if (other == Face())
+        walls.push_back(lids[1]);
+    const auto meets = [&](const Side &edge) { // has a point on a wall, or within
         const auto touches = [&](const Shape &wall) { return wall.meets(edge); };
         const auto passes = [&](const Shape &lid) { return sign(lid.height({edge.start})) * sign(lid.height({edge.end})) < 0 && lid.meets(edge); };
-        if (!box_of(edge).meets(box))
-            return false;
-        need_shapes();
-        return any(walls, touches) || any(lids, passes) || is_between(edge.start);
+        const auto lies_beside = [&](const Shape &lid, const Vector &ray) { return lid.hit({edge.start}, ray) != Place::outside; };
+        return any(walls, touches) || any(lids, passes) || (lies_beside(lids[0], negative(way)) && lies_beside(lids[1], way));
     };
-    const auto is_met = [&](const auto &beside) {
-        const auto &[of, loops] = beside;
-        if (any(loops, [&](Loop loop) { return any(surface.cycle(loop), meets); }))
-            return true;
-        if (of == face || of == other || surface.plane(of) == nullptr)
-            return false;
-        need_shapes();
-        const Shape shape = surface.shape(of, loops);
-        return any(walls, [&](const Shape &wall) { return any(wall.sides, [&](const Side &side) { return shape.meets(side); }); });
+    const auto is_met = [&](const Shape &beside) {
+        return any(walls, [&](const Shape &wall) { return any(wall.sides, [&](const Side &side) { return beside.meets(side); }); });
     };
-    require(!any(surface.near(bench, box), is_met), impossible(Misfit::meets, face.number()));
+    require(!any(edges, meets) && !any(faces, is_met), impossible(Misfit::meets, face.number()));
 }
 
 /// The face that a ray from a point of a face goes out through, which is parallel, and the way to it.
