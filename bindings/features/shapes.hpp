@@ -107,14 +107,6 @@ struct Side {
 };
 
 inline Box box_of(const Side &side) { return Box::between(side.start, side.end); }
-/// The box around closed cycles, where each side ends at a start.
-inline Box box_of(const std::vector<Side> &cycles)
-{
-    Box box = box_of(cycles[0].start);
-    for (const Side &side : cycles)
-        box.take(box_of(side.start));
-    return box;
-}
 
 /// Where a side crosses a plane, or a line, that lies so far from its ends, on one side of it and on the other; where it starts, if it lies in it.
 inline ScaledPoint divided(const Side &side, Wide before, Wide after)
@@ -191,6 +183,7 @@ inline std::optional<Plane> flat_plane(const std::vector<Side> &sides)
 struct Contour : Cycle {
     Box box;
 };
+inline Box box_of(const Contour &contour) { return contour.box; }
 
 /// A flat face, or so much of it as some of its loops tell.
 class Shape {
@@ -205,8 +198,8 @@ public:
         : plane(in), cycles(mapped(around, [](const Cycle &cycle) { return Contour{cycle, box_of(cycle)}; })), sides(joined(around)),
           axes_(flat_axes(in.across))
     {
-        if (!sides.empty())
-            box = box_of(sides);
+        if (!cycles.empty())
+            box = box_of(cycles);
     }
 
     [[nodiscard]] bool is_flat() const { return !is_zero(plane.across) && lie_in(sides, plane); }
