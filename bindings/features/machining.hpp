@@ -28,12 +28,11 @@ inline Path path_of(Items<Point> points)
 /// Refuses an outline that crosses or touches itself: two sides meet otherwise than neighbours do, at their common end.
 inline void require_simple(const Cycle &sides, Axes axes)
 {
+    const auto folds = [&](const Side &side, const Side &next) { return next.holds({side.start}, axes) || side.holds({next.end}, axes); };
     const auto clash = [&](const Side &side, const Side &other) {
         if (side.end == other.start)
-            return other.holds({side.start}, axes) || side.holds({other.end}, axes);
-        if (other.end == side.start)
-            return other.holds({side.end}, axes) || side.holds({other.start}, axes);
-        return side.meets(other, axes);
+            return folds(side, other);
+        return other.end == side.start ? folds(other, side) : side.meets(other, axes);
     };
     for (std::size_t at = 0; at < sides.size(); at++) {
         go_on();
