@@ -86,22 +86,17 @@ inline Tool groove_tool(Face face, const Plane &plane, const Path &ends, std::in
     return made;
 }
 
-/// The way from a half-edge into its face, across it and so long.
-inline Vector inwards(const Bench &bench, HalfEdge half, std::int64_t length)
-{
-    const Face face = bench.face_of(half);
-    return steps_along(face, reduced(cross(plane_of(bench, face).across, side_at(bench, half).way())), length);
-}
-
 /// The points where the line at a distance from a half-edge, in its face, meets the sides before and after it, square where these run the other way;
 /// of those that have such a line too the line.
 inline std::array<Vector, 2> setbacks(const Bench &bench, HalfEdge half, std::int64_t width, const std::set<Edge> &lined = {})
 {
     const Face face = bench.face_of(half);
-    const Vector step = inwards(bench, half, width);
+    const Vector normal = plane_of(bench, face).across;
+    const auto inwards = [&](HalfEdge from) { return steps_along(face, reduced(cross(normal, side_at(bench, from).way())), width); };
+    const Vector step = inwards(half);
     const auto met = [&](HalfEdge side, HalfEdge corner, HalfEdge far) {
         const bool has_line = lined.count(side.edge()) != 0;
-        const Vector at = start_of(bench, corner), way = has_line ? add(step, inwards(bench, side, width)) : subtract(start_of(bench, far), at);
+        const Vector at = start_of(bench, corner), way = has_line ? add(step, inwards(side)) : subtract(start_of(bench, far), at);
         const Wide rise = dot(step, way), square = dot(step, step);
         if (!has_line && rise <= 0)
             return add(at, step);
