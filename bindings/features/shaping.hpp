@@ -15,9 +15,12 @@ using namespace combining;
 using Tool = std::array<std::vector<Path>, 3>;
 enum { lids, floors, walls };
 
-/// An end of an edge, and the points beside it in the two faces of the edge; where its slope meets others there, perhaps a point between.
+/// An end of an edge, and the points beside it in the two faces of the edge; the half-edge that starts there, if there is one; where its slope meets
+/// others there, perhaps a point between.
 struct Corner {
-    Vector point, first, second, between = second;
+    Vector point, first, second;
+    HalfEdge half = HalfEdge();
+    Vector between = second;
     bool is_shared = false;
 };
 
@@ -109,46 +112,38 @@ inline std::array<Vector, 2> setbacks(const Bench &bench, HalfEdge half, std::in
 
 // ---- slopes
 
-/// An end of an edge that becomes a slope: the start of a half-edge.
-struct End {
-    Corner *corner;
-    HalfEdge half;
-};
-
-/// The point where three slopes meet.
-inline Vector common_point(const Bench &bench, const std::vector<End> &ends, const Failure &apart)
+/// The point where the slopes of three edges meet, which end at a vertex.
+inline Vector common_point(const Bench &bench, const std::vector<Corner *> &ends, const Failure &apart)
 {
-    const auto across = [&](const End &end) {
-        return reduced(cross(side_at(bench, end.half).way(), subtract(end.corner->second, end.corner->first)));
-    };
-    const Corner &one = *ends[0].corner, &other = *ends[1].corner;
+    const auto across = [&](const Corner &end) { return reduced(cross(side_at(bench, end.half).way(), subtract(end.second, end.first))); };
+    const Corner &one = *ends[0], &other = *ends[1];
     const Vector &start = one.first == other.first || one.first == other.second ? one.first : one.second;
-    const Vector line = reduced(cross(across(ends[0]), across(ends[1]))), third = across(ends[2]);
-    const Wide rise = dot(third, subtract(ends[2].corner->first, start));
+    const Vector line = reduced(cross(across(one), across(other))), third = across(*ends[2]);
+    const Wide rise = dot(third, subtract(ends[2]->first, start));
     const bool is_steep = longest(line) > 4 * Wide{farthest}; // so far from the start lies no point in range
     const Wide slope = is_steep ? 1 : dot(third, line);
     require(!is_zero(line) && rise != 0 && slope != 0, apart);
-    require(!is_steep && rise % slope == 0, impossible(Misfit::off_lattice, bench.face_of(ends[0].half).number()));
+    require(!is_steep && rise % slope == 0, impossible(Misfit::off_lattice, bench.face_of(one.half).number()));
     require(magnitude(rise / slope) <= 4 * Wide{farthest}, refused(GWB_WHY_POINT_RANGE, 0));
     return add(start, times(line, rise / slope));
 }
 
 /// Joins slopes of edges that end at a vertex. Not possible: NoCorner: more than three edges end there, or the slopes don't meet in one point.
-inline void join_slopes(const Bench &bench, Vertex vertex, const std::vector<End> &ends)
+inline void join_slopes(const Bench &bench, Vertex vertex, const std::vector<Corner *> &ends)
 {
     const Failure apart = impossible(Misfit::no_corner, vertex.number());
     std::set<Vector> points;
-    for (const End &end : ends) {
-        end.corner->is_shared = true;
-        points.insert({end.corner->first, end.corner->second});
+    for (Corner *end : ends) {
+        end->is_shared = true;
+        points.insert({end->first, end->second});
     }
-    const auto edges = bench.around(ends[0].half);
+    const auto edges = bench.around(ends[0]->half);
     require(std::distance(edges.begin(), edges.end()) <= 3 && points.size() == ends.size(), apart);
     if (ends.size() < 3)
         return;
     const Vector between = common_point(bench, ends, apart);
-    for (const End &end : ends)
-        end.corner->between = between;
+    for (Corner *end : ends)
+        end->between = between;
 }
 
 /// The wedges along edges, so far into the faces of their first half-edges, where their lids lie, and into the others; if there are several both
@@ -157,14 +152,14 @@ inline Tool chamfer_tool(const Bench &bench, const std::vector<Edge> &edges, std
 {
     const std::set<Edge> lined(edges.begin(), edges.end());
     std::vector<std::array<Corner, 2>> corners(edges.size());
-    std::map<Vertex, std::vector<End>> ends;
+    std::map<Vertex, std::vector<Corner *>> ends;
     for (std::size_t at = 0; at < edges.size(); at++) {
         const HalfEdge half = plus(edges[at]), twin = half.twin();
         const auto near = setbacks(bench, half, first, lined);
         const auto far = setbacks(bench, twin, second, lined);
-        corners[at] = {Corner{start_of(bench, half), near[0], far[1]}, Corner{start_of(bench, twin), near[1], far[0]}};
-        ends[bench.start_of(half)].push_back({&corners[at][0], half});
-        ends[bench.start_of(twin)].push_back({&corners[at][1], twin});
+        corners[at] = {Corner{start_of(bench, half), near[0], far[1], half}, Corner{start_of(bench, twin), near[1], far[0], twin}};
+        for (Corner &corner : corners[at])
+            ends[bench.start_of(corner.half)].push_back(&corner);
     }
     for (const auto &[vertex, here] : ends)
         if (here.size() > 1)
