@@ -28,14 +28,12 @@ struct Corner {
 inline Tool prism(const Path &outline, const Vector &way)
 {
     const Path path = dot(area_of(cycle_of(outline)), way) < 0 ? outline : backwards(outline);
-    Tool tool;
-    tool[lids] = {path};
-    tool[floors] = {backwards(moved(path, way))};
+    std::vector<Path> sides;
     for (std::size_t at = 0; at < path.size(); at++) {
         const Vector &before = path[(at + path.size() - 1) % path.size()];
-        tool[walls].push_back({path[at], before, add(before, way), add(path[at], way)});
+        sides.push_back({path[at], before, add(before, way), add(path[at], way)});
     }
-    return tool;
+    return {{{path}, {backwards(moved(path, way))}, sides}};
 }
 
 /// The wedge along an edge: its lid is the side at the first points, its floor the slope opposite to the edge.
