@@ -109,9 +109,7 @@ inline Caps cut_by_faces(Bench &bench, Solid solid, const Plane &plane, const Pa
     const std::vector<Sheet> sheets = sheets_of(held.model);
     AllNames names(bench);
     const Combined lower = part_below(held, sheets, plane, solid, names);
-    Combined upper;
-    if (is_wanted)
-        upper = part_below(held, sheets, plane.turned(), above, names);
+    const Combined upper = is_wanted ? part_below(held, sheets, plane.turned(), above, names) : Combined();
     require_apart(held.model, corners, {&lower.model, &upper.model});
     if (const auto operators = changing::operators_between({held.model, lower.model}, names))
         give(bench, *operators);
