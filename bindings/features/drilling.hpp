@@ -10,18 +10,15 @@ using namespace machining;
 constexpr std::uint32_t most_sides = 1'000'000;
 
 /// The sine and the cosine of an angle from 0 to an eighth of a turn, by their series.
-struct Ratios {
-    long double sine = 0, cosine = 0;
-
-    explicit constexpr Ratios(long double angle)
-    {
-        long double term = 1;
-        for (int power = 0; power < 24; power++) {
-            (power % 2 == 0 ? cosine : sine) += power % 4 < 2 ? term : -term;
-            term *= angle / static_cast<long double>(power + 1);
-        }
+constexpr std::pair<long double, long double> ratios(long double angle)
+{
+    long double sine = 0, cosine = 0, term = 1;
+    for (int power = 0; power < 24; power++) {
+        (power % 2 == 0 ? cosine : sine) += power % 4 < 2 ? term : -term;
+        term *= angle / static_cast<long double>(power + 1);
     }
-};
+    return {sine, cosine};
+}
 
 /// The nearest whole number; of two as near, the one farther from 0. (A product that should be a half may be off in its last digits: it is one.)
 constexpr std::int64_t nearest(long double number)
@@ -36,9 +33,10 @@ constexpr std::array<std::int64_t, 2> corner(std::uint32_t place, std::uint32_t 
     constexpr long double eighth_of_a_turn = 0.785398163397448309615660845819875721L;
     const std::uint64_t eighths = std::uint64_t{8} * place, rest = eighths % sides;
     const bool is_before = eighths / sides % 2 == 1; // the quarter that is nearest
-    const Ratios ratios(eighth_of_a_turn * static_cast<long double>(is_before ? sides - rest : rest) / static_cast<long double>(sides));
+    const auto [sine, cosine] =
+        ratios(eighth_of_a_turn * static_cast<long double>(is_before ? sides - rest : rest) / static_cast<long double>(sides));
     const auto out = static_cast<long double>(radius);
-    std::array<std::int64_t, 2> at = {nearest(out * ratios.cosine), nearest(out * (is_before ? -ratios.sine : ratios.sine))};
+    std::array<std::int64_t, 2> at = {nearest(out * cosine), nearest(out * (is_before ? -sine : sine))};
     for (std::uint64_t quarter = 0; quarter < (eighths / sides + 1) / 2 % 4; quarter++)
         at = {-at[1], at[0]};
     return at;
