@@ -28,7 +28,6 @@ struct ScaledPoint {
     Vector at;
     Wide scale = 1;
 
-    [[nodiscard]] bool lies_in(const Box &box) const { return Box{times(box.low, scale), times(box.high, scale)}.meets({at, at}); }
     /// Between this one and another.
     [[nodiscard]] ScaledPoint between(const ScaledPoint &other) const { return {add(at, other.at), scale + other.scale}; }
     /// The point, where it is whole.
@@ -146,14 +145,16 @@ inline Vector area_of(const std::vector<Side> &sides)
     return sum;
 }
 
-/// Where a point lies against a cycle in its plane, by the parity of crossings of a ray along the first axis.
-inline Place locate(const Cycle &cycle, const ScaledPoint &point, Axes axes)
+/// Where a point lies against cycles in its plane, by the parity of crossings of a ray along the first axis.
+inline Place locate(const std::vector<Side> &cycles, const ScaledPoint &point, Axes axes)
 {
     bool is_within = false;
-    for (const Side &side : cycle) {
+    for (const Side &side : cycles) {
+        const Wide start = side.start[axes[1]] * point.scale, end = side.end[axes[1]] * point.scale, level = point.at[axes[1]];
+        if (std::min(start, end) > level || std::max(start, end) < level) // it lies beside the ray
+            continue;
         if (side.holds(point, axes))
             return Place::on;
-        const Wide start = side.start[axes[1]] * point.scale, end = side.end[axes[1]] * point.scale, level = point.at[axes[1]];
         if ((start > level) != (end > level) && (side.turn(point, axes) > 0) == (end > start))
             is_within = !is_within;
     }
@@ -179,39 +180,27 @@ inline std::optional<Plane> flat_plane(const std::vector<Side> &sides)
     return !is_zero(plane.across) && have_lengths(sides) && lie_in(sides, plane) ? std::optional(plane) : std::nullopt;
 }
 
-/// A cycle, and the box around it.
-struct Contour : Cycle {
-    Box box;
-};
-inline Box box_of(const Contour &contour) { return contour.box; }
-
 /// A flat face, or so much of it as some of its loops tell.
 class Shape {
 public:
     Plane plane;
-    std::vector<Contour> cycles;
+    std::vector<Cycle> cycles;
     std::vector<Side> sides; ///< of all of these
     Box box;                 ///< around them
 
     explicit Shape(const std::vector<Cycle> &around) : Shape(plane_around(joined(around)), around) {}
     Shape(const Plane &in, const std::vector<Cycle> &around)
-        : plane(in), cycles(mapped(around, [](const Cycle &cycle) { return Contour{cycle, box_of(cycle)}; })), sides(joined(around)),
-          axes_(flat_axes(in.across))
+        : plane(in), cycles(around), sides(joined(around)), axes_(flat_axes(in.across))
     {
-        if (!cycles.empty())
-            box = box_of(cycles);
+        if (!sides.empty())
+            box = box_of(sides);
     }
 
     [[nodiscard]] bool is_flat() const { return !is_zero(plane.across) && lie_in(sides, plane); }
     /// Positive before the plane, negative behind it: times the point's scale.
     [[nodiscard]] Wide height(const ScaledPoint &point) const { return dot(plane.across, point.at) + plane.offset * point.scale; }
-    /// Where a point of the plane lies: within an odd number of loops, of which those with a box around it count.
-    [[nodiscard]] Place locate(const ScaledPoint &point) const
-    {
-        return locate_in(cycles, [&](const Contour &cycle) {
-            return point.lies_in(cycle.box) ? machining::locate(cycle, point, axes_) : Place::outside;
-        });
-    }
+    /// Where a point of the plane lies: within an odd number of loops, or not.
+    [[nodiscard]] Place locate(const ScaledPoint &point) const { return machining::locate(sides, point, axes_); }
     /// Whether it has a point of a segment, of one in its plane the start.
     [[nodiscard]] bool meets(const Side &segment) const
     {
@@ -227,7 +216,7 @@ public:
             return any(own, [&](const Side &other) { return box_of(side).meets(box_of(other)) && side.meets(other, axes_); });
         };
         require(!any(sides, is_met) && locate({path[0]}) == Place::inside, impossible(Misfit::outline_outside, face.number()));
-        if (any(cycles, [&](const Contour &cycle) { return machining::locate(own, {cycle[0].start}, axes_) == Place::inside; }))
+        if (any(cycles, [&](const Cycle &cycle) { return machining::locate(own, {cycle[0].start}, axes_) == Place::inside; }))
             throw impossible(Misfit::outline_around_ring, face.number());
     }
 
