@@ -37,11 +37,11 @@ struct ScaledPoint {
             return std::nullopt;
         return Vector{at[0] / scale, at[1] / scale, at[2] / scale};
     }
-    /// The same of a point at a face. Not possible: OffLattice.
-    [[nodiscard]] Vector whole_at(Face face) const
+    /// The same of a point at a face, or at an edge. Not possible: OffLattice.
+    template <class Kind> [[nodiscard]] Vector whole_at(Kind part) const
     {
         const std::optional<Vector> found = whole();
-        require(found.has_value(), impossible(Misfit::off_lattice, face.number()));
+        require(found.has_value(), impossible(Misfit::off_lattice, part.number()));
         return *found;
     }
     /// Negative where it comes before another one, by x, then y, then z.
@@ -76,12 +76,6 @@ struct Side {
 
     // Against a point or a side of the same plane, which is seen by these axes:
 
-    /// Twice the area between it and a point, positive where that lies left.
-    [[nodiscard]] Wide area_beside(const Vector &at, Axes axes) const
-    {
-        const Vector along = way(), to = subtract(at, start);
-        return along[axes[0]] * to[axes[1]] - along[axes[1]] * to[axes[0]];
-    }
     /// Positive where the point lies left of the side's line, negative right of it, zero on it.
     [[nodiscard]] int turn(const ScaledPoint &point, Axes axes) const
     {

@@ -267,9 +267,9 @@ private:
                 points.insert(across.start);
             if (!own.crosses(across, axes_))
                 continue;
-            const std::optional<Vector> at_crossing = divided(own, across.area_beside(own.start, axes_), across.area_beside(own.end, axes_)).whole();
-            require(at_crossing.has_value(), impossible(Misfit::off_lattice, one.side.half.edge().number()));
-            points.insert(*at_crossing);
+            // (twice the area between the other one and a point, as it is seen along the third axis)
+            const auto area = [&](const Vector &end) { return cross(across.way(), subtract(end, across.start))[3 - axes_[0] - axes_[1]]; };
+            points.insert(divided(own, area(own.start), area(own.end)).whole_at(own.half.edge()));
         }
         return one.side.end < one.side.start ? Path(points.rbegin(), points.rend()) : Path(points.begin(), points.end());
     }
