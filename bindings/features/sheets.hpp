@@ -76,9 +76,7 @@ inline std::vector<std::vector<Cycle>> regions_of(const std::vector<Side> &sides
             outer.emplace(-area, cycle);
         else
             holes.push_back(cycle);
-    std::vector<std::vector<Cycle>> found;
-    for (const auto &[area, cycle] : outer)
-        found.push_back({cycle});
+    auto found = mapped(outer, [](const auto &sized) { return std::vector<Cycle>{sized.second}; });
     for (const Cycle &hole : holes) { // into the smallest around it
         const auto around = std::find_if(found.rbegin(), found.rend(), [&](const auto &region) {
             const auto place = [&](const Side &side) { return locate(region[0], {side.start}, axes); };
@@ -99,9 +97,8 @@ public:
     Member name(Member member)
     {
         for (auto above = above_.find(member); above != above_.end(); above = above_.find(member)) {
-            if (const auto beyond = above_.find(above->second); beyond != above_.end())
-                above->second = beyond->second;
-            member = above->second;
+            const Member *beyond = look_up(above_, above->second);
+            member = above->second = beyond != nullptr ? *beyond : above->second;
         }
         return member;
     }
