@@ -227,10 +227,9 @@ inline auto cut_shoulder(Bench &bench, Face face, Edge edge, std::int64_t width,
 {
     require_sizes({width, depth});
     const Plane plane = plane_of(bench, face);
-    const auto faces = bench.attempt().faces_of(edge);
-    require(has(faces), refused(GWB_WHY_NO_EDGE, edge.number()));
-    require((*faces)[0] == face || (*faces)[1] == face, impossible(Misfit::not_of_face, edge.number()));
-    const HalfEdge half = (*faces)[0] == face ? plus(edge) : minus(edge);
+    require(has(bench.attempt().edge(edge)), refused(GWB_WHY_NO_EDGE, edge.number()));
+    const HalfEdge half = bench.face_of(plus(edge)) == face ? plus(edge) : minus(edge);
+    require(bench.face_of(half) == face, impossible(Misfit::not_of_face, edge.number()));
     const auto ends = setbacks(bench, half, width);
     const Path strip = {start_of(bench, half), start_of(bench, half.twin()), ends[1], ends[0]};
     return cut_out(bench, face, prism(strip, steps_along(face, plane.across, -depth)));
