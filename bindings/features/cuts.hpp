@@ -42,18 +42,14 @@ inline void put_below(const Sheet &sheet, const Plane &plane, const Failure &why
 /// The sides in the plane that have no other beside them, turned round.
 inline std::vector<Side> open_sides(const std::vector<Sheet> &left, const Plane &plane)
 {
-    std::map<std::pair<Vector, Vector>, int> times;
+    std::multiset<std::pair<Vector, Vector>> open;
     for (const Sheet &sheet : left)
-        for (const Side &side : sheet.sides)
-            if (plane.height(side.start) == 0 && plane.height(side.end) == 0) {
-                times[{side.start, side.end}]++;
-                times[{side.end, side.start}]--;
-            }
-    std::vector<Side> found;
-    for (const auto &[ends, count] : times)
-        if (count > 0)
-            found.push_back({ends.second, ends.first});
-    return found;
+        for (const Side &side : filtered(sheet.sides, [&](const Side &of) { return plane.height(of.start) == 0 && plane.height(of.end) == 0; }))
+            if (const auto other = open.find({side.start, side.end}); other != open.end())
+                open.erase(other);
+            else
+                open.insert({side.end, side.start});
+    return mapped(open, [](const auto &ends) { return Side{ends.first, ends.second}; });
 }
 
 /// The part of a solid below a plane, closed by caps, which are its faces that have marks.
