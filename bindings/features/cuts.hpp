@@ -68,12 +68,6 @@ inline Combined part_below(const Held &held, const std::vector<Sheet> &sheets, c
 
 // ---- what is cut
 
-/// Refuses parts of a solid, on either side of a plane, of which one meets or touches itself as the solid didn't: at corners that lie in the plane.
-inline void require_apart(const Model &before, const Path &corners, std::initializer_list<const Model *> parts)
-{
-    require(corners.empty() || !touch_anew({&before}, parts, box_of(corners)), impossible(Misfit::meets, before.solid.number()));
-}
-
 /// The faces of a solid above a number that lie in a plane.
 inline std::vector<Face> faces_in(const Bench &bench, Solid solid, Face above, const Plane &plane)
 {
@@ -100,7 +94,8 @@ inline Caps cut_by_faces(Bench &bench, Solid solid, const Plane &plane, const Pa
     AllNames names(bench);
     const Combined lower = part_below(held, sheets, plane, solid, names);
     const Combined upper = is_wanted ? part_below(held, sheets, plane.turned(), above, names) : Combined();
-    require_apart(held.model, corners, {&lower.model, &upper.model});
+    const bool touch = !corners.empty() && touch_anew({&held.model}, {&lower.model, &upper.model}, box_of(corners));
+    require(!touch, impossible(Misfit::meets, solid.number()));
     if (const auto operators = changing::operators_between({held.model, lower.model}, names))
         give(bench, *operators);
     else
@@ -110,7 +105,8 @@ inline Caps cut_by_faces(Bench &bench, Solid solid, const Plane &plane, const Pa
     return {lower.marked(0, SIZE_MAX), upper.marked(0, SIZE_MAX)};
 }
 
-/// What lies above a plane becomes another solid, or goes where it isn't wanted.
+/// What lies above a plane becomes another solid, or goes where it isn't wanted. Not possible: Meets: at corners that lie in the plane one of the parts
+/// meets or touches itself as the solid didn't.
 inline Caps cut(Bench &bench, Solid solid, const gwb_cut_plane &row, Solid above, bool is_wanted)
 {
     const Plane plane = Plane::of(row);
@@ -127,7 +123,7 @@ inline Caps cut(Bench &bench, Solid solid, const gwb_cut_plane &row, Solid above
         return cut_by_faces(bench, solid, plane, corners, above, is_wanted);
     if (!corners.empty()) {
         const Model lower = Model::whole(bench, solid), upper = is_wanted ? Model::whole(bench, above) : Model();
-        require_apart(before, corners, {&lower, &upper});
+        require(!touch_anew({&before}, {&lower, &upper}, box_of(corners)), impossible(Misfit::meets, solid.number()));
     }
     if (!is_wanted) {
         (*caps)[1].clear();
