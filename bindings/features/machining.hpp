@@ -117,20 +117,15 @@ public:
         const auto loops = bench.loops_of(face);
         put(face, {loops.begin(), loops.end()}, cycles_at(bench, face));
     }
-    /// The same, of some of its loops, where the others are known.
+    /// The same, of some of its loops, where the others are known, or of new rings of a face whose plane is known.
     void put(Face face, const std::vector<Loop> &loops, const std::vector<Cycle> &cycles)
     {
-        for (std::size_t at = 0; at < loops.size(); at++)
-            put(loops[at], cycles[at]);
+        for (std::size_t at = 0; at < loops.size(); at++) {
+            boxes_.put(box_of(cycles[at]), loops[at].number());
+            loops_.insert_or_assign(loops[at], cycles[at]);
+        }
         if (const std::optional<Plane> plane = flat_plane(joined(cycles)))
             planes_.emplace(face, *plane);
-    }
-
-    /// Takes in a ring of a face that is new, in the face's plane.
-    void put(Loop loop, const Cycle &cycle)
-    {
-        boxes_.put(box_of(cycle), loop.number());
-        loops_.insert_or_assign(loop, cycle);
     }
 
     /// A face is gone, or lies elsewhere, and so do these loops.
@@ -352,7 +347,7 @@ inline Ring make_ring(Bench &bench, Face face, Items<Point> points)
     const Drawing drawn(bench, face, points);
     Ring made = draw(bench, face, drawn.path);
     drawn.known.follow(bench, drawn.solid, [&](Surface &surface) {
-        surface.put(made.loop, cycle_of(drawn.path));
+        surface.put(face, {made.loop}, {cycle_of(drawn.path)});
         surface.put(bench, made.face);
     });
     if (drawn.is_turned()) {
@@ -377,11 +372,11 @@ inline Pocket move_outline(Bench &bench, Face face, const Drawing &drawn, const 
     if (other != Face())
         bench.kfmrh(other, ring.face);
     drawn.known.follow(bench, drawn.solid, [&](Surface &of) {
-        of.put(ring.loop, cycle_of(drawn.path));
+        of.put(face, {ring.loop}, {cycle_of(drawn.path)});
         for (Face side : sides)
             of.put(bench, side);
         if (other != Face())
-            of.put(far_ring, cycle_of(far));
+            of.put(other, {far_ring}, {cycle_of(far)});
         else
             of.put(bench, ring.face);
     });
