@@ -68,12 +68,6 @@ inline Combined part_below(const Held &held, const std::vector<Sheet> &sheets, c
 
 // ---- what is cut
 
-/// The faces of a solid above a number that lie in a plane.
-inline std::vector<Face> faces_in(const Bench &bench, Solid solid, Face above, const Plane &plane)
-{
-    return filtered(bench.faces(solid), [&](Face face) { return face > above && lie_in(joined(cycles_at(bench, face)), plane); });
-}
-
 /// The faces that close the part below a plane, and those that close the one above.
 using Caps = std::array<std::vector<Face>, 2>;
 
@@ -83,7 +77,10 @@ inline Caps split(Bench &bench, Solid solid, const gwb_cut_plane &row, Solid abo
     const Face before = bench.greatest<Face>();
     const Plane plane = Plane::of(row);
     bench.split(solid, row.a, row.b, row.c, row.d, above);
-    return {faces_in(bench, solid, before, plane), faces_in(bench, above, before, plane)};
+    const auto caps = [&](Solid part) {
+        return filtered(bench.faces(part), [&](Face face) { return face > before && lie_in(joined(cycles_at(bench, face)), plane); });
+    };
+    return {caps(solid), caps(above)};
 }
 
 /// Cuts a solid face by face. What lies above may not be wanted.
