@@ -106,9 +106,6 @@ struct Core {
 /// Cores by their outlines, each from its least half-edge on.
 using Cores = std::map<std::vector<HalfEdge>, Core>;
 
-/// A spare face for each ring, the same one in both models.
-using RingFaces = std::map<Loop, Face>;
-
 /// The faces of a model that differ, and what they come to: by operators, in the order in which they take them apart, or which make them again.
 class TakenDown {
 public:
@@ -138,8 +135,9 @@ public:
     /// Whether a loop runs along none of the edges between the faces.
     [[nodiscard]] bool is_left(Loop loop) const { return !any(model_.loops.at(loop), [&](HalfEdge half) { return is_inner(half); }); }
 
-    /// Takes them apart, but for the loops that are left: of the others each part that inner edges join.
-    void take(const std::set<Loop> &left, RingFaces &ring_faces)
+    /// Takes them apart, but for the loops that are left: of the others each part that inner edges join. Rings go by way of faces of their own, which
+    /// are the same ones in both models.
+    void take(const std::set<Loop> &left, std::map<Loop, Face> &ring_faces)
     {
         JoinedSets<Loop> joined;
         for (Edge edge : inner_)
@@ -394,7 +392,7 @@ inline std::optional<std::vector<Operator>> operators_between(const Pair &pair, 
         try {
             TakenDown takes(pair, TakenDown::Way::takes, stay, names), makes(pair, TakenDown::Way::makes, stay, names);
             const std::set<Loop> left = rings_left(pair, takes, makes);
-            RingFaces ring_faces;
+            std::map<Loop, Face> ring_faces;
             takes.take(left, ring_faces);
             makes.take(left, ring_faces);
             std::vector<Operator> found = takes.operators;
