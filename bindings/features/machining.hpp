@@ -124,7 +124,7 @@ public:
             boxes_.put(box_of(cycles[at]), loops[at].number());
             loops_.insert_or_assign(loops[at], cycles[at]);
         }
-        if (const std::optional<Plane> plane = flat_plane(joined(cycles)))
+        if (const std::optional<Plane> plane = planes_.count(face) == 0 ? flat_plane(joined(cycles)) : std::nullopt)
             planes_.emplace(face, *plane);
     }
 
