@@ -128,8 +128,8 @@ public:
     {
         std::map<Ends, Piece> pieces = cut_pieces();
         for (auto &[ends, piece] : pieces) {
-            piece.left = left_over(ends, piece.parts, true);
-            piece.right = left_over(ends, piece.parts, false);
+            piece.left = left_over({ends.first, ends.second}, piece.parts);
+            piece.right = left_over({ends.second, ends.first}, piece.parts);
             for (std::size_t one : piece.left) // a held and an added one that look one way on both sides of it become one
                 for (std::size_t other : piece.right)
                     if (sheets_[one].is_added() != sheets_[other].is_added() && sheets_[one].is_facing() == sheets_[other].is_facing())
@@ -201,12 +201,11 @@ private:
         }
     }
 
-    /// The sheets beside a piece, left of it or right, without those that go: an added one and a held one that look against each other.
-    [[nodiscard]] Places left_over(const Ends &ends, const std::vector<Part> &parts, bool on_left) const
+    /// The sheets left of a piece, without those that go: an added one and a held one that look against each other.
+    [[nodiscard]] Places left_over(const Side &piece, const std::vector<Part> &parts) const
     {
         go_on();
-        const Box box = Box::between(ends.first, ends.second);
-        Places found = filtered(boxes_.meeting(box), [&](std::size_t place) { return covers(place, ends, parts, on_left); });
+        Places found = filtered(boxes_.meeting(box_of(piece)), [&](std::size_t place) { return covers(place, piece, parts); });
         for (std::size_t place : filtered(found, [&](std::size_t of) { return sheets_[of].is_added(); })) {
             if (any(found, [&](std::size_t other) { return other != place && sheets_[other].is_facing() == sheets_[place].is_facing(); }))
                 throw impossible(Misfit::meets, 0);
@@ -218,13 +217,13 @@ private:
         return found;
     }
 
-    /// Whether the sheet lies on this side of the piece.
-    [[nodiscard]] bool covers(std::size_t place, const Ends &ends, const std::vector<Part> &parts, bool on_left) const
+    /// Whether the sheet lies left of the piece.
+    [[nodiscard]] bool covers(std::size_t place, const Side &piece, const std::vector<Part> &parts) const
     {
-        const bool is_along = on_left == sheets_[place].is_facing();
-        if (any(parts, [&](const Part &part) { return part.place == place; }))
-            return any(parts, [&](const Part &part) { return part.place == place && (part.side.start == ends.first) == is_along; });
-        return sheets_[place].locate({add(ends.first, ends.second), 2}) == Place::inside;
+        const auto is_own = [&](const Part &part) { return part.place == place; };
+        if (any(parts, is_own))
+            return any(parts, [&](const Part &part) { return is_own(part) && (part.side.start == piece.start) == sheets_[place].is_facing(); });
+        return sheets_[place].locate({add(piece.start, piece.end), 2}) == Place::inside;
     }
 
     /// The parts of sides near added sheets; the other sides are kept as they are.
