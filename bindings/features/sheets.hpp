@@ -171,8 +171,7 @@ private:
             append(made.owners, sheets_[*place].owners);
             append(made.marks, sheets_[*place].marks);
         }
-        const std::vector<Side> &own = made.sides;
-        if (places.size() == 1 && std::set<Side>(sides.begin(), sides.end()) == std::set<Side>(own.begin(), own.end())) {
+        if (places.size() == 1 && std::set<Side>(sides.begin(), sides.end()) == std::set<Side>(made.sides.begin(), made.sides.end())) {
             found.push_back(made);
             return;
         }
