@@ -34,10 +34,11 @@ inline void require_simple(const Cycle &sides, Axes axes)
             return folds(side, other);
         return other.end == side.start ? folds(other, side) : side.meets(other, axes);
     };
+    const std::vector<Box> boxes = mapped(sides, [](const Side &side) { return box_of(side); });
     for (std::size_t at = 0; at < sides.size(); at++) {
         go_on();
         for (std::size_t beyond = at + 1; beyond < sides.size(); beyond++)
-            if (box_of(sides[at]).meets(box_of(sides[beyond])) && clash(sides[at], sides[beyond]))
+            if (boxes[at].meets(boxes[beyond]) && clash(sides[at], sides[beyond]))
                 throw impossible(Misfit::outline_crossed, place(at));
     }
 }
