@@ -15,22 +15,21 @@ using exact::Plane;
 inline void put_below(const Sheet &sheet, const Plane &plane, const Failure &why, std::vector<Sheet> &left)
 {
     go_on();
-    bool is_below = false, is_above = false;
+    const bool is_below = any(sheet.sides, [&](const Side &side) { return plane.height(side.start) < 0; });
+    const bool is_above = any(sheet.sides, [&](const Side &side) { return plane.height(side.start) > 0; });
+    if (!is_above && (is_below || dot(sheet.plane.across, plane.across) > 0))
+        left.push_back(sheet);
+    if (!is_above || !is_below)
+        return;
     std::vector<Side> sides; // the parts below, which split found to end at whole points; those in the plane where the face beside them lies below
     for (Side side : sheet.sides) {
         const Wide start = plane.height(side.start), end = plane.height(side.end);
-        is_below = is_below || start < 0;
-        is_above = is_above || start > 0;
         if (sign(start) * sign(end) < 0)
             (start < 0 ? side.end : side.start) = *divided(side, start, end).whole();
         const bool is_in_plane = start == 0 && end == 0;
         if (is_in_plane ? dot(plane.across, cross(sheet.plane.across, side.way())) < 0 : std::min(start, end) < 0)
             sides.push_back(side);
     }
-    if (!is_above && (is_below || dot(sheet.plane.across, plane.across) > 0))
-        left.push_back(sheet);
-    if (!is_above || !is_below)
-        return;
     for (const auto &[first, last] : sheet.cut_by(plane)) { // the sides along which the plane cuts the face
         const Side side{*first.whole(), *last.whole()};
         sides.push_back(dot(cross(sheet.plane.across, plane.across), side.way()) > 0 ? side : side.turned());
