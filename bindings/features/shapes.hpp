@@ -100,6 +100,14 @@ struct Side {
 };
 
 inline Box box_of(const Side &side) { return Box::between(side.start, side.end); }
+/// The box around closed cycles, where each side ends at a start.
+inline Box box_of(const std::vector<Side> &cycles)
+{
+    Box box = box_of(cycles[0].start);
+    for (const Side &side : cycles)
+        box.take(box_of(side.start));
+    return box;
+}
 
 /// Where a side crosses a plane, or a line, that lies so far from its ends, on one side of it and on the other; where it starts, if it lies in it.
 inline ScaledPoint divided(const Side &side, Wide before, Wide after)
