@@ -1,7 +1,6 @@
 /// @file assembly.hpp A closed surface of regions, known by the points of their sides, put together as the model of a solid. What was there before
 /// keeps its numbers, as far as it still is.
-#ifndef GWB_FEATURES_ASSEMBLY_HPP
-#define GWB_FEATURES_ASSEMBLY_HPP
+#pragma once
 #include "sheets.hpp"
 #include <deque>
 
@@ -433,4 +432,3 @@ private:
 };
 
 } // namespace gwb_session::sheets
-#endif

@@ -4,8 +4,7 @@
 /// other edges join is one face for each of its outlines. If these outlines are the same in both models, the operators are those that take the
 /// first apart, and then those that put the second together. A part without an outline, such as the walls and the floor of a pocket, comes down
 /// to one vertex.
-#ifndef GWB_FEATURES_CHANGING_HPP
-#define GWB_FEATURES_CHANGING_HPP
+#pragma once
 #include "assembly.hpp"
 
 namespace gwb_session::changing {
@@ -405,4 +404,3 @@ inline std::optional<std::vector<Operator>> operators_between(const Pair &pair, 
 }
 
 } // namespace gwb_session::changing
-#endif

@@ -1,7 +1,6 @@
 /// @file combining.hpp A solid of which flat regions are added to the faces near a place, whether what comes of it meets or touches itself, and how it is
 /// made: for shaping.hpp, cuts.hpp and uniting.hpp.
-#ifndef GWB_FEATURES_COMBINING_HPP
-#define GWB_FEATURES_COMBINING_HPP
+#pragma once
 #include "changing.hpp"
 
 namespace gwb_session::combining {
@@ -340,4 +339,3 @@ Combined make_near(Bench &bench, Solid solid, const std::vector<Sheet> &added, c
 }
 
 } // namespace gwb_session::combining
-#endif

@@ -1,7 +1,6 @@
 /// @file cuts.hpp Solids cut in two, and trimmed, by planes: by split, or where that refuses for the corners that the plane touches or for how it
 /// runs through faces and holes, face by face; caps close both parts then, and faces in the plane are one with the caps beside them.
-#ifndef GWB_FEATURES_CUTS_HPP
-#define GWB_FEATURES_CUTS_HPP
+#pragma once
 #include "combining.hpp"
 
 namespace gwb_session::cuts {
@@ -129,4 +128,3 @@ inline Caps cut(Bench &bench, Solid solid, const gwb_cut_plane &row, Solid above
 }
 
 } // namespace gwb_session::cuts
-#endif

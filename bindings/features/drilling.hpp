@@ -1,6 +1,5 @@
 /// @file drilling.hpp Holes with regular polygons for circles.
-#ifndef GWB_FEATURES_DRILLING_HPP
-#define GWB_FEATURES_DRILLING_HPP
+#pragma once
 #include "machining.hpp"
 
 namespace gwb_session::drilling {
@@ -63,4 +62,3 @@ inline Hole drill(Bench &bench, Face face, Point center, std::int64_t radius, st
 }
 
 } // namespace gwb_session::drilling
-#endif

@@ -2,8 +2,7 @@
 ///
 /// Coordinates lie within 1,000,000,000, so normals, heights and their products with one more coordinate fit in 128 bits; where two of
 /// those are multiplied, only which product is the greater one is asked, in 256. It takes a compiler with integers of 128 bits.
-#ifndef GWB_FEATURES_EXACT_HPP
-#define GWB_FEATURES_EXACT_HPP
+#pragma once
 #include "gwb.hpp"
 #include "gwb_features.h"
 #include <map>
@@ -238,4 +237,3 @@ template <class Loops, class Of> Place locate_in(const Loops &loops, Of of)
 }
 
 } // namespace gwb_session::exact
-#endif

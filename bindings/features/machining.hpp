@@ -2,8 +2,7 @@
 ///
 /// Outlines may run either way round; what belongs to their points comes in the order of the points: the first of `sides` lies between the
 /// first two. A feature compares what lies near. What was read of a solid for one feature is known to the next ones, until another command comes.
-#ifndef GWB_FEATURES_MACHINING_HPP
-#define GWB_FEATURES_MACHINING_HPP
+#pragma once
 #include "shapes.hpp"
 
 namespace gwb_session::machining {
@@ -403,4 +402,3 @@ inline Pocket make_hole(Bench &bench, Face face, Items<Point> points)
 }
 
 } // namespace gwb_session::machining
-#endif

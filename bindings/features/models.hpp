@@ -1,7 +1,6 @@
 /// @file models.hpp Solids made as the listings of models are: of points and faces; and copied, moved, scaled and numbered anew, when each is read as a model
 /// first.
-#ifndef GWB_FEATURES_MODELS_HPP
-#define GWB_FEATURES_MODELS_HPP
+#pragma once
 #include "assembly.hpp"
 
 namespace gwb_session::models {
@@ -204,4 +203,3 @@ inline void renumber(Bench &bench, Lists &lists)
 }
 
 } // namespace gwb_session::models
-#endif

@@ -2,8 +2,7 @@
 /// much the model would have to be scaled, and which planes nearby would do.
 ///
 /// It takes time by the edges of the solid for each of some 14,000 planes at most, of which nearly all are given up at their first edge.
-#ifndef GWB_FEATURES_OFF_LATTICE_HPP
-#define GWB_FEATURES_OFF_LATTICE_HPP
+#pragma once
 #include "selection.hpp"
 #include <cmath>
 #include <limits>
@@ -423,4 +422,3 @@ inline OffLattice made(const Bench &bench, Solid solid, const gwb_cut_plane &row
 }
 
 } // namespace gwb_session::cutting
-#endif

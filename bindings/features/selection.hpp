@@ -1,6 +1,5 @@
 /// @file selection.hpp Faces and edges by where they lie, exactly.
-#ifndef GWB_FEATURES_SELECTION_HPP
-#define GWB_FEATURES_SELECTION_HPP
+#pragma once
 #include "machining.hpp"
 
 namespace gwb_session::selection {
@@ -93,4 +92,3 @@ inline std::vector<Edge> edges(const Bench &bench, const gwb_edge_query &query)
 }
 
 } // namespace gwb_session::selection
-#endif

@@ -1,6 +1,5 @@
 /// @file shapes.hpp Points, sides and flat faces, what meets them, and how it is told that something isn't possible.
-#ifndef GWB_FEATURES_SHAPES_HPP
-#define GWB_FEATURES_SHAPES_HPP
+#pragma once
 #include "exact.hpp"
 #include "solids.hpp"
 
@@ -296,4 +295,3 @@ private:
 inline Box box_of(const Shape &shape) { return shape.box; }
 
 } // namespace gwb_session::machining
-#endif

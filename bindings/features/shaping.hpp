@@ -3,8 +3,7 @@
 ///
 /// A part is cut out of the solid, or put on it: its faces are added to those of the solid that lie near (combining.hpp), and what comes of these
 /// is made of them by operators (changing.hpp).
-#ifndef GWB_FEATURES_SHAPING_HPP
-#define GWB_FEATURES_SHAPING_HPP
+#pragma once
 #include "combining.hpp"
 
 namespace gwb_session::shaping {
@@ -270,4 +269,3 @@ inline std::vector<Face> make_chamfers(Bench &bench, const std::vector<Edge> &ed
 }
 
 } // namespace gwb_session::shaping
-#endif

@@ -1,7 +1,6 @@
 /// @file sheets.hpp Flat regions added to the faces of a solid, for shaping.hpp: what looks against each other where it overlaps goes,
 /// and what looks one way beside each other becomes one.
-#ifndef GWB_FEATURES_SHEETS_HPP
-#define GWB_FEATURES_SHEETS_HPP
+#pragma once
 #include "machining.hpp"
 #include <unordered_map>
 
@@ -300,4 +299,3 @@ inline std::vector<Sheet> overlaid(const std::vector<Sheet> &held, const std::ve
 }
 
 } // namespace gwb_session::sheets
-#endif

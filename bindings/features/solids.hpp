@@ -1,6 +1,5 @@
 /// @file solids.hpp Whole solids taken away, and free numbers.
-#ifndef GWB_FEATURES_SOLIDS_HPP
-#define GWB_FEATURES_SOLIDS_HPP
+#pragma once
 #include "exact.hpp"
 #include "gwb_made.hpp"
 #include "throwing.hpp"
@@ -171,4 +170,3 @@ inline void take_away(Bench &bench, Solid solid)
 }
 
 } // namespace gwb_session
-#endif

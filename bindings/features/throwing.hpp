@@ -1,7 +1,6 @@
 /// @file throwing.hpp How a feature ends that isn't made. What it is refused for, or why it isn't possible, is thrown as a Failure: that takes no memory.
 /// Its caller ends what takes long (gwb_stop_by).
-#ifndef GWB_FEATURES_THROWING_HPP
-#define GWB_FEATURES_THROWING_HPP
+#pragma once
 #include "gwb.hpp"
 extern "C" {
 #include "beside.h"
@@ -39,4 +38,3 @@ struct EndedByCaller {};
 void go_on();
 
 } // namespace gwb_session
-#endif

@@ -1,7 +1,6 @@
 /// @file uniting.hpp Solids that touch in faces made one: glued along those that match, or united. Then the faces of each further one are added to those of
 /// the first that lie near, and what comes of these is made. Faces of one plane beside each other become one, and so do edges that go on straight.
-#ifndef GWB_FEATURES_UNITING_HPP
-#define GWB_FEATURES_UNITING_HPP
+#pragma once
 #include "combining.hpp"
 
 namespace gwb_session::uniting {
@@ -135,4 +134,3 @@ inline Sources unite(Bench &bench, const std::vector<Solid> &solids)
 }
 
 } // namespace gwb_session::uniting
-#endif
