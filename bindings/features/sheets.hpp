@@ -262,7 +262,7 @@ private:
             if (!own.crosses(across, axes_))
                 continue;
             // (twice the area between the other one and a point, as it is seen along the third axis)
-            const auto area = [&, &other = across](const Vector &end) { return cross(other.way(), subtract(end, other.start))[3 - axes_[0] - axes_[1]]; };
+            const auto area = [&, &line = across](const Vector &end) { return cross(line.way(), subtract(end, line.start))[3 - axes_[0] - axes_[1]]; };
             points.insert(divided(own, area(own.start), area(own.end)).whole_at(own.half.edge()));
         }
         return one.side.end < one.side.start ? Path(points.rbegin(), points.rend()) : Path(points.begin(), points.end());
