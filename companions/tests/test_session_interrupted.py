@@ -474,7 +474,9 @@ class Threads(unittest.TestCase):
 
         def work(number):
             if number == 1:
-                for _ in range(150):
+                rounds = 0
+                while rounds < 150 or not seen:    # until others had their turn, also on a busy machine
+                    rounds += 1
                     self.bench.sweep(block.top, (0, 0, 9))
                     self.bench.undo()
                     self.bench.block((50, 0, 0), (1, 1, 1))
