@@ -22,4 +22,4 @@ pub use Rattle.undo_journal.specs.Histories.{IsConsistent, after_calls, redos, t
 pub use Rattle.undo_journal.specs.Journal.{DraftJournal, IsRecorded, Journal, after_act, after_commit, after_redo, after_step, after_undo, new_draft, new_journal, plain}
 pub use Rattle.undo_journal.specs.Machine.{DraftState, Machine, accepted, act_refusal, ahead, back_to, commit, depth, draft_step, held, open_draft, redo, redo_refusal, undo, undo_refusal}
 pub use Rattle.undo_journal.specs.Recorded.{model_at}
-pub use Rattle.undo_journal.specs.declared.record.Record.{Record}
+pub use Rattle.undo_journal.specs.Records.{Record}

@@ -33,9 +33,9 @@ fn same(op: &Op) -> Option<Op> {
 fn last_operators(alloc: Global, session: &Session) -> Result<Vec<Op>, AllocError> {
     let mut ops = Vec::new(alloc);
     if session.depth() > 0 {
-        let forward = &session.record(session.depth() - 1).forward;
-        for i in 0..forward.len() {
-            if let Some(op) = same(forward.get(i)) {
+        let record = session.record(session.depth() - 1);
+        for i in 0..record.len() {
+            if let Some(op) = same(record.forward(i).op()) {
                 ops.push(op)?;
             }
         }

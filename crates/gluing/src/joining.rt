@@ -135,6 +135,9 @@ fn take_steps(draft: &mut Draft, f: u32, other: u32) -> Result<(), AllocError>
 /// How many steps a glue of two faces with four corners takes.
 const USUAL_STEPS: usize = 14;
 
+/// How many of these steps don't tell their inverses: all but the mefs.
+const USUAL_UNTOLD: usize = 11;
+
 /// Glues the other face of the draft's model to face f, if that isn't refused. First it asks for memory to list as many steps as most glues
 /// take. On `AllocError` the draft is as it was.
 #[tactic(auto, using(undo_journal::proofs::Marks::further_none, undo_journal::proofs::Marks::further_back, undo_journal::proofs::Marks::back_at_mark))]
@@ -145,7 +148,7 @@ pub(crate) fn try_join(draft: &mut Draft, f: u32, other: u32) -> Result<(), Allo
     ensures further { IsFurther draft.old draft.new }
     ensures err { OnErr result (draft.new ≡ draft.old) }
 {
-    draft.reserve(USUAL_STEPS)?;
+    draft.reserve(USUAL_STEPS, USUAL_UNTOLD)?;
     let mark = draft.mark();
     match take_steps(draft, f, other) {
         Ok(()) => Ok(()),

@@ -1,9 +1,16 @@
 -- An operator that was applied leaves a sound model, in which its inverse is accepted and gives the model before.
 use Rattle.low_euler.proofs.Prelude.{◌≡◌, ℕ, List, ap, ◌∙◌, Kind, Solid, Face, Loop, Edge, Vertex, Model, first_false, effect, inverse, Store, Op, effect_keeps_sound, inverse_goes, inverse_undoes, IsReady, AllRoom, HasRoomFor, Accepts, after, made, KeepsRoom}
+use Rattle.std.specs.Prelude.{Option, Some, None}
 use Rattle.low_euler.proofs.Made.{room_kept}
+use Rattle.low_euler.specs.Told.{AcceptsTold, after_told}
 
 pub ready_after : (s : Store) (o : Op) → Accepts s o → IsReady (after s o)
 ready_after s o ok = record { sound = effect_keeps_sound s.model o ok.ready.sound ok.holds; bare = ok.ready.bare }
+
+-- what an operator tells, applied if it tells something
+pub ready_told : (s : Store) (told : Option Op) → AcceptsTold s told → IsReady (after_told s told)
+ready_told s (Some o) ok = ready_after s o ok
+ready_told s None ready = ready
 
 -- another model leaves each room
 pub keeps_room : (s : Store) (M : Model) → KeepsRoom s (record s { model = M })

@@ -1,8 +1,9 @@
 //! Applies operators, and answers the inverse of each if it is asked for.
-ghost use Rattle.std.specs.Prelude.{◌≡◌};
+ghost use Rattle.std.specs.Prelude.{◌≡◌, is_some};
 ghost use Rattle.euler_operators.specs.Common.{inverse};
 ghost use Rattle.euler_conditions.specs.Ready.{IsReady, Accepts, after};
 ghost use Rattle.low_euler.specs.Room.{faces_for};
+ghost use Rattle.low_euler.specs.Told.{told_inverse, AcceptsTold, after_told};
 
 use crate::face_operators::{kfmrh, merge, mfkrh, outer, part, ring_in, ring_out};
 use crate::inverse::inverse_of;
@@ -66,4 +67,31 @@ pub fn apply(arena: &mut Arena, op: &Op, room: MovedFaces) -> Op
     let back = inverse_of(arena, op, room);
     replay(arena, op);
     back
+}
+
+/// Applies the inverse that an operator tells, and answers whether it tells one.
+fn change_back(arena: &mut Arena, op: &Op) -> bool
+    requires { AcceptsTold arena.old (told_inverse op.now) }
+    ensures told { result ≡ is_some (told_inverse op.now) }
+    ensures effect { arena.new ≡ after_told arena.old (told_inverse op.now) }
+{
+    match op {
+        Op::Mvfs(s, _, _, _, _) => kvfs(arena, *s),
+        Op::Mev(_, _, h, _, _) => kev(arena, *h),
+        Op::Mef(_, _, h, _, _) => kef(arena, *h),
+        Op::Part(kept, made, _) => merge(arena, *kept, *made),
+        _ => return false,
+    }
+    true
+}
+
+/// Applies the inverse that an operator tells, as `replay` does, and answers `true`: mvfs, mev, mef and Part tell theirs. Of any other
+/// operator it answers `false`, and nothing has changed.
+pub fn replay_told(arena: &mut Arena, op: &Op) -> bool
+    requires { AcceptsTold arena.old (told_inverse op.now) }
+    ensures told { result ≡ is_some (told_inverse op.now) }
+    ensures effect { arena.new ≡ after_told arena.old (told_inverse op.now) }
+    ensures ready { IsReady arena.new }
+{
+    change_back(arena, op)
 }

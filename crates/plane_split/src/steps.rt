@@ -82,6 +82,11 @@ fn usual_steps(cuts: &Cuts) -> usize {
     edges + 4 * faces + 2
 }
 
+/// How many of these steps don't tell their inverses: the kefs, the kemr and the mfkrh that close the section.
+fn usual_untold(cuts: &Cuts) -> usize {
+    cuts.faces.len().min(NUMBER_LIMIT as usize) + 1
+}
+
 /// Splits solid s of the draft's model by the plane, if that can begin and these are its cuts. First it asks for memory to list as many
 /// steps as most splits take. On a refusal or `Memory` the draft is as it was.
 #[tactic(auto, using(undo_journal::proofs::Marks::further_none, undo_journal::proofs::Marks::further_back, undo_journal::proofs::Marks::back_at_mark))]
@@ -104,7 +109,7 @@ pub(crate) fn try_split(
     ensures further { IsFurther draft.old draft.new }
     ensures err { OnErr result (draft.new ≡ draft.old) }
 {
-    if let Err(error) = draft.reserve(usual_steps(cuts)) {
+    if let Err(error) = draft.reserve(usual_steps(cuts), usual_untold(cuts)) {
         return Err(Failure::Memory(error));
     }
     let mark = draft.mark();

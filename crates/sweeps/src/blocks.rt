@@ -136,7 +136,7 @@ fn draw_block(
     ensures further { IsFurther draft.old draft.new }
 {
     draft.stays_consistent();
-    draft.reserve(13)?;
+    draft.reserve(13, 0)?;
     let corners = base(corner, size);
     draw_lamina(draft, taken, solid, corners.as_slice())?;
     let items = base_items(taken);

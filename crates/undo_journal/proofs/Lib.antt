@@ -1,5 +1,4 @@
 mod Prelude
-pub mod Lasts
 pub mod Copies
 pub mod Journals
 pub mod Consistent
@@ -9,3 +8,4 @@ pub mod Marks
 pub mod Corners
 pub mod Kept
 pub mod Seen
+pub mod Inverses

@@ -23,6 +23,14 @@ pub ops-append : (s : Store) (xs ys : List Op) → AllHaveRoom s xs → AllHaveR
 ops-append s [] ys a b = b
 ops-append s (o ∷ xs) ys a b = (a.0, ops-append s xs ys a.1 b)
 
+pub ops-front : (s : Store) (xs ys : List Op) → AllHaveRoom s (xs ++ ys) → AllHaveRoom s xs
+ops-front s [] ys a = tt
+ops-front s (o ∷ xs) ys a = (a.0, ops-front s xs ys a.1)
+
+pub ops-back : (s : Store) (xs ys : List Op) → AllHaveRoom s (xs ++ ys) → AllHaveRoom s ys
+ops-back s [] ys a = a
+ops-back s (o ∷ xs) ys a = ops-back s xs ys a.1
+
 pub ops-reverse : (s : Store) (xs : List Op) → AllHaveRoom s xs → AllHaveRoom s (reverse xs)
 ops-reverse s [] a = tt
 ops-reverse s (o ∷ xs) a = subst (AllHaveRoom s) (sym (reverse-append (o ∷ []) xs)) (ops-append s (reverse xs) (o ∷ []) (ops-reverse s xs a.1) (a.0, tt))

@@ -1,6 +1,6 @@
 -- Operators replayed in turn.
 use Rattle.undo_journal.proofs.Prelude.{sym, ap, subst, ◌∙◌, arith, ◌≡◌, ℕ, zero, suc, ◌+◌, ◌-◌, ◌<◌, ◌≤◌, List, [], ◌∷◌, ◌++◌, take, get_or, length, reverse, None, take_all, take_more, reverse-append, Model, first_false, effect, Store, Op, effects, AreAccepted, effects-append, IsReady, HasRoomFor, Accepts, after, AllHaveRoom, all_after}
-use Rattle.undo_journal.proofs.Rooms.{op_kept, ops_kept, keeps_all_after}
+use Rattle.undo_journal.proofs.Rooms.{op_kept, keeps_all_after}
 
 goes_at : (M : Model) (ops : List Op) (i : ℕ) (o : Op) → i < length ops → o ≡ get_or ops i o → AreAccepted M ops → first_false (effects M (take i ops)) o ≡ None
 goes_at M [] i o h e a = absurd (omega arith)
@@ -36,22 +36,3 @@ reverse_last ops o some is =
     ap (λ (p : Op). take (length ops - 1) ops ++ p ∷ []) is ∙ sym (take_more ops (length ops - 1) o (omega (arith, some)))
     ∙ take_all (length ops - 1 + 1) ops (omega (arith, some)) in
     ap reverse (sym whole) ∙ reverse-append (take (length ops - 1) ops) (o ∷ [])
-
--- the last one is accepted now, and then the others
-pub accepts_last : (s : Store) (ops : List Op) (o : Op) → 1 ≤ length ops → o ≡ get_or ops (length ops - 1) o → AreAccepted s.model (reverse ops) → AllHaveRoom s (reverse ops) → IsReady s → Accepts s o
-accepts_last s ops o some is accepted room ready =
-    let turned = reverse_last ops o some is in record {
-      ready = ready;
-      holds = (subst (AreAccepted s.model) turned accepted).0;
-      room = (subst (AllHaveRoom s) turned room).0;
-    }
-
-module _ (s : Store) (ops : List Op) (o : Op) (some : 1 ≤ length ops) (is : o ≡ get_or ops (length ops - 1) o) where
-  pub others_accepted : AreAccepted s.model (reverse ops) → AreAccepted (after s o).model (reverse (take (length ops - 1) ops))
-  others_accepted accepted = (subst (AreAccepted s.model) (reverse_last ops o some is) accepted).1
-
-  pub others_room : AllHaveRoom s (reverse ops) → AllHaveRoom (after s o) (reverse (take (length ops - 1) ops))
-  others_room room = ops_kept s (after s o) (reverse (take (length ops - 1) ops)) (keeps_all_after s (o ∷ [])) (subst (AllHaveRoom s) (reverse_last ops o some is) room).1
-
-  pub others_after : all_after (after s o) (reverse (take (length ops - 1) ops)) ≡ all_after s (reverse ops)
-  others_after = ap (all_after s) (sym (reverse_last ops o some is))

@@ -6,8 +6,7 @@ use Rattle.euler_operators.specs.declared.Op.{Op}
 use Rattle.euler_operators.specs.Common.{Model, effect, inverse}
 use Rattle.euler_laws.specs.Laws.{effects, AreAccepted}
 use Rattle.low_euler.specs.Codes.{coded_model}
-use Rattle.undo_journal.specs.contracts.record.Record as command
-use Rattle.undo_journal.specs.declared.record.Record.{Record}
+use Rattle.undo_journal.specs.Records.{Record, coded_record}
 use Rattle.undo_journal.specs.Machine.{Machine, DraftState, start, held, depth, act, undo, redo, draft_step, commit, coded_machine}
 
 -- the machine, and the records of all commands in their order, with those of the commands ahead
@@ -89,7 +88,7 @@ back_at d mark = record { session = d.session; model = effects (held d.session.m
 
 -- codes, through which contracts see a session and a draft
 abbrev pub coded_journal : Coded Journal
-coded_journal = code_by (Machine × List Record) (coded× coded_machine (coded_list (command.the_row).coded)) (λ j. (j.machine, j.records)) (λ t. record { machine = t.0; records = t.1 }) (λ _. refl)
+coded_journal = code_by (Machine × List Record) (coded× coded_machine (coded_list coded_record)) (λ j. (j.machine, j.records)) (λ t. record { machine = t.0; records = t.1 }) (λ _. refl)
 
 abbrev pub coded_draft_journal : Coded DraftJournal
 coded_draft_journal = code_by (Journal × (Model × (List Op × List Op)))

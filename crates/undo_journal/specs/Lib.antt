@@ -4,4 +4,6 @@ pub mod Journal
 pub mod Histories
 pub mod Laws
 pub mod Sessions
-pub mod Listed
+pub mod Told
+pub mod Rings
+pub mod Records

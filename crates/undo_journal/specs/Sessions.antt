@@ -5,7 +5,7 @@ use Rattle.low_euler.specs.Store.{Store}
 use Rattle.euler_operators.specs.declared.Op.{Op}
 use Rattle.euler_laws.specs.Laws.{effects, AreAccepted}
 use Rattle.low_euler.specs.Ready.{IsReady, HasRoomFor}
-use Rattle.undo_journal.specs.declared.record.Record.{Record}
+use Rattle.undo_journal.specs.Records.{Record}
 use Rattle.undo_journal.specs.Machine.{Machine}
 use Rattle.undo_journal.specs.Journal.{Journal, DraftJournal, each_inverse}
 

@@ -7,9 +7,10 @@ ghost use Rattle.undo_journal.specs.Sessions.{RecordsHaveRoom, AllHaveRoom};
 ghost use Rattle.undo_journal.specs.Histories.{IsConsistent};
 ghost use Rattle.euler_operators.specs.declared.Refusal.{Refusal};
 
-use crate::record::{OpList, PLACES, Record, Spare, no_spare};
+use crate::record::{PLACES, Record, Spare, no_spare};
 use crate::session::{Failure, Session, reuse_ahead};
-use crate::steps::{place_for_one, replay_back, step, take_back};
+use crate::steps::{place_for_one, step};
+use crate::told::{replay_back, take_back};
 use euler_operators::Op;
 use low_euler::{Arena, check};
 use std::alloc::{AllocError, Global};
@@ -18,14 +19,14 @@ use std::mem::replace;
 
 /// A session whose arena is being changed step by step. It has to be spent, by `commit` or by `abandon`.
 ///
-/// `forward` holds the steps, and `back` the inverse of each. `records` has a place for one more record.
+/// `untold` holds the inverses that the steps don't tell, in the order of the steps. `records` has a place for one more record.
 pub struct Draft {
     alloc: Global,
     arena: Box<Arena, Global>,
     records: Vec<Record>,
     place: usize,
-    forward: Vec<Op>,
-    back: Vec<Op>,
+    steps: Vec<Op>,
+    untold: Vec<Op>,
     spare: Box<Spare, Global>,
 }
 
@@ -39,10 +40,11 @@ impl Model for Draft {
     ghost coded = { coded_draft_journal };
 
     ghost use Rattle.undo_journal.specs.Sessions.{draft_of, IsDrafted};
+    ghost use Rattle.undo_journal.specs.Told.{step_inverses};
 
-    ghost view = { λ d. draft_of d.arena.value.model d.records.items d.place d.forward.items d.back.items };
+    ghost view = { λ d. draft_of d.arena.value.model d.records.items d.place d.steps.items (step_inverses d.steps.items d.untold.items) };
 
-    ghost invariant = { λ d. (vec_len d.records < vec_capacity d.records) × IsDrafted d.arena.value d.records.items d.place d.forward.items d.back.items };
+    ghost invariant = { λ d. (vec_len d.records < vec_capacity d.records) × IsDrafted d.arena.value d.records.items d.place d.steps.items (step_inverses d.steps.items d.untold.items) };
 }
 
 impl Draft {
@@ -64,18 +66,18 @@ impl Draft {
             mut spare,
         } = session;
         let Spare {
-            mut forward,
-            mut back,
+            mut steps,
+            mut untold,
         } = replace(&mut *spare, no_spare(alloc));
-        forward.clear();
-        back.clear();
+        steps.clear();
+        untold.clear();
         Ok(Draft {
             alloc,
             arena,
             records,
             place,
-            forward,
-            back,
+            steps,
+            untold,
             spare,
         })
     }
@@ -101,12 +103,13 @@ impl Draft {
         let _ = &*self.arena;
     }
 
-    /// Takes memory for so many more steps, all at once. Nothing else changes, even on `AllocError`.
-    pub fn reserve(&mut self, steps: usize) -> Result<(), AllocError>
+    /// Takes memory for so many more steps, and for the inverses of so many of them that don't tell theirs, all at once. Nothing else
+    /// changes, even on `AllocError`.
+    pub fn reserve(&mut self, steps: usize, untold: usize) -> Result<(), AllocError>
         ensures { self.new ≡ self.old }
     {
-        self.forward.reserve(steps)?;
-        self.back.reserve(steps)
+        self.steps.reserve(steps)?;
+        self.untold.reserve(untold)
     }
 
     /// Takes as a step an operator that is accepted: its conditions aren't tested. All memory for it and for its inverse is taken before
@@ -121,8 +124,8 @@ impl Draft {
         step(
             self.alloc,
             &mut *self.arena,
-            &mut self.forward,
-            &mut self.back,
+            &mut self.steps,
+            &mut self.untold,
             op,
         )
     }
@@ -149,7 +152,7 @@ impl Draft {
     pub fn mark(&self) -> usize
         ensures { IsMark self.now result }
     {
-        self.forward.len()
+        self.steps.len()
     }
 
     /// Takes back the steps since a mark, the last first. If there are no more steps than the mark says, nothing changes. It takes no
@@ -157,8 +160,7 @@ impl Draft {
     pub fn back_to(&mut self, mark: usize)
         ensures { self.new ≡ back_at self.old mark }
     {
-        take_back(&mut *self.arena, &mut self.back, mark);
-        self.forward.truncate(mark);
+        take_back(&mut *self.arena, &mut self.steps, &mut self.untold, mark);
     }
 
     /// Makes the steps one command, even if there are none. It drops the models ahead. It takes no memory.
@@ -171,16 +173,12 @@ impl Draft {
             arena,
             mut records,
             place,
-            forward,
-            back,
+            steps,
+            untold,
             mut spare,
         } = self;
         reuse_ahead(alloc, &mut records, place, &mut *spare);
-        let record = Record {
-            forward: OpList::many(forward),
-            back: OpList::turned(back),
-        };
-        records.push_reserved(record);
+        records.push_reserved(Record::of_steps(steps, untold));
         Session {
             alloc,
             arena,
@@ -199,11 +197,11 @@ impl Draft {
             mut arena,
             records,
             place,
-            forward,
-            back,
+            steps,
+            untold,
             spare,
         } = self;
-        replay_back(&mut *arena, back.as_slice());
+        replay_back(&mut *arena, steps.as_slice(), untold.as_slice());
         Session {
             alloc,
             arena,

@@ -1,8 +1,8 @@
 #![tactic(auto)]
 //! The undo journal: a session of commands, each of which can be undone and redone without limit, and drafts of commands.
 //!
-//! A session holds one arena. Each command leaves a record: its operators, and those that take it back. `undo` and `redo` replay these
-//! operators, and take no memory.
+//! A session holds one arena. Each command leaves a record: its operators, and those that take it back, but for those of either that the
+//! others tell. `undo` and `redo` replay these operators, and take no memory.
 //!
 //! # What is proved
 //!
@@ -24,10 +24,12 @@
 mod draft;
 mod laws;
 mod record;
+mod rings;
 mod session;
 mod steps;
+mod told;
 
 pub use draft::Draft;
 pub use laws::{histories_are_consistent, machines_are_copies, undo_gives_the_model_before};
-pub use record::{OpList, Record};
+pub use record::{Listed, Record};
 pub use session::{Failure, Session};

@@ -1,147 +1,227 @@
-//! The record of a command: lists of operators.
-ghost use Rattle.std.specs.Prelude.{◌≡◌, ◌<◌, [], ◌∷◌, length, reverse, slice_index_or, OnOk, OnErr};
-ghost use Rattle.euler_operators.specs.Common.{inverse};
+//! The record of a command.
+ghost use Rattle.std.specs.Prelude.{◌≡◌, ◌<◌, [], ◌∷◌, ◌++◌, length, true, slice_index_or, vec_len, vec_capacity};
 ghost use Rattle.euler_laws.specs.Laws.{AreAccepted};
 ghost use Rattle.low_euler.specs.Ready.{IsReady};
-ghost use Rattle.low_euler.specs.Room.{IsStepped};
-ghost use Rattle.low_euler.specs.Store.{HasGrown};
+ghost use Rattle.undo_journal.specs.Records.{one_record, op_of};
+ghost use Rattle.undo_journal.specs.Rings.{ring_op};
 ghost use Rattle.undo_journal.specs.Sessions.{AllHaveRoom, all_after};
+ghost use Rattle.undo_journal.specs.Told.{ArePaired, is_on_rings, tells, inverses_of, taken_back};
 
-use crate::steps::{replay_all, replay_back};
+use crate::rings::RingOp;
+use crate::steps::replay_all;
+use crate::told::{inverse_at, replay_back, replay_paired, tells, told_inverse};
 use euler_operators::Op;
-use low_euler::{Arena, advance, replay};
-use std::alloc::{AllocError, Global};
+use low_euler::{Arena, replay};
+use std::alloc::Global;
 use std::marker::Model;
 
 /// For how many records memory is taken at a time. The system gives a list of more than a few hundred records a block of its own, which it
 /// makes longer without a copy and whose pages it gives as they are touched.
 pub(crate) const PLACES: usize = 1024;
 
-/// Operators in the order in which they are applied. A list of one operator takes no memory of its own.
-#[derive(Drop)]
-pub struct OpList {
-    ops: Ops,
-}
-
-#[derive(Drop)]
-enum Ops {
-    One(Op),
-    /// Several operators. If `turned` is true, the first of them stands last.
-    Many { ops: Vec<Op>, turned: bool },
-}
-
-impl Model for OpList {
-    ghost use Rattle.std.specs.Prelude.{List};
-    ghost use Rattle.euler_operators.specs.declared.Op.{Op};
-    ghost use Rattle.undo_journal.specs.Listed.{listed};
-
-    ghost Value = { List Op };
-
-    ghost view = { λ a. listed a.ops };
-}
-
-impl OpList {
-    /// The list of one operator.
-    pub(crate) fn one(op: Op) -> Self
-        ensures { result ≡ op ∷ [] }
-    {
-        OpList { ops: Ops::One(op) }
-    }
-
-    /// The list of some operators.
-    pub(crate) fn many(ops: Vec<Op>) -> Self
-        ensures { result ≡ ops.items }
-    {
-        OpList {
-            ops: Ops::Many { ops, turned: false },
-        }
-    }
-
-    /// The list of some operators, from the last to the first. None of them is moved.
-    pub(crate) fn turned(ops: Vec<Op>) -> Self
-        ensures { result ≡ reverse ops.items }
-    {
-        OpList {
-            ops: Ops::Many { ops, turned: true },
-        }
-    }
-
-    /// Applies the operators in turn. Each is accepted at its turn and has its room. It takes no memory.
-    pub(crate) fn replay(&self, arena: &mut Arena)
-        requires ready { IsReady arena.old }
-        requires accepted { AreAccepted arena.old.model self.now }
-        requires room { AllHaveRoom arena.old self.now }
-        ensures effects { arena.new ≡ all_after arena.old self.now }
-        ensures ready { IsReady arena.new }
-    {
-        match &self.ops {
-            Ops::One(op) => replay(arena, op),
-            Ops::Many { ops, turned: false } => replay_all(arena, ops.as_slice()),
-            Ops::Many { ops, turned: true } => replay_back(arena, ops.as_slice()),
-        }
-    }
-
-    /// How many operators there are.
-    pub fn len(&self) -> usize
-        ensures { result ≡ length self.now }
-    {
-        match &self.ops {
-            Ops::One(_) => 1,
-            Ops::Many { ops, .. } => ops.len(),
-        }
-    }
-
-    /// The operator of this index, counted from 0.
-    pub fn get(&self, index: usize) -> &Op
-        requires { index < length self.now }
-        ensures { result.now ≡ slice_index_or self.now index result.now }
-    {
-        match &self.ops {
-            Ops::One(op) => op,
-            Ops::Many { ops, turned: false } => &ops[index],
-            Ops::Many { ops, turned: true } => &ops[ops.len() - 1 - index],
-        }
-    }
-}
-
-/// What a command did: `forward` takes the model before it to the model after it, and `back` leads the other way.
+/// What a command did: `forward` takes the model before it to the model after it, and `back` leads the other way. Both are in the order in
+/// which they are applied.
 #[derive(Drop)]
 pub struct Record {
-    pub forward: OpList,
-    pub back: OpList,
+    steps: Steps,
 }
 
-/// A record of one operator that isn't applied yet. `carry_out` writes its inverse.
-pub(crate) fn begun(op: Op) -> Record
-    ensures forward { result.forward ≡ op ∷ [] }
-    ensures back { length result.back ≡ 1 }
-{
-    Record {
-        forward: OpList::one(op),
-        back: OpList::one(Op::Kvfs(0)),
+#[derive(Drop)]
+enum Steps {
+    /// One operator, which tells its inverse.
+    Made(Op),
+    /// The inverse of one operator, which it tells.
+    Unmade(Op),
+    /// An operator on rings and its inverse, neither of which tells the other.
+    Rings(RingOp, RingOp),
+    /// Operators, and in their order the inverses that they don't tell.
+    Many { ops: Vec<Op>, untold: Vec<Op> },
+}
+
+/// An operator of a record: one that the record keeps, or one that was made from what it keeps.
+#[derive(Drop)]
+pub enum Listed<'a> {
+    Kept(&'a Op),
+    Made(Op),
+}
+
+impl Listed<'_> {
+    /// The operator.
+    pub fn op(&self) -> &Op
+        ensures { result.now ≡ op_of self.now }
+    {
+        match self {
+            Listed::Kept(op) => op,
+            Listed::Made(op) => op,
+        }
     }
 }
 
-/// Applies the operator of a record that was begun, and writes its inverse there, so that neither is moved.
-#[inline(always)]
-pub(crate) fn carry_out(
-    alloc: Global,
-    arena: &mut Arena,
-    entry: &mut Record,
-) -> Result<(), AllocError>
-    requires ready { IsReady arena.old }
-    requires one { length entry.old.forward ≡ 1 }
-    requires begun { length entry.old.back ≡ 1 }
-    requires accepted { AreAccepted arena.old.model entry.old.forward }
-    ensures forward { entry.new.forward ≡ entry.old.forward }
-    ensures stepped { OnOk result ((op : Op) → entry.old.forward ≡ op ∷ [] → IsStepped arena.old op arena.new) }
-    ensures back { OnOk result ((op : Op) → entry.old.forward ≡ op ∷ [] → entry.new.back ≡ inverse arena.old.model op ∷ []) }
-    ensures err { OnErr result (HasGrown arena.old arena.new) }
+/// The inverse of an operator that tells it.
+fn told(op: &Op) -> Listed<'_>
+    requires { tells op.now ≡ true }
+    ensures { op_of result ∷ [] ≡ inverses_of (op.now ∷ []) [] }
 {
-    let op = entry.forward.get(0);
-    match &mut entry.back.ops {
-        Ops::One(inverse) => advance(alloc, arena, op, inverse),
-        Ops::Many { ops, .. } => advance(alloc, arena, op, &mut ops[0]),
+    match told_inverse(op) {
+        Some(inverse) => Listed::Made(inverse),
+        None => unreachable!(),
+    }
+}
+
+impl Model for Record {
+    ghost use Rattle.undo_journal.specs.Records.{Record as command, coded_record, forward_of, back_of, AreWhole};
+
+    ghost Value = { command };
+
+    ghost coded = { coded_record };
+
+    ghost view = { λ r. record { forward = forward_of r.steps; back = back_of r.steps } };
+
+    ghost invariant = { λ r. AreWhole r.steps };
+}
+
+impl Record {
+    /// The record of an operator that tells its inverse.
+    #[inline(always)]
+    pub(crate) fn made(op: Op) -> Self
+        requires { tells op ≡ true }
+        ensures forward { result.forward ≡ op ∷ [] }
+        ensures back { result.back ≡ inverses_of (op ∷ []) [] }
+    {
+        Record {
+            steps: Steps::Made(op),
+        }
+    }
+
+    /// The record of the operator that its inverse tells.
+    #[inline(always)]
+    pub(crate) fn unmade(inverse: Op) -> Self
+        requires { tells inverse ≡ true }
+        ensures forward { result.forward ≡ inverses_of (inverse ∷ []) [] }
+        ensures back { result.back ≡ inverse ∷ [] }
+    {
+        Record {
+            steps: Steps::Unmade(inverse),
+        }
+    }
+
+    /// The record of an operator on rings and its inverse.
+    pub(crate) fn rings(op: RingOp, inverse: RingOp) -> Self
+        ensures forward { result.forward ≡ ring_op op ∷ [] }
+        ensures back { result.back ≡ ring_op inverse ∷ [] }
+    {
+        Record {
+            steps: Steps::Rings(op, inverse),
+        }
+    }
+
+    /// The record of some operators and, in their order, the inverses that they don't tell.
+    #[inline(always)]
+    pub(crate) fn of_steps(ops: Vec<Op>, untold: Vec<Op>) -> Self
+        requires { length (taken_back ops.items untold.items) ≡ length ops.items }
+        ensures forward { result.forward ≡ ops.items }
+        ensures back { result.back ≡ taken_back ops.items untold.items }
+    {
+        Record {
+            steps: Steps::Many { ops, untold },
+        }
+    }
+
+    /// Applies the operators of the command in turn. Each is accepted at its turn and has its room. It takes no memory.
+    pub(crate) fn replay(&self, arena: &mut Arena)
+        requires ready { IsReady arena.old }
+        requires accepted { AreAccepted arena.old.model self.now.forward }
+        requires room { AllHaveRoom arena.old self.now.forward }
+        ensures effects { arena.new ≡ all_after arena.old self.now.forward }
+        ensures ready { IsReady arena.new }
+    {
+        match &self.steps {
+            Steps::Made(op) => replay(arena, op),
+            Steps::Unmade(inverse) => replay_paired(arena, inverse),
+            Steps::Rings(op, _) => replay(arena, &op.op()),
+            Steps::Many { ops, .. } => replay_all(arena, ops.as_slice()),
+        }
+    }
+
+    /// Applies the operators that take the command back in turn. Each is accepted at its turn and has its room. It takes no memory.
+    pub(crate) fn replay_back(&self, arena: &mut Arena)
+        requires ready { IsReady arena.old }
+        requires accepted { AreAccepted arena.old.model self.now.back }
+        requires room { AllHaveRoom arena.old self.now.back }
+        ensures effects { arena.new ≡ all_after arena.old self.now.back }
+        ensures ready { IsReady arena.new }
+    {
+        match &self.steps {
+            Steps::Made(op) => replay_paired(arena, op),
+            Steps::Unmade(inverse) => replay(arena, inverse),
+            Steps::Rings(_, inverse) => replay(arena, &inverse.op()),
+            Steps::Many { ops, untold } => replay_back(arena, ops.as_slice(), untold.as_slice()),
+        }
+    }
+
+    /// How many operators the command has. As many take it back.
+    pub fn len(&self) -> usize
+        ensures forward { result ≡ length self.now.forward }
+        ensures back { result ≡ length self.now.back }
+    {
+        match &self.steps {
+            Steps::Made(_) | Steps::Unmade(_) | Steps::Rings(_, _) => 1,
+            Steps::Many { ops, .. } => ops.len(),
+        }
+    }
+
+    /// The operator of the command with this index, counted from 0.
+    pub fn forward(&self, index: usize) -> Listed<'_>
+        requires { index < length self.now.forward }
+        ensures { op_of result ≡ slice_index_or self.now.forward index (op_of result) }
+    {
+        match &self.steps {
+            Steps::Made(op) => Listed::Kept(op),
+            Steps::Unmade(inverse) => told(inverse),
+            Steps::Rings(op, _) => Listed::Made(op.op()),
+            Steps::Many { ops, .. } => Listed::Kept(&ops[index]),
+        }
+    }
+
+    /// The operator with this index, counted from 0, of those that take the command back.
+    pub fn back(&self, index: usize) -> Listed<'_>
+        requires { index < length self.now.back }
+        ensures { op_of result ≡ slice_index_or self.now.back index (op_of result) }
+    {
+        match &self.steps {
+            Steps::Made(op) => told(op),
+            Steps::Unmade(inverse) => Listed::Kept(inverse),
+            Steps::Rings(_, inverse) => Listed::Made(inverse.op()),
+            Steps::Many { ops, untold } => inverse_at(ops.as_slice(), untold.as_slice(), index),
+        }
+    }
+}
+
+/// Appends the record of an operator on rings and its inverse.
+#[inline(never)]
+fn keep_rings(records: &mut Vec<Record>, op: Op, inverse: Op)
+    requires op { is_on_rings op ≡ true }
+    requires inverse { is_on_rings inverse ≡ true }
+    requires place { vec_len records.old < vec_capacity records.old }
+    ensures { records.new.items ≡ records.old.items ++ one_record op inverse ∷ [] }
+{
+    records.push_reserved(Record::rings(RingOp::of(op), RingOp::of(inverse)));
+}
+
+/// Appends the record of an operator and its inverse.
+#[inline(always)]
+#[tactic(auto, using(crate::proofs::Inverses::both_on_rings))]
+pub(crate) fn keep_one(records: &mut Vec<Record>, op: Op, inverse: Op)
+    requires paired { ArePaired op inverse }
+    requires place { vec_len records.old < vec_capacity records.old }
+    ensures { records.new.items ≡ records.old.items ++ one_record op inverse ∷ [] }
+{
+    if tells(&op) {
+        records.push_reserved(Record::made(op));
+    } else if tells(&inverse) {
+        records.push_reserved(Record::unmade(inverse));
+    } else {
+        keep_rings(records, op, inverse);
     }
 }
 
@@ -151,23 +231,15 @@ const SPARE_PLACES: usize = 32;
 /// Two empty lists for the steps of the next draft. It needs no memory for as many steps as they have places.
 #[derive(Drop)]
 pub(crate) struct Spare {
-    pub(crate) forward: Vec<Op>,
-    pub(crate) back: Vec<Op>,
+    pub(crate) steps: Vec<Op>,
+    pub(crate) untold: Vec<Op>,
 }
 
 /// No places.
 pub(crate) fn no_spare(alloc: Global) -> Spare {
     Spare {
-        forward: Vec::new(alloc),
-        back: Vec::new(alloc),
-    }
-}
-
-/// The vector of a list of several operators.
-fn vector_of(list: OpList) -> Option<Vec<Op>> {
-    match list.ops {
-        Ops::Many { ops, .. } => Some(ops),
-        Ops::One(_) => None,
+        steps: Vec::new(alloc),
+        untold: Vec::new(alloc),
     }
 }
 
@@ -180,13 +252,12 @@ fn emptied(alloc: Global, mut ops: Vec<Op>) -> Vec<Op> {
     ops
 }
 
-/// The two lists of a record that is dropped, if each has several operators.
+/// The lists of a record that is dropped, emptied.
 pub(crate) fn spare_of(alloc: Global, record: Record) -> Spare {
-    let Record { forward, back } = record;
-    match (vector_of(forward), vector_of(back)) {
-        (Some(forward), Some(back)) => Spare {
-            forward: emptied(alloc, forward),
-            back: emptied(alloc, back),
+    match record.steps {
+        Steps::Many { ops, untold } => Spare {
+            steps: emptied(alloc, ops),
+            untold: emptied(alloc, untold),
         },
         _ => no_spare(alloc),
     }

@@ -10,31 +10,22 @@ ghost use Rattle.euler_laws.specs.Laws.{effects, AreAccepted};
 ghost use Rattle.euler_operators.specs.Common.{verdict};
 ghost use Rattle.euler_operators.specs.declared.Refusal.{Refusal};
 
-use crate::record::{PLACES, Record, Spare, begun, carry_out, no_spare, spare_of};
+use crate::record::{PLACES, Record, Spare, keep_one, no_spare, spare_of};
 use crate::steps::place_for_one;
 use euler_operators::{Op, Refusal, Why};
-use low_euler::{Arena, check};
+use low_euler::{Arena, advance, check};
 use std::alloc::{AllocError, Global};
 use std::marker::Model;
 
-/// Drops the records from a place on but for the last one, which comes to that place.
-#[inline(never)]
-fn move_last(records: &mut Vec<Record>, place: usize)
-    ensures { (rs : List Record) (r : Record) → records.old.items ≡ rs ++ r ∷ [] → records.new.items ≡ take place rs ++ r ∷ [] }
-{
-    if let Some(record) = records.pop() {
-        records.truncate(place);
-        records.push_reserved(record);
-    }
-}
-
-/// Drops the records from a place on but for the last one, which comes to that place. If it stands there, this costs one test.
+/// Drops the records from a place on. If there are none, this costs one test.
 #[inline(always)]
-fn keep_last(records: &mut Vec<Record>, place: usize, last: usize)
-    ensures { (rs : List Record) (r : Record) → records.old.items ≡ rs ++ r ∷ [] → last ≡ length rs → place ≤ last → records.new.items ≡ take place rs ++ r ∷ [] }
+fn drop_ahead(records: &mut Vec<Record>, place: usize)
+    ensures items { records.new.items ≡ take place records.old.items }
+    ensures capacity { vec_capacity records.new ≡ vec_capacity records.old }
+    ensures len { vec_len records.new ≤ vec_len records.old }
 {
-    if place < last {
-        move_last(records, place);
+    if place < records.len() {
+        records.truncate(place);
     }
 }
 
@@ -154,13 +145,11 @@ impl Session {
         ensures err { OnErr result (self.new ≡ self.old) }
     {
         place_for_one(&mut self.records, PLACES)?;
-        let last = self.records.len();
-        self.records.push_reserved(begun(op));
-        if let Err(error) = carry_out(self.alloc, &mut *self.arena, &mut self.records[last]) {
-            self.records.truncate(last);
-            return Err(error);
-        }
-        keep_last(&mut self.records, self.place, last);
+        // `advance` replaces this operator
+        let mut inverse = Op::Kvfs(0);
+        advance(self.alloc, &mut *self.arena, &op, &mut inverse)?;
+        drop_ahead(&mut self.records, self.place);
+        keep_one(&mut self.records, op, inverse);
         self.place += 1;
         Ok(())
     }
@@ -197,7 +186,7 @@ impl Session {
         }
         self.place -= 1;
         let record = &self.records[self.place];
-        record.back.replay(&mut *self.arena);
+        record.replay_back(&mut *self.arena);
         Ok(())
     }
 
@@ -214,7 +203,7 @@ impl Session {
             });
         }
         let record = &self.records[self.place];
-        record.forward.replay(&mut *self.arena);
+        record.replay(&mut *self.arena);
         self.place += 1;
         Ok(())
     }

@@ -1,12 +1,16 @@
 //! Operators applied in turn.
-ghost use Rattle.std.specs.Prelude.{◌≡◌, ◌<◌, vec_len, [], ◌∷◌, ◌++◌, OnOk, OnErr, None, take, drop, reverse, vec_capacity};
+ghost use Rattle.std.specs.Prelude.{◌≡◌, ◌<◌, vec_len, [], ◌∷◌, ◌++◌, OnOk, OnErr, None, Some, false, vec_capacity};
 ghost use Rattle.low_euler.specs.Store.{HasGrown};
 ghost use Rattle.euler_operators.specs.Common.{first_false, inverse};
 ghost use Rattle.euler_laws.specs.Laws.{AreAccepted};
 ghost use Rattle.low_euler.specs.Ready.{IsReady};
 ghost use Rattle.low_euler.specs.Room.{IsStepped};
+ghost use Rattle.low_euler.specs.Told.{told_inverse};
 ghost use Rattle.undo_journal.specs.Sessions.{AllHaveRoom, all_after};
+ghost use Rattle.undo_journal.specs.Told.{tells, step_inverses};
+ghost use Rattle.euler_operators.specs.declared.Op.{Op};
 
+use crate::told::tells;
 use euler_operators::Op;
 use low_euler::{Arena, advance, replay};
 use std::alloc::{AllocError, Global};
@@ -22,38 +26,6 @@ pub(crate) fn replay_all(arena: &mut Arena, ops: &[Op])
     for op in ops {
         replay(arena, op);
     }
-}
-
-/// Applies operators from the last to the first. Each is accepted at its turn and has its room. It takes no memory.
-#[tactic(auto, using(crate::proofs::Turns::accepts_last))]
-pub(crate) fn replay_back(arena: &mut Arena, ops: &[Op])
-    requires ready { IsReady arena.old }
-    requires accepted { AreAccepted arena.old.model (reverse ops.now) }
-    requires room { AllHaveRoom arena.old (reverse ops.now) }
-    ensures effects { arena.new ≡ all_after arena.old (reverse ops.now) }
-    ensures ready { IsReady arena.new }
-{
-    let mut rest = ops;
-    'ops: while let [others @ .., op] = rest {
-        replay(arena, op);
-        rest = others;
-    }
-}
-
-/// Applies the operators of a list from a place on, the last first, and drops them from the list. It takes no memory.
-pub(crate) fn take_back(arena: &mut Arena, back: &mut Vec<Op>, place: usize)
-    requires ready { IsReady arena.old }
-    requires accepted { AreAccepted arena.old.model (reverse (drop place back.old.items)) }
-    requires room { AllHaveRoom arena.old (reverse (drop place back.old.items)) }
-    ensures effects { arena.new ≡ all_after arena.old (reverse (drop place back.old.items)) }
-    ensures ready { IsReady arena.new }
-    ensures items { back.new.items ≡ take place back.old.items }
-{
-    if back.len() <= place {
-        return;
-    }
-    replay_back(arena, &back[place..]);
-    back.truncate(place);
 }
 
 /// Makes places for so many more in a list. It is a function of its own so that the test for a free place is compiled into the caller.
@@ -79,36 +51,58 @@ pub(crate) fn place_for_one<T>(list: &mut Vec<T>, more: usize) -> Result<(), All
     more_places(list, more)
 }
 
-/// Applies an operator that is accepted, and appends it and its inverse to two lists. All memory is taken before the change: on
-/// `AllocError` the model and the lists are as they were.
+/// Makes a place for the inverse of an operator, if it doesn't tell that.
+#[inline(always)]
+fn place_for_inverse(untold: &mut Vec<Op>, op: &Op) -> Result<(), AllocError>
+    ensures items { untold.new.items ≡ untold.old.items }
+    ensures place { OnOk result (tells op.now ≡ false → vec_len untold.new < vec_capacity untold.new) }
+{
+    if tells(op) {
+        return Ok(());
+    }
+    place_for_one(untold, 1)
+}
+
+/// Appends a step, and its inverse to those kept, if the step doesn't tell it.
+#[inline(always)]
+fn keep_step(steps: &mut Vec<Op>, untold: &mut Vec<Op>, op: Op, inverse: Op)
+    requires place { vec_len steps.old < vec_capacity steps.old }
+    requires inverse_place { tells op ≡ false → vec_len untold.old < vec_capacity untold.old }
+    requires told { (told : Op) → told_inverse op ≡ Some told → told ≡ inverse }
+    ensures steps { steps.new.items ≡ steps.old.items ++ op ∷ [] }
+    ensures inverses { step_inverses steps.new.items untold.new.items ≡ step_inverses steps.old.items untold.old.items ++ inverse ∷ [] }
+{
+    let told = tells(&op);
+    steps.push_reserved(op);
+    if !told {
+        untold.push_reserved(inverse);
+    }
+}
+
+/// Applies an operator that is accepted, appends it to some steps, and its inverse to those kept, if it doesn't tell that. All memory is
+/// taken before the change: on `AllocError` the model and the lists are as they were.
 #[inline(always)]
 pub(crate) fn step(
     alloc: Global,
     arena: &mut Arena,
-    forward: &mut Vec<Op>,
-    back: &mut Vec<Op>,
+    steps: &mut Vec<Op>,
+    untold: &mut Vec<Op>,
     op: Op,
 ) -> Result<(), AllocError>
     requires ready { IsReady arena.old }
     requires accepted { first_false arena.old.model op ≡ None }
     ensures stepped { OnOk result (IsStepped arena.old op arena.new) }
-    ensures forward { OnOk result (forward.new.items ≡ forward.old.items ++ op ∷ []) }
-    ensures back { OnOk result (back.new.items ≡ back.old.items ++ inverse arena.old.model op ∷ []) }
+    ensures steps { OnOk result (steps.new.items ≡ steps.old.items ++ op ∷ []) }
+    ensures inverses { OnOk result (step_inverses steps.new.items untold.new.items ≡ step_inverses steps.old.items untold.old.items ++ inverse arena.old.model op ∷ []) }
     ensures err { OnErr result (HasGrown arena.old arena.new) }
-    ensures err_forward { OnErr result (forward.new.items ≡ forward.old.items) }
-    ensures err_back { OnErr result (back.new.items ≡ back.old.items) }
+    ensures err_steps { OnErr result (steps.new.items ≡ steps.old.items) }
+    ensures err_inverses { OnErr result (step_inverses steps.new.items untold.new.items ≡ step_inverses steps.old.items untold.old.items) }
 {
-    place_for_one(forward, 1)?;
-    place_for_one(back, 1)?;
-    let applied = forward.len();
-    let inverse = back.len();
-    forward.push_reserved(op);
+    place_for_one(steps, 1)?;
+    place_for_inverse(untold, &op)?;
     // `advance` replaces this operator
-    back.push_reserved(Op::Kvfs(0));
-    if let Err(error) = advance(alloc, arena, &forward[applied], &mut back[inverse]) {
-        forward.truncate(applied);
-        back.truncate(inverse);
-        return Err(error);
-    }
+    let mut inverse = Op::Kvfs(0);
+    advance(alloc, arena, &op, &mut inverse)?;
+    keep_step(steps, untold, op, inverse);
     Ok(())
 }

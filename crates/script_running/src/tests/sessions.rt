@@ -87,11 +87,10 @@ fn is_refused(answer: Result<(), Failure>, wanted: Refusal) -> bool {
     }
 }
 
-/// Asserts that a session has as many commands, and that the last one's record has as many operators each way.
+/// Asserts that a session has as many commands, and that the last one has as many operators.
 pub fn has_record(rt: &impl Abort, session: &Session, depth: usize, length: usize) {
     assert!(rt; session.depth() == depth && depth > 0);
-    let record = session.record(depth - 1);
-    assert!(rt; record.forward.len() == length && record.back.len() == length);
+    assert!(rt; session.record(depth - 1).len() == length);
 }
 
 fn faces(rt: &impl Abort, alloc: Global, numbers: &[u32]) -> FaceList {

@@ -1,14 +1,25 @@
-use Rattle.undo_journal.proofs.Prelude.{sym, subst, ap, ◌∙◌, ◌≡◌, ◌+◌, ◌++◌, List, [], ◌∷◌, take, Op, Record, journal_of, command_of, IsKept}
+use Rattle.undo_journal.proofs.Prelude.{sym, subst, ap, ◌∙◌, ◌≡◌, ◌+◌, ◌++◌, List, [], ◌∷◌, take, Op, Record, journal_of, command_of, IsKept, step_inverses}
+use Rattle.undo_journal.proofs.Inverses.{turned, whole}
 use Rattle.undo_journal.proofs.Kept.{kept_commit}
 use Rattle.undo_journal.proofs.Seen.{commit_seen}
 use Rattle.undo_journal.proofs.draft.Draft.commit.Goals as goal
 
-abbrev records : (c : goal.After-push_reserved) → c.push_reserved.new.self.items ≡ take c.self.inside.place c.self.inside.records.items ++ command_of c.self.inside.forward.items c.self.inside.back.items ∷ []
+pub of_steps-requires : goal.of_steps-requires
+of_steps-requires c = whole _ c.self.inside.steps.items c.self.inside.untold.items c.self.invariant.1.paired
+
+abbrev inverses : (c : goal.After-push_reserved) → List Op
+inverses c = step_inverses c.self.inside.steps.items c.self.inside.untold.items
+
+abbrev command : (c : goal.After-push_reserved) → c.of_steps.result ≡ command_of c.self.inside.steps.items (inverses c)
+command c =
+    let back = c.of_steps.ensures.back ∙ sym (turned c.self.inside.steps.items c.self.inside.untold.items) in
+    λ i. record { forward = c.of_steps.ensures.forward i; back = back i }
+
+abbrev records : (c : goal.After-push_reserved) → c.push_reserved.new.self.items ≡ take c.self.inside.place c.self.inside.records.items ++ command_of c.self.inside.steps.items (inverses c) ∷ []
 records c =
     c.push_reserved.ensures.items
-    ∙ ap (λ (rs : List Record). rs ++ record { forward = c.many.result; back = c.turned.result } ∷ []) c.reuse_ahead.ensures.items
-    ∙ ap (λ (ops : List Op). take c.self.inside.place c.self.inside.records.items ++ record { forward = ops; back = c.turned.result } ∷ []) c.many.ensures
-    ∙ ap (λ (ops : List Op). take c.self.inside.place c.self.inside.records.items ++ record { forward = c.self.inside.forward.items; back = ops } ∷ []) c.turned.ensures
+    ∙ ap (λ (rs : List Record). rs ++ c.of_steps.result ∷ []) c.reuse_ahead.ensures.items
+    ∙ ap (λ (r : Record). take c.self.inside.place c.self.inside.records.items ++ r ∷ []) (command c)
 
 pub invariant_of-result : goal.invariant_of-result
 invariant_of-result c =

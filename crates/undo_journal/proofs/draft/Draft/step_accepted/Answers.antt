@@ -44,17 +44,17 @@ pub invariant_of-self : goal.invariant_of-self
 invariant_of-self c =
     let at = c.deref_mut.ensures.value in (
       c.self.invariant.0,
-      either _ _ _ _ _ _ _ c.self.invariant.1 (goes_on c) _ _ c.step.result (stepped_at _ _ _ _ at _ c.step.ensures.stepped) c.step.ensures.forward (back_at _ _ c.step.new.arena _ at _ _ _ c.step.ensures.back)
-          (grown_at _ _ _ c.args.op at _ c.step.ensures.err) c.step.ensures.err_forward c.step.ensures.err_back,
+      either _ _ _ _ _ _ _ c.self.invariant.1 (goes_on c) _ _ c.step.result (stepped_at _ _ _ _ at _ c.step.ensures.stepped) c.step.ensures.steps (back_at _ _ c.step.new.arena _ at _ _ _ c.step.ensures.inverses)
+          (grown_at _ _ _ c.args.op at _ c.step.ensures.err) c.step.ensures.err_steps c.step.ensures.err_inverses,
     )
 
 pub returns-clause-ok : goal.returns-clause-ok
 returns-clause-ok c =
     let at = c.deref_mut.ensures.value in
-    seen_ok _ c.step.new.arena _ _ _ _ _ c.self.invariant.1 (goes_on c) c.step.new.forward.items _ _ c.self.view_is c.step.result (stepped_at _ _ _ _ at _ c.step.ensures.stepped) c.step.ensures.forward (back_at _ _ c.step.new.arena _ at _ _ _ c.step.ensures.back)
+    seen_ok _ c.step.new.arena _ _ _ _ _ c.self.invariant.1 (goes_on c) c.step.new.steps.items _ _ c.self.view_is c.step.result (stepped_at _ _ _ _ at _ c.step.ensures.stepped) c.step.ensures.steps (back_at _ _ c.step.new.arena _ at _ _ _ c.step.ensures.inverses)
 
 pub returns-clause-further : goal.returns-clause-further
 returns-clause-further c =
     let at = c.deref_mut.ensures.value in
     further_tried _ _ c.args.op c.step.result c.requires (returns-clause-ok c)
-    (seen_err _ c.step.new.arena _ _ _ _ _ c.self.invariant.1 (goes_on c) c.step.new.forward.items _ _ c.self.view_is c.step.result (grown_at _ _ _ c.args.op at _ c.step.ensures.err) c.step.ensures.err_forward c.step.ensures.err_back)
+    (seen_err _ c.step.new.arena _ _ _ _ _ c.self.invariant.1 (goes_on c) c.step.new.steps.items _ _ c.self.view_is c.step.result (grown_at _ _ _ c.args.op at _ c.step.ensures.err) c.step.ensures.err_steps c.step.ensures.err_inverses)

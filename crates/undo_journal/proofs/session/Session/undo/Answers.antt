@@ -5,25 +5,25 @@ use Rattle.undo_journal.proofs.Kept.{kept_undo}
 use Rattle.undo_journal.proofs.Seen.{depth_seen, undo_seen}
 use Rattle.undo_journal.proofs.session.Session.undo.Goals as goal
 
-pub replay-requires-clause-accepted : goal.replay-requires-clause-accepted
-replay-requires-clause-accepted c =
+pub replay_back-requires-clause-accepted : goal.replay_back-requires-clause-accepted
+replay_back-requires-clause-accepted c =
     let before : 0 < c.self.inside.place = omega (arith, c.if-self-eq0.false) in
     subst (λ (s : Store). AreAccepted s.model c.index-record.result.now.back) (sym c.deref_mut.ensures.value)
     (goes_back _ _ _ before c.self.invariant.journal _ c.index-record.ensures)
 
-pub replay-requires-clause-room : goal.replay-requires-clause-room
-replay-requires-clause-room c =
+pub replay_back-requires-clause-room : goal.replay_back-requires-clause-room
+replay_back-requires-clause-room c =
     let within = c.self.invariant.journal.placed in
     subst (λ (s : Store). AllHaveRoom s c.index-record.result.now.back) (sym c.deref_mut.ensures.value)
     (record_room c.self.inside.arena.value _ _ _ (omega (arith, c.if-self-eq0.false, within)) c.index-record.ensures c.self.invariant.room).1
 
-abbrev arena : (c : goal.After-self-2-1) → c.replay.new.arena ≡ all_after c.self.inside.arena.value c.index-record.result.now.back
-arena c = c.replay.ensures.effects ∙ ap (λ (s : Store). all_after s c.index-record.result.now.back) c.deref_mut.ensures.value
+abbrev arena : (c : goal.After-self-2-1) → c.replay_back.new.arena ≡ all_after c.self.inside.arena.value c.index-record.result.now.back
+arena c = c.replay_back.ensures.effects ∙ ap (λ (s : Store). all_after s c.index-record.result.now.back) c.deref_mut.ensures.value
 
 kept : (c : goal.After-self-2-1) → IsKept (all_after c.self.inside.arena.value c.index-record.result.now.back) c.self.inside.records.items (c.self.inside.place - 1)
 kept c =
     let before : 0 < c.self.inside.place = omega (arith, c.if-self-eq0.false) in
-    kept_undo _ _ _ _ before c.index-record.ensures c.self.invariant (subst IsReady (arena c) c.replay.ensures.ready)
+    kept_undo _ _ _ _ before c.index-record.ensures c.self.invariant (subst IsReady (arena c) c.replay_back.ensures.ready)
 
 pub invariant_of-self : goal.invariant_of-self
 invariant_of-self c = subst (λ (s : Store). IsKept s c.self.inside.records.items (c.self.inside.place - 1)) (sym (arena c)) (kept c)
