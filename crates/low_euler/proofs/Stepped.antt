@@ -1,5 +1,5 @@
 -- An operator whose room was made is accepted then, and steps on.
-use Rattle.low_euler.proofs.Prelude.{◌≡◌, ℕ, None, refl, sym, subst, ap, ◌∙◌, Point, Corner, HalfEdge, Model, Sound, first_false, effect, inverse, Op, Mvfs, Kvfs, Mev, Kev, Mef, Kef, Store, has_room, HasGrown, IsReady, HasRoomFor, Accepts, after, made, IsStepped}
+use Rattle.low_euler.proofs.Prelude.{◌≡◌, ℕ, List, None, refl, sym, subst, ap, ◌∙◌, Point, Corner, HalfEdge, Model, Sound, first_false, effect, inverse, Op, Mvfs, Kvfs, Mev, Kev, Mef, Kef, Merge, Part, Store, has_room, HasGrown, IsReady, HasRoomFor, Accepts, after, made, IsStepped}
 use Rattle.low_euler.proofs.Made.{grown_same}
 use Rattle.low_euler.proofs.Undone.{ready_after, keeps_room, room_after}
 
@@ -36,3 +36,7 @@ module _ (M : Model) where
   pub mef_back : (g k h : HalfEdge) (f l : ℕ) → Kef h ≡ inverse M (Mef g k h f l)
   unfolding inverse
   mef_back g k h f l = refl
+
+  pub part_back : (s t : ℕ) (fs : List ℕ) → Merge s t ≡ inverse M (Part s t fs)
+  unfolding inverse
+  part_back s t fs = refl

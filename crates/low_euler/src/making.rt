@@ -31,7 +31,7 @@ fn grow(arena: &mut Arena, number: (Kind, u32)) -> Result<(), AllocError>
 
 /// Makes the room of one number that may have none, as `grow` does. If the number has its room, no `Err` comes.
 #[inline(always)]
-fn room_for_one(arena: &mut Arena, number: (Kind, u32)) -> Result<(), AllocError>
+pub(crate) fn room_for_one(arena: &mut Arena, number: (Kind, u32)) -> Result<(), AllocError>
     requires { AllFit (number ∷ []) }
     ensures grown { HasGrown arena.old arena.new }
     ensures ok { OnOk result (AllRoom arena.new (number ∷ [])) }

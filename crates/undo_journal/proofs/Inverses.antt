@@ -1,5 +1,5 @@
 -- Inverses that operators tell, and those that are kept beside them.
-use Rattle.undo_journal.proofs.Prelude.{sym, ap, subst, ◌∙◌, arith, true≢false, ◌≡◌, ℕ, ◌+◌, ◌-◌, ◌<◌, ◌≤◌, true, false, List, [], ◌∷◌, ◌++◌, cond, not, take, drop, take-append-drop, take_at, append_assoc, get_or, get_or-append-add, get_or_append_left, get_or-drop, get_or-reverse, take_more, length, filter, reverse, Option, Some, None, is_some, refl, length-append, length-drop, length-take, length-reverse, reverse-append, reverse-reverse, filter-append, Model, inverse, Op, Store, AreAccepted, AreAccepted-front, AreAccepted-back, effects, effects-append, AllHaveRoom, all_after, told_inverse, tells, untold_in, next_inverse, left_after, inverses_of, taken_back, step_inverses, is_on_rings, Pairs, ArePaired, each_inverse, drop-drop, drop_all, drop_at}
+use Rattle.undo_journal.proofs.Prelude.{append-nil, kept_inverse, sym, ap, subst, ◌∙◌, arith, true≢false, ◌≡◌, ℕ, ◌+◌, ◌-◌, ◌<◌, ◌≤◌, true, false, List, [], ◌∷◌, ◌++◌, cond, not, take, drop, take-append-drop, take_at, append_assoc, get_or, get_or-append-add, get_or_append_left, get_or-drop, get_or-reverse, take_more, length, filter, reverse, Option, Some, None, is_some, refl, length-append, length-drop, length-take, length-reverse, reverse-append, reverse-reverse, filter-append, Model, inverse, Op, Store, AreAccepted, AreAccepted-front, AreAccepted-back, effects, effects-append, AllHaveRoom, all_after, told_inverse, tells, untold_in, next_inverse, left_after, inverses_of, taken_back, step_inverses, is_on_rings, Pairs, ArePaired, each_inverse, drop-drop, drop_all, drop_at}
 use Rattle.std.proofs.Common.{inl, inr}
 use Rattle.std.proofs.lemmas.Bool.{cases_lt}
 use Rattle.undo_journal.proofs.Rooms.{ops_kept, ops-front, ops-back, keeps_all_after}
@@ -35,6 +35,13 @@ told_is M (RingIn l f) k e = none_told e
 told_is M (RingOut l f) k e = none_told e
 told_is M (Outer l f) k e = none_told e
 told_is M (Merge s t) k e = none_told e
+
+pub told_alone : (M : Model) (o : Op) → tells o ≡ true → inverses_of (o ∷ []) [] ≡ inverse M o ∷ []
+told_alone M o = alone (told_inverse o) (told_is M o)
+  where
+    alone : (t : Option Op) → ((k : Op) → t ≡ Some k → k ≡ inverse M o) → is_some t ≡ true → next_inverse t [] ++ [] ≡ inverse M o ∷ []
+    alone (Some k) is e = λ i. is k refl i ∷ []
+    alone None is e = absurd (true≢false (sym e))
 
 -- of an operator and its inverse one tells the other, or both are on rings
 pub are_paired : (M : Model) (o : Op) → ArePaired o (inverse M o)
@@ -112,6 +119,22 @@ are_short [] kept = omega arith
 are_short (x ∷ xs) kept =
     let t = told_inverse x in
     omega (arith, length-append (next_inverse t kept) (inverses_of xs (left_after t kept)), next_is_short t kept, are_short xs (left_after t kept))
+
+-- ---- one step more
+
+module _ (M : Model) (steps untold : List Op) (o : Op) where
+  abbrev mine : Op
+  mine = inverse M o
+
+  first_of : (t : Option Op) → ((k : Op) → t ≡ Some k → k ≡ mine) → next_inverse t (reverse (untold ++ kept_inverse t mine)) ++ inverses_of (reverse steps) (left_after t (reverse (untold ++ kept_inverse t mine))) ≡ mine ∷ taken_back steps untold
+  first_of (Some k) is = λ i. is k refl i ∷ inverses_of (reverse steps) (reverse (append-nil untold i))
+  first_of None is = ap (λ (ks : List Op). take 1 ks ++ inverses_of (reverse steps) (drop 1 ks)) (reverse-append untold (mine ∷ []))
+
+  pub one_more : step_inverses (steps ++ o ∷ []) (untold ++ kept_inverse (told_inverse o) mine) ≡ step_inverses steps untold ++ mine ∷ []
+  one_more =
+      ap reverse (ap (λ (xs : List Op). inverses_of xs (reverse (untold ++ kept_inverse (told_inverse o) mine))) (reverse-append steps (o ∷ []))
+      ∙ first_of (told_inverse o) (told_is M o))
+      ∙ reverse-append (mine ∷ []) (taken_back steps untold)
 
 -- ---- the steps of a draft
 

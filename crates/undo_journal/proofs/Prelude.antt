@@ -23,4 +23,4 @@ pub use Rattle.undo_journal.specs.Sessions.{AllHaveRoom, AllLead, IsDrafted, IsJ
 unfoldable pub use Rattle.undo_journal.specs.Sessions.{future_of, past_of}
 pub use Rattle.undo_journal.specs.Records.{Record, one_record}
 pub use Rattle.low_euler.specs.Told.{told_inverse}
-pub use Rattle.undo_journal.specs.Told.{ArePaired, Pairs, inverses_of, is_on_rings, left_after, next_inverse, step_inverses, taken_back, tells, untold_in}
+pub use Rattle.undo_journal.specs.Told.{ArePaired, Pairs, inverses_of, is_on_rings, kept_inverse, left_after, next_inverse, step_inverses, taken_back, tells, untold_in}

@@ -21,6 +21,11 @@ abbrev pub left_after : Option Op → List Op → List Op
 left_after (Some inverse) kept = kept
 left_after None kept = drop 1 kept
 
+-- of an inverse, what is kept beside its operator: nothing, if the operator tells it
+abbrev pub kept_inverse : Option Op → Op → List Op
+kept_inverse (Some told) inverse = []
+kept_inverse None inverse = inverse ∷ []
+
 -- the inverse of each of some operators, of which those that aren't told are kept in the same order
 abbrev pub inverses_of : List Op → List Op → List Op
 inverses_of [] kept = []

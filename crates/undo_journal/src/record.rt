@@ -1,5 +1,5 @@
 //! The record of a command.
-ghost use Rattle.std.specs.Prelude.{◌≡◌, ◌<◌, [], ◌∷◌, ◌++◌, length, true, slice_index_or, vec_len, vec_capacity};
+ghost use Rattle.std.specs.Prelude.{◌≡◌, ◌<◌, [], ◌∷◌, ◌++◌, length, true, false, slice_index_or, vec_len, vec_capacity};
 ghost use Rattle.euler_laws.specs.Laws.{AreAccepted};
 ghost use Rattle.low_euler.specs.Ready.{IsReady};
 ghost use Rattle.undo_journal.specs.Records.{one_record, op_of};
@@ -208,17 +208,16 @@ fn keep_rings(records: &mut Vec<Record>, op: Op, inverse: Op)
     records.push_reserved(Record::rings(RingOp::of(op), RingOp::of(inverse)));
 }
 
-/// Appends the record of an operator and its inverse.
+/// Appends the record of an operator that doesn't tell its inverse, and of that inverse.
 #[inline(always)]
 #[tactic(auto, using(crate::proofs::Inverses::both_on_rings))]
-pub(crate) fn keep_one(records: &mut Vec<Record>, op: Op, inverse: Op)
+pub(crate) fn keep_untold(records: &mut Vec<Record>, op: Op, inverse: Op)
+    requires untold { tells op ≡ false }
     requires paired { ArePaired op inverse }
     requires place { vec_len records.old < vec_capacity records.old }
     ensures { records.new.items ≡ records.old.items ++ one_record op inverse ∷ [] }
 {
-    if tells(&op) {
-        records.push_reserved(Record::made(op));
-    } else if tells(&inverse) {
+    if tells(&inverse) {
         records.push_reserved(Record::unmade(inverse));
     } else {
         keep_rings(records, op, inverse);

@@ -1,19 +1,24 @@
 //! A session: one arena, the records of the commands, and a place in their list.
-ghost use Rattle.std.specs.Prelude.{◌≡◌, ◌↔◌, ◌+◌, ◌<◌, ◌≤◌, List, [], ◌∷◌, ◌++◌, length, take, vec_len, OnOk, OnErr, IfOk, None, Some, Err, slice_index_or, vec_capacity};
+ghost use Rattle.std.specs.Prelude.{◌≡◌, ◌↔◌, ◌+◌, ◌<◌, ◌≤◌, List, [], ◌∷◌, ◌++◌, length, take, vec_len, OnOk, OnErr, IfOk, None, Some, Err, slice_index_or, vec_capacity, true, false};
 ghost use Rattle.low_euler.specs.Ready.{IsReady};
+ghost use Rattle.low_euler.specs.Room.{IsStepped};
+ghost use Rattle.low_euler.specs.Store.{HasGrown};
+ghost use Rattle.undo_journal.specs.Records.{one_record};
+ghost use Rattle.undo_journal.specs.Told.{tells};
 ghost use Rattle.undo_journal.specs.Machine.{held, depth, ahead, act_refusal, undo_refusal, redo_refusal};
 ghost use Rattle.undo_journal.specs.Journal.{new_journal, after_act, after_undo, after_redo};
 ghost use Rattle.undo_journal.specs.Sessions.{RecordsHaveRoom};
 ghost use Rattle.undo_journal.specs.Recorded.{model_at};
 ghost use Rattle.undo_journal.specs.Histories.{IsConsistent};
 ghost use Rattle.euler_laws.specs.Laws.{effects, AreAccepted};
-ghost use Rattle.euler_operators.specs.Common.{verdict};
+ghost use Rattle.euler_operators.specs.Common.{verdict, first_false, inverse};
 ghost use Rattle.euler_operators.specs.declared.Refusal.{Refusal};
 
-use crate::record::{PLACES, Record, Spare, keep_one, no_spare, spare_of};
+use crate::record::{PLACES, Record, Spare, keep_untold, no_spare, spare_of};
 use crate::steps::place_for_one;
+use crate::told::tells;
 use euler_operators::{Op, Refusal, Why};
-use low_euler::{Arena, advance, check};
+use low_euler::{Arena, advance, advance_told, check};
 use std::alloc::{AllocError, Global};
 use std::marker::Model;
 
@@ -27,6 +32,83 @@ fn drop_ahead(records: &mut Vec<Record>, place: usize)
     if place < records.len() {
         records.truncate(place);
     }
+}
+
+/// Applies an operator that is accepted and tells its inverse, and puts its record in the place of those from a place on. On `AllocError`
+/// the model and the records are as they were.
+#[inline(always)]
+#[tactic(auto, using(crate::proofs::Inverses::told_alone))]
+fn act_told(
+    arena: &mut Arena,
+    records: &mut Vec<Record>,
+    place: usize,
+    op: Op,
+) -> Result<(), AllocError>
+    requires ready { IsReady arena.old }
+    requires accepted { first_false arena.old.model op ≡ None }
+    requires told { tells op ≡ true }
+    requires place { vec_len records.old < vec_capacity records.old }
+    ensures stepped { OnOk result (IsStepped arena.old op arena.new) }
+    ensures records { OnOk result (records.new.items ≡ take place records.old.items ++ one_record op (inverse arena.old.model op) ∷ []) }
+    ensures err { OnErr result (HasGrown arena.old arena.new) }
+    ensures err_records { OnErr result (records.new.items ≡ records.old.items) }
+{
+    advance_told(arena, &op)?;
+    drop_ahead(records, place);
+    records.push_reserved(Record::made(op));
+    Ok(())
+}
+
+/// Applies an operator that is accepted and doesn't tell its inverse, and puts its record in the place of those from a place on. On
+/// `AllocError` the model and the records are as they were.
+#[inline(always)]
+#[tactic(auto, using(crate::proofs::Inverses::are_paired))]
+fn act_untold(
+    alloc: Global,
+    arena: &mut Arena,
+    records: &mut Vec<Record>,
+    place: usize,
+    op: Op,
+) -> Result<(), AllocError>
+    requires ready { IsReady arena.old }
+    requires accepted { first_false arena.old.model op ≡ None }
+    requires untold { tells op ≡ false }
+    requires place { vec_len records.old < vec_capacity records.old }
+    ensures stepped { OnOk result (IsStepped arena.old op arena.new) }
+    ensures records { OnOk result (records.new.items ≡ take place records.old.items ++ one_record op (inverse arena.old.model op) ∷ []) }
+    ensures err { OnErr result (HasGrown arena.old arena.new) }
+    ensures err_records { OnErr result (records.new.items ≡ records.old.items) }
+{
+    // `advance` replaces this operator
+    let mut inverse = Op::Kvfs(0);
+    advance(alloc, arena, &op, &mut inverse)?;
+    drop_ahead(records, place);
+    keep_untold(records, op, inverse);
+    Ok(())
+}
+
+/// Applies an operator that is accepted, and puts its record in the place of those from a place on. On `AllocError` the model and the
+/// records are as they were.
+#[inline(always)]
+fn act_one(
+    alloc: Global,
+    arena: &mut Arena,
+    records: &mut Vec<Record>,
+    place: usize,
+    op: Op,
+) -> Result<(), AllocError>
+    requires ready { IsReady arena.old }
+    requires accepted { first_false arena.old.model op ≡ None }
+    requires place { vec_len records.old < vec_capacity records.old }
+    ensures stepped { OnOk result (IsStepped arena.old op arena.new) }
+    ensures records { OnOk result (records.new.items ≡ take place records.old.items ++ one_record op (inverse arena.old.model op) ∷ []) }
+    ensures err { OnErr result (HasGrown arena.old arena.new) }
+    ensures err_records { OnErr result (records.new.items ≡ records.old.items) }
+{
+    if tells(&op) {
+        return act_told(arena, records, place, op);
+    }
+    act_untold(alloc, arena, records, place, op)
 }
 
 /// Drops the records from a place on, and keeps the lists of the first of them. It takes no memory.
@@ -145,11 +227,13 @@ impl Session {
         ensures err { OnErr result (self.new ≡ self.old) }
     {
         place_for_one(&mut self.records, PLACES)?;
-        // `advance` replaces this operator
-        let mut inverse = Op::Kvfs(0);
-        advance(self.alloc, &mut *self.arena, &op, &mut inverse)?;
-        drop_ahead(&mut self.records, self.place);
-        keep_one(&mut self.records, op, inverse);
+        act_one(
+            self.alloc,
+            &mut *self.arena,
+            &mut self.records,
+            self.place,
+            op,
+        )?;
         self.place += 1;
         Ok(())
     }

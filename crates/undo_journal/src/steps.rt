@@ -7,12 +7,12 @@ ghost use Rattle.low_euler.specs.Ready.{IsReady};
 ghost use Rattle.low_euler.specs.Room.{IsStepped};
 ghost use Rattle.low_euler.specs.Told.{told_inverse};
 ghost use Rattle.undo_journal.specs.Sessions.{AllHaveRoom, all_after};
-ghost use Rattle.undo_journal.specs.Told.{tells, step_inverses};
+ghost use Rattle.undo_journal.specs.Told.{kept_inverse, step_inverses};
 ghost use Rattle.euler_operators.specs.declared.Op.{Op};
 
 use crate::told::tells;
 use euler_operators::Op;
-use low_euler::{Arena, advance, replay};
+use low_euler::{Arena, advance, advance_told, replay};
 use std::alloc::{AllocError, Global};
 
 /// Applies operators in turn. Each is accepted at its turn and has its room. It takes no memory.
@@ -51,36 +51,56 @@ pub(crate) fn place_for_one<T>(list: &mut Vec<T>, more: usize) -> Result<(), All
     more_places(list, more)
 }
 
-/// Makes a place for the inverse of an operator, if it doesn't tell that.
+/// Applies an operator that is accepted, and appends its inverse to those kept. All memory is taken before the change: on `AllocError` the
+/// model and the list are as they were.
+#[inline(never)]
+fn advance_untold(
+    alloc: Global,
+    arena: &mut Arena,
+    op: &Op,
+    untold: &mut Vec<Op>,
+) -> Result<(), AllocError>
+    requires ready { IsReady arena.old }
+    requires accepted { first_false arena.old.model op.now ≡ None }
+    ensures stepped { OnOk result (IsStepped arena.old op.now arena.new) }
+    ensures kept { OnOk result (untold.new.items ≡ untold.old.items ++ inverse arena.old.model op.now ∷ []) }
+    ensures err { OnErr result (HasGrown arena.old arena.new) }
+    ensures err_kept { OnErr result (untold.new.items ≡ untold.old.items) }
+{
+    place_for_one(untold, 1)?;
+    // `advance` replaces this operator
+    let mut inverse = Op::Kvfs(0);
+    advance(alloc, arena, op, &mut inverse)?;
+    untold.push_reserved(inverse);
+    Ok(())
+}
+
+/// Applies an operator that is accepted, and appends its inverse to those kept, if the operator doesn't tell it. All memory is taken before
+/// the change: on `AllocError` the model and the list are as they were.
 #[inline(always)]
-fn place_for_inverse(untold: &mut Vec<Op>, op: &Op) -> Result<(), AllocError>
-    ensures items { untold.new.items ≡ untold.old.items }
-    ensures place { OnOk result (tells op.now ≡ false → vec_len untold.new < vec_capacity untold.new) }
+fn advance_step(
+    alloc: Global,
+    arena: &mut Arena,
+    op: &Op,
+    untold: &mut Vec<Op>,
+) -> Result<(), AllocError>
+    requires ready { IsReady arena.old }
+    requires accepted { first_false arena.old.model op.now ≡ None }
+    ensures stepped { OnOk result (IsStepped arena.old op.now arena.new) }
+    ensures kept { OnOk result (untold.new.items ≡ untold.old.items ++ kept_inverse (told_inverse op.now) (inverse arena.old.model op.now)) }
+    ensures err { OnErr result (HasGrown arena.old arena.new) }
+    ensures err_kept { OnErr result (untold.new.items ≡ untold.old.items) }
 {
     if tells(op) {
-        return Ok(());
+        return advance_told(arena, op);
     }
-    place_for_one(untold, 1)
+    advance_untold(alloc, arena, op, untold)
 }
 
-/// Appends a step, and its inverse to those kept, if the step doesn't tell it.
-#[inline(always)]
-fn keep_step(steps: &mut Vec<Op>, untold: &mut Vec<Op>, op: Op, inverse: Op)
-    requires place { vec_len steps.old < vec_capacity steps.old }
-    requires inverse_place { tells op ≡ false → vec_len untold.old < vec_capacity untold.old }
-    requires told { (told : Op) → told_inverse op ≡ Some told → told ≡ inverse }
-    ensures steps { steps.new.items ≡ steps.old.items ++ op ∷ [] }
-    ensures inverses { step_inverses steps.new.items untold.new.items ≡ step_inverses steps.old.items untold.old.items ++ inverse ∷ [] }
-{
-    let told = tells(&op);
-    steps.push_reserved(op);
-    if !told {
-        untold.push_reserved(inverse);
-    }
-}
-
-/// Applies an operator that is accepted, appends it to some steps, and its inverse to those kept, if it doesn't tell that. All memory is
-/// taken before the change: on `AllocError` the model and the lists are as they were.
+/// Applies an operator that is accepted, appends it to some steps, and its inverse to those kept, if the operator doesn't tell it. All memory
+/// is taken before the change: on `AllocError` the model and the lists are as they were.
+///
+/// The operator is put into its place before it is applied, and taken out again on `AllocError`, since it costs more to move it later.
 #[inline(always)]
 pub(crate) fn step(
     alloc: Global,
@@ -99,10 +119,11 @@ pub(crate) fn step(
     ensures err_inverses { OnErr result (step_inverses steps.new.items untold.new.items ≡ step_inverses steps.old.items untold.old.items) }
 {
     place_for_one(steps, 1)?;
-    place_for_inverse(untold, &op)?;
-    // `advance` replaces this operator
-    let mut inverse = Op::Kvfs(0);
-    advance(alloc, arena, &op, &mut inverse)?;
-    keep_step(steps, untold, op, inverse);
-    Ok(())
+    steps.push_reserved(op);
+    let last = steps.len() - 1;
+    let ended = advance_step(alloc, arena, &steps[last], untold);
+    if ended.is_err() {
+        steps.truncate(last);
+    }
+    ended
 }
