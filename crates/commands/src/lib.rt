@@ -31,6 +31,6 @@ pub use command::{Call, Change, Command, Question, Told, outcome};
 pub use drafting::change_in;
 pub use known::KnownSession;
 pub use laws::{commands_are_calls, larger_commands_take_steps};
-pub use making::{act, give, give_in, make, moved};
+pub use making::{act, change, give, give_in, make, moved};
 pub use points::Points;
 pub use stage::{OpenDraft, Stage};

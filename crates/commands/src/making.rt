@@ -55,6 +55,23 @@ pub fn give(alloc: Global, session: KnownSession, command: Command<'_>) -> (Know
     }
 }
 
+/// Makes a change as `make` makes it, without the other answers that a call may have.
+pub fn change(alloc: Global, stage: Stage, wanted: Change<'_>) -> (Stage, Result<(), Failure>)
+    ensures { Tells stage (Call.Give (Command.Change wanted.entry)) (told_of result.1) result.0 }
+{
+    match stage {
+        Stage::Session(session) => {
+            let (session, ended) = session.change(alloc, wanted);
+            (Stage::Session(session), ended)
+        }
+        Stage::Drafting(drafting) => {
+            let mut drafting = drafting;
+            let ended = change_in(alloc, &mut drafting.draft, wanted);
+            (Stage::Drafting(drafting), ended)
+        }
+    }
+}
+
 /// Gives a draft a command: a change as steps, or a question. A command that isn't done leaves the draft as it was, and it goes on.
 pub fn give_in(alloc: Global, draft: &mut Draft, command: Command<'_>) -> Told
     ensures { TellsDraft draft.old command.entry result draft.new }

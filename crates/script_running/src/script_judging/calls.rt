@@ -4,7 +4,7 @@ ghost use Rattle.script_running.specs.Common.{told_of, told_of_move};
 ghost use Rattle.script_running.specs.script_judging.Consoles.{IsNew, Makes, Measures, UnlessLacking, act_of, answer_after, is_draft};
 
 use crate::script_judging::judging::Answer;
-use commands::{Call, Command, KnownSession, Question, Stage, Told};
+use commands::{Call, Change, Command, KnownSession, Question, Stage, Told};
 use euler_operators::{Op, Refusal};
 use solid_listing::Reply;
 use solid_measure::Tally;
@@ -140,8 +140,20 @@ pub(crate) fn redo(console: &mut Console) -> bool
     true
 }
 
+/// A change for which the session or draft has to be moved.
+pub(crate) fn change(alloc: Global, console: &mut Console, wanted: Change<'_>)
+    ensures { Makes console.old (Call.Give (Command.Change wanted.entry)) console.new }
+{
+    let Some(stage) = console.stage.take() else {
+        return;
+    };
+    let (stage, ended) = commands::change(alloc, stage, wanted);
+    console.stage = Some(stage);
+    keep_outcome(ended, &mut console.answer);
+}
+
 /// A call for which the session or draft has to be moved.
-pub(crate) fn carry(alloc: Global, console: &mut Console, wanted: Call<'_>)
+fn carry(alloc: Global, console: &mut Console, wanted: Call<'_>)
     ensures { Makes console.old wanted.entry console.new }
 {
     let Some(stage) = console.stage.take() else {
@@ -157,13 +169,14 @@ fn give(alloc: Global, console: &mut Console, command: Command<'_>)
     ensures { Makes console.old (Call.Give command.entry) console.new }
 {
     match command {
+        Command::Change(wanted) => change(alloc, console, wanted),
+        Command::Ask(question) => ask(console, question),
         Command::Undo => {
             undo(console);
         }
         Command::Redo => {
             redo(console);
         }
-        command => carry(alloc, console, Call::Give(command)),
     }
 }
 

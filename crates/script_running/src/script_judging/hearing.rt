@@ -6,9 +6,9 @@ ghost use Rattle.script_running.specs.script_judging.Judging.{faulty};
 ghost use Rattle.script_running.specs.script_judging.Consoles.{UnlessLacking};
 ghost use Rattle.script_running.specs.script_judging.Hearing.{Hears, Says, changes, gives, lacks_said, said_of, spoken, tells, unless_not_ascii};
 
-use crate::script_judging::calls::{self, Console, carry, redo, undo};
+use crate::script_judging::calls::{self, Console, redo, undo};
 use crate::script_judging::judging::Answer;
-use commands::{Call, Change, Command, Question};
+use commands::{Change, Command, Question};
 use euler_operators::Op;
 use script_reader::{
     Fault, Name, Opening, Outline, Polygon, Request, Words, arguments, is_ascii, is_long,
@@ -82,7 +82,7 @@ fn act(console: &mut Console, op: Op)
 fn change(alloc: Global, console: &mut Console, wanted: Change<'_>)
     ensures { Says console.old (changes wanted.entry) console.new }
 {
-    carry(alloc, console, Call::Give(Command::Change(wanted)))
+    calls::change(alloc, console, wanted)
 }
 
 /// Makes a change over the points that its line has.
