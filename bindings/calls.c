@@ -25,14 +25,14 @@ static inline struct used entered(const gwb *g)
 static inline bool is_noting(const gwb *g) { return beside_of(g)->record != NULL || beside_of(g)->watch != NULL; }
 
 /* What was noted of a call is kept where it was accepted. */
-static enum gwb_kind kept(const gwb *g, enum gwb_kind kind, bool is_noted)
+static enum gwb_kind kept(const gwb *g, enum gwb_kind kind)
 {
     struct record *r = beside_of(g)->record;
     if (r != NULL && kind == GWB_OK)
         record_keep(r, gwb_mark(g));
     else if (r != NULL)
         record_drop(r);
-    if (is_noted && beside_of(g)->watch != NULL)
+    if (beside_of(g)->watch != NULL)
         watch_end(beside_of(g)->watch, kind == GWB_OK);
     return kind;
 }
@@ -53,6 +53,9 @@ static enum gwb_kind kept(const gwb *g, enum gwb_kind kind, bool is_noted)
         return !g->is_open || beside_of(g)->heap == gwb_used.heap ? kernel_gwb_##name arguments : in_own_##name arguments;                    \
     }
 
+/* The answer where memory for what is recorded of a call is refused. */
+static enum gwb_kind lacking(void) { return GWB_MEMORY; }
+
 /* A command, with `write` for its line, and `touch` for what it touches. */
 #define COMMAND(name, parameters, arguments, write, touch)                                                                                 \
     enum gwb_kind kernel_gwb_##name parameters;                                                                                            \
@@ -60,8 +63,11 @@ static enum gwb_kind kept(const gwb *g, enum gwb_kind kind, bool is_noted)
     {                                                                                                                                      \
         struct record *r = beside_of(g)->record;                                                                                           \
         struct watch *w = beside_of(g)->watch;                                                                                             \
-        const bool is_noted = (r == NULL || (write)) && (w == NULL || (touch));                                                            \
-        return kept(g, is_noted ? kernel_gwb_##name arguments : GWB_MEMORY, is_noted);                                                     \
+        if (r != NULL && !(write))                                                                                                         \
+            return lacking();                                                                                                              \
+        if (w != NULL)                                                                                                                     \
+            touch;                                                                                                                         \
+        return kept(g, kernel_gwb_##name arguments);                                                                                       \
     }                                                                                                                                      \
     enum gwb_kind gwb_##name parameters                                                                                                    \
     {                                                                                                                                      \
@@ -132,17 +138,16 @@ COMMAND(lamina, (gwb *g, uint32_t solid, const gwb_point *points, size_t n), (g,
 
 /* ---- undo and redo, and drafts */
 
-/* A call with a session's record and watch to follow it, if `see` says that this is possible. */
-#define STEP(name, parameters, arguments, see, follow, end)                                                                                \
-    enum gwb_kind kernel_gwb_##name parameters;                                                                                            \
-    enum gwb_kind gwb_##name parameters                                                                                                    \
+/* What the kernel answers, with a session's watch to see before what may change, and its record and watch to follow. */
+#define FOLLOWED(name, parameters, call, see, follow, end)                                                                                 \
+    static inline enum gwb_kind name parameters                                                                                            \
     {                                                                                                                                      \
-        if (!g->is_open)                                                                                                                   \
-            return kernel_gwb_##name arguments;                                                                                            \
         struct used before = entered(g);                                                                                                   \
         struct record *r = beside_of(g)->record;                                                                                           \
         struct watch *w = beside_of(g)->watch;                                                                                             \
-        enum gwb_kind answer = (see) ? kernel_gwb_##name arguments : GWB_MEMORY;                                                           \
+        if (w != NULL)                                                                                                                     \
+            see;                                                                                                                           \
+        enum gwb_kind answer = call;                                                                                                       \
         if (r != NULL && answer == GWB_OK)                                                                                                 \
             follow;                                                                                                                        \
         if (w != NULL && answer == GWB_OK)                                                                                                 \
@@ -151,10 +156,24 @@ COMMAND(lamina, (gwb *g, uint32_t solid, const gwb_point *points, size_t n), (g,
         return counted(g, answer);                                                                                                         \
     }
 
-STEP(undo, (gwb *g), (g), w == NULL || watch_see_undo(w, g), record_undo(r), watch_undo(w))
-STEP(redo, (gwb *g), (g), w == NULL || watch_see_redo(w, g), record_redo(r), watch_redo(w))
-STEP(abandon, (gwb *g), (g), (beside_of(g)->is_drafting = false, true), record_abandon(r), watch_abandon(w))
-STEP(back, (gwb *g, size_t mark), (g, mark), true, record_back(r, mark), (void)0)
+#define STEP(name, parameters, arguments, see, follow, end)                                                                                \
+    enum gwb_kind kernel_gwb_##name parameters;                                                                                            \
+    FOLLOWED(followed_##name, parameters, kernel_gwb_##name arguments, see, follow, end)                                                   \
+    enum gwb_kind gwb_##name parameters { return g->is_open ? followed_##name arguments : kernel_gwb_##name arguments; }
+
+STEP(undo, (gwb *g), (g), watch_see_undo(w, g), record_undo(r), watch_undo(w))
+STEP(redo, (gwb *g), (g), watch_see_redo(w, g), record_redo(r), watch_redo(w))
+STEP(back, (gwb *g, size_t mark), (g, mark), watch_see_draft(w, g), record_back(r, mark), (void)0)
+
+enum gwb_kind kernel_gwb_abandon(gwb *g);
+FOLLOWED(followed_abandon, (gwb *g), kernel_gwb_abandon(g), watch_see_draft(w, g), record_abandon(r), watch_abandon(w))
+enum gwb_kind gwb_abandon(gwb *g)
+{
+    if (!g->is_open)
+        return GWB_CLOSED;
+    beside_of(g)->is_drafting = false;
+    return followed_abandon(g);
+}
 
 /* To open a draft, or to make its steps one command, leaves the model as it is. */
 enum gwb_kind kernel_gwb_draft(gwb *g);
@@ -165,13 +184,14 @@ enum gwb_kind gwb_draft(gwb *g)
     struct record *r = beside_of(g)->record;
     struct watch *w = beside_of(g)->watch;
     struct used before = entered(g);
-    bool has_room = (r == NULL || record_reserve_draft(r)) && (w == NULL || watch_reserve_draft(w));
-    enum gwb_kind answer = has_room ? kernel_gwb_draft(g) : GWB_MEMORY;
+    const bool has_room = r == NULL || record_reserve_draft(r);
+    enum gwb_kind answer = has_room ? kernel_gwb_draft(g) : lacking();
     if (r != NULL && answer == GWB_OK)
         record_draft(r);
     if (w != NULL && answer == GWB_OK)
         watch_draft(w);
-    beside_of(g)->is_drafting = answer == GWB_OK || answer == GWB_IN_DRAFT;
+    if (answer == GWB_OK)
+        beside_of(g)->is_drafting = true;
     gwb_used = before;
     return answer;
 }
@@ -191,55 +211,54 @@ enum gwb_kind gwb_commit(gwb *g)
 
 /* ---- lines */
 
+/* Whether a byte stands between words. */
+static bool is_blank(char c) { return c == ' ' || c == '\t' || c == '\r'; }
+
 /* Whether the first word of a line is this one. */
 static bool begins_with(const char *line, size_t n, const char *word)
 {
-    size_t length = strlen(word);
-    for (; n > 0 && (*line == ' ' || *line == '\t' || *line == '\r'); n--)
+    const size_t length = strlen(word);
+    for (; n > 0 && is_blank(*line); n--)
         line++;
-    return n >= length && memcmp(line, word, length) == 0;
+    return n >= length && memcmp(line, word, length) == 0 && (n == length || is_blank(line[length]));
 }
 
-/* The record and the watch follow a line that was accepted. */
-static void follow_line(const gwb *g, struct record *r, struct watch *w, const char *line, size_t n)
+/* Whether the first word of a line is that of a command, but for undo and redo. */
+static bool is_command(const char *line, size_t n)
 {
-    const bool is_undo = begins_with(line, n, "undo"), is_redo = begins_with(line, n, "redo");
-    if (r != NULL)
-        is_undo ? record_undo(r) : is_redo ? record_redo(r) : record_keep(r, gwb_mark(g));
-    if (w != NULL && (is_undo || is_redo)) {
-        watch_end(w, false);
-        is_undo ? watch_undo(w) : watch_redo(w);
-    } else if (w != NULL) {
-        watch_end(w, true);
-    }
+    static const char *const words[] = {"mvfs",  "kvfs",  "mev",    "kev",    "mef",   "kef",   "kemr", "mekr",
+                                        "kfmrh", "mfkrh", "ringmv", "lamina", "block", "sweep", "glue", "split"};
+    size_t at = 0;
+    while (at < sizeof words / sizeof *words && !begins_with(line, n, words[at]))
+        at++;
+    return at < sizeof words / sizeof *words;
 }
 
 enum gwb_kind kernel_gwb_line(gwb *g, const char *line, size_t n);
+FOLLOWED(followed_undo_line, (gwb *g, const char *line, size_t n), kernel_gwb_line(g, line, n), watch_see_undo(w, g), record_undo(r), watch_undo(w))
+FOLLOWED(followed_redo_line, (gwb *g, const char *line, size_t n), kernel_gwb_line(g, line, n), watch_see_redo(w, g), record_redo(r), watch_redo(w))
+
 static enum gwb_kind noted_line(gwb *g, const char *line, size_t n)
 {
     struct record *r = beside_of(g)->record;
     struct watch *w = beside_of(g)->watch;
-    if ((r != NULL && !record_write_line(r, line, n)) || (w != NULL && !watch_touch_any(w, g))) {
-        if (r != NULL)
-            record_drop(r);
-        return GWB_MEMORY;
-    }
-    enum gwb_kind answer = kernel_gwb_line(g, line, n);
-    if (answer == GWB_OK)
-        follow_line(g, r, w, line, n);
-    else if (w != NULL)
-        watch_end(w, false);
-    if (r != NULL)
-        record_drop(r);
-    return answer;
+    if (r != NULL && !record_write_line(r, line, n))
+        return lacking();
+    if (w != NULL)
+        watch_touch_any(w, g);
+    return kept(g, kernel_gwb_line(g, line, n));
 }
 
 enum gwb_kind gwb_line(gwb *g, const char *line, size_t n)
 {
     if (!g->is_open)
         return GWB_CLOSED;
+    if (is_noting(g) && begins_with(line, n, "undo"))
+        return followed_undo_line(g, line, n);
+    if (is_noting(g) && begins_with(line, n, "redo"))
+        return followed_redo_line(g, line, n);
     struct used before = entered(g);
-    enum gwb_kind answer = is_noting(g) ? noted_line(g, line, n) : kernel_gwb_line(g, line, n);
+    enum gwb_kind answer = is_noting(g) && is_command(line, n) ? noted_line(g, line, n) : kernel_gwb_line(g, line, n);
     gwb_used = before;
     return counted(g, answer);
 }

@@ -1,4 +1,7 @@
-/* The solids that commands touch. Solid 0 stands for all. When a solid is first touched, what it was before is written down, if that is asked for. */
+/* The solids that commands touch. Solid 0 stands for all. When a solid is first touched, what it was before is written down, if that is asked for.
+ *
+ * No call is refused for want of memory here: what can't be kept is lost. All of it lies beside the pages of the session, so that the requests of the
+ * kernel are the same whether a session is watched or not. */
 #include "watch.h"
 #include "beside.h"
 #include "commands.h"
@@ -10,6 +13,7 @@ struct watch {
     size_t undone_before;      /* how many commands are undone that were given before any was watched */
     bool is_asked;             /* whether what solids were before is asked for: */
     bool are_all;              /* whether all were touched, also those that were made */
+    bool is_lost;              /* whether memory was refused for what a solid was */
     struct list solids;        /* of uint32_t: those that were touched, rising */
     struct solids before;      /* what they were */
     struct list changes[2][2]; /* of gwb_change: what was found of them (history.h) */
@@ -20,6 +24,14 @@ struct watch {
 
 static bool touch(struct watch *w, uint32_t solid) { return list_add(&w->touched.items, &solid); }
 
+/* Takes blocks beside the pages of the session, in the heap that is in use: what was in use until then. */
+static struct used apart(void)
+{
+    const struct used before = gwb_used;
+    gwb_used.pages = NULL;
+    return before;
+}
+
 struct watch *watch_new(bool is_drafting)
 {
     struct tried block = rattle_alloc(sizeof(struct watch), 16);
@@ -29,10 +41,13 @@ struct watch *watch_new(bool is_drafting)
     *w = (struct watch){.touched = NO_COMMANDS(uint32_t), .solids.size = sizeof(uint32_t), .before = NO_SOLIDS,
                         .changes = {{NO_CHANGES, NO_CHANGES}, {NO_CHANGES, NO_CHANGES}}};
     w->touched.is_drafting = is_drafting;
-    if (!is_drafting || (touch(w, 0) && commands_reserve(&w->touched)))
-        return w;
-    watch_free(w);
-    return NULL;
+    if (!list_reserve(&w->touched.items, 2) || !commands_reserve(&w->touched)) {
+        watch_free(w);
+        return NULL;
+    }
+    if (is_drafting)
+        touch(w, 0);
+    return w;
 }
 
 static void free_solids(struct solids *solids)
@@ -95,26 +110,25 @@ static bool write_rows(struct solids *to, const gwb *g, uint32_t solid)
 }
 
 /* Writes down what a solid is, if that is asked for and it isn't written down yet. Where all were, it has been made since. */
-static bool write_solid(struct watch *w, const gwb *g, uint32_t solid)
+static void write_solid(struct watch *w, const gwb *g, uint32_t solid)
 {
     const size_t place = w->is_asked ? place_of(w, solid) : 0;
-    if (!w->is_asked || w->are_all || (place < w->solids.count && solids(w)[place] == solid))
-        return true;
-    if (!list_reserve(&w->solids, w->solids.count + 1) || !write_rows(&w->before, g, solid))
-        return false;
+    if (!w->is_asked || w->is_lost || w->are_all || (place < w->solids.count && solids(w)[place] == solid))
+        return;
+    if (!list_reserve(&w->solids, w->solids.count + 1) || !write_rows(&w->before, g, solid)) {
+        w->is_lost = true;
+        return;
+    }
     uint32_t *at = solids(w) + place;
     memmove(at + 1, at, (w->solids.count++ - place) * sizeof *at);
     *at = solid;
-    return true;
 }
 
-static bool write_all(struct watch *w, const gwb *g)
+static void write_all(struct watch *w, const gwb *g)
 {
-    bool is_well = true;
-    for (uint32_t solid = 0; w->is_asked && is_well && gwb_number_after(g, GWB_SOLID, solid, &solid) == GWB_FOUND;)
-        is_well = write_solid(w, g, solid);
-    w->are_all = is_well;
-    return is_well;
+    for (uint32_t solid = 0; w->is_asked && !w->is_lost && gwb_number_after(g, GWB_SOLID, solid, &solid) == GWB_FOUND;)
+        write_solid(w, g, solid);
+    w->are_all = !w->is_lost;
 }
 
 /* ---- which are touched */
@@ -148,24 +162,50 @@ static uint32_t solid_of(const gwb *g, char kind, int64_t value)
     }
 }
 
-/* Ends a call before it was made. */
-static bool dropped(struct watch *w) { return watch_end(w, false), false; }
-
-bool watch_touch(struct watch *w, const gwb *g, const char *kinds, const int64_t *values, size_t n)
+/* Forgets which solids commands touched: they touch all, as those given before any was watched, and so do the steps of the draft. It takes no memory, as
+ * there is room for an item of the draft and one of the call from the beginning on, and for one command. */
+static void lose(struct watch *w)
 {
+    struct commands *c = &w->touched;
+    w->undone_before += c->begins.count - c->held;
+    c->held = c->begins.count = c->items.count = c->draft = 0;
+    if (c->is_drafting)
+        touch(w, 0);
+}
+
+/* The items of a call are added: it touches all where memory for one was refused, or for the command that it becomes. */
+static void added(struct watch *w, bool is_well)
+{
+    if (is_well && commands_reserve(&w->touched))
+        return;
+    lose(w);
+    commands_begin(&w->touched);
+    touch(w, 0);
+}
+
+void watch_touch(struct watch *w, const gwb *g, const char *kinds, const int64_t *values, size_t n)
+{
+    const struct used before = apart();
+    bool is_well = true;
     commands_begin(&w->touched);
     for (size_t i = 0; i < n && kinds[i] != '\0'; i++) {
         const uint32_t solid = solid_of(g, kinds[i], values[i]);
-        if (solid != 0 && (!touch(w, solid) || !write_solid(w, g, solid)))
-            return dropped(w);
+        if (solid == 0)
+            continue;
+        is_well = touch(w, solid) && is_well;
+        write_solid(w, g, solid);
     }
-    return commands_reserve(&w->touched) || dropped(w);
+    added(w, is_well);
+    gwb_used = before;
 }
 
-bool watch_touch_any(struct watch *w, const gwb *g)
+void watch_touch_any(struct watch *w, const gwb *g)
 {
+    const struct used before = apart();
     commands_begin(&w->touched);
-    return (touch(w, 0) && write_all(w, g) && commands_reserve(&w->touched)) || dropped(w);
+    write_all(w, g);
+    added(w, touch(w, 0));
+    gwb_used = before;
 }
 
 void watch_end(struct watch *w, bool is_accepted)
@@ -175,8 +215,14 @@ void watch_end(struct watch *w, bool is_accepted)
     commands_end(&w->touched, is_accepted);
 }
 
-bool watch_reserve_draft(struct watch *w) { return commands_reserve(&w->touched); }
-void watch_draft(struct watch *w) { commands_draft(&w->touched); }
+void watch_draft(struct watch *w)
+{
+    const struct used before = apart();
+    if (!commands_reserve(&w->touched))
+        lose(w);
+    gwb_used = before;
+    commands_draft(&w->touched);
+}
 void watch_commit(struct watch *w)
 {
     w->undone_before = 0;
@@ -184,26 +230,47 @@ void watch_commit(struct watch *w)
 }
 void watch_abandon(struct watch *w) { commands_abandon(&w->touched); }
 
-/* Writes down the solids of a command. */
-static bool see(struct watch *w, const gwb *g, size_t command)
+/* Writes down the solids of some items. */
+static void see(struct watch *w, const gwb *g, size_t from, size_t to)
 {
-    bool is_well = true;
-    for (size_t i = commands_first(&w->touched, command); i < commands_first(&w->touched, command + 1) && is_well; i++) {
+    const struct used before = apart();
+    for (size_t i = from; i < to; i++) {
         const uint32_t solid = ((uint32_t *)w->touched.items.items)[i];
-        is_well = solid != 0 ? write_solid(w, g, solid) : write_all(w, g);
+        solid != 0 ? write_solid(w, g, solid) : write_all(w, g);
     }
-    return is_well;
+    gwb_used = before;
 }
 
-bool watch_see_undo(struct watch *w, const gwb *g) { return w->touched.held > 0 ? see(w, g, w->touched.held - 1) : write_all(w, g); }
-bool watch_see_redo(struct watch *w, const gwb *g)
+/* Those of a command; of one that isn't known, all. */
+static void see_command(struct watch *w, const gwb *g, bool is_known, size_t command)
 {
-    if (w->undone_before > 0)
-        return write_all(w, g);
-    return w->touched.held == w->touched.begins.count || see(w, g, w->touched.held);
+    const struct used before = apart();
+    if (is_known)
+        see(w, g, commands_first(&w->touched, command), commands_first(&w->touched, command + 1));
+    else
+        write_all(w, g);
+    gwb_used = before;
 }
+
+void watch_see_draft(struct watch *w, const gwb *g)
+{
+    if (w->touched.is_drafting)
+        see(w, g, w->touched.draft, w->touched.items.count);
+}
+
+/* What is known of none, and was undone before the watch, is redone first of all: then none that is known is held. */
+static bool is_redone_known(const struct watch *w) { return w->undone_before == 0 && w->touched.held < w->touched.begins.count; }
+
+void watch_see_undo(struct watch *w, const gwb *g) { see_command(w, g, w->touched.held > 0, w->touched.held - 1); }
+void watch_see_redo(struct watch *w, const gwb *g) { see_command(w, g, is_redone_known(w), w->touched.held); }
 void watch_undo(struct watch *w) { w->touched.held > 0 ? w->touched.held-- : w->undone_before++; }
-void watch_redo(struct watch *w) { w->undone_before > 0 ? w->undone_before-- : w->touched.held++; }
+void watch_redo(struct watch *w)
+{
+    if (is_redone_known(w))
+        w->touched.held++;
+    else if (w->undone_before > 0)
+        w->undone_before--;
+}
 
 /* ---- what is asked of it */
 
@@ -220,7 +287,7 @@ enum gwb_kind gwb_watch(gwb *g, bool is_asked)
     struct beside *of = beside_of(g);
     if (of->watch == NULL) {
         struct used before = gwb_used;
-        gwb_used = (struct used){of->heap, of->pages};
+        gwb_used = (struct used){of->heap, NULL};
         of->watch = watch_new(of->is_drafting);
         gwb_used = before;
         if (of->watch == NULL)
@@ -228,7 +295,7 @@ enum gwb_kind gwb_watch(gwb *g, bool is_asked)
     }
     struct watch *w = of->watch;
     w->is_asked = is_asked;
-    w->are_all = false;
+    w->are_all = w->is_lost = false;
     w->solids.count = w->before.half_edges.count = w->before.vertices.count = w->before.faces.count = 0;
     forget_changes(w);
     return GWB_OK;
@@ -237,7 +304,8 @@ enum gwb_kind gwb_watch(gwb *g, bool is_asked)
 /* The least solid above one that was touched, or is there where all were: 0 where there is none. */
 static uint32_t touched_after(const gwb *g, const struct watch *w, uint32_t solid)
 {
-    const size_t place = place_of(w, solid + 1);
+    size_t place = place_of(w, solid);
+    place += place < w->solids.count && solids(w)[place] == solid;
     const uint32_t touched = place < w->solids.count ? solids(w)[place] : 0;
     uint32_t found = 0;
     if (w->are_all)
@@ -245,11 +313,11 @@ static uint32_t touched_after(const gwb *g, const struct watch *w, uint32_t soli
     return found == 0 || (touched != 0 && touched < found) ? touched : found;
 }
 
-/* Compares what was touched with what it is now. */
+/* Compares what was touched with what it is now: false where any of it was lost, or memory is refused. */
 static bool compare(struct watch *w, const gwb *g)
 {
     struct solids after = NO_SOLIDS;
-    bool is_well = true;
+    bool is_well = !w->is_lost;
     forget_changes(w);
     for (uint32_t solid = 0; is_well && (solid = touched_after(g, w, solid)) != 0;)
         is_well = write_rows(&after, g, solid);
@@ -268,7 +336,7 @@ enum gwb_kind gwb_compare(gwb *g)
     if (of->watch == NULL)
         return GWB_OK;
     struct used before = gwb_used;
-    gwb_used = (struct used){of->heap, of->pages};
+    gwb_used = (struct used){of->heap, NULL};
     const bool is_well = compare(of->watch, g);
     gwb_used = before;
     return is_well ? GWB_OK : GWB_MEMORY;

@@ -667,7 +667,8 @@ enum gwb_kind gwb_lines(gwb *g, const char *script, size_t n, size_t *line);
 uint64_t gwb_changes(const gwb *g);
 
 /** From here on each command that is accepted is recorded as a line of a script, and what is recorded follows undo, redo and drafts. Where
- * memory for the record is refused, calls are GWB_MEMORY.
+ * memory for its line is refused, a command is GWB_MEMORY, also one that would be refused, and so is gwb_draft: but no other call, and no line
+ * of another word.
  * @return GWB_OK, also where commands were recorded before; GWB_NO_CALL, where the session has done something already; GWB_MEMORY; GWB_CLOSED.
  * But for GWB_OK nothing has changed. */
 enum gwb_kind gwb_record(gwb *g);
@@ -686,7 +687,8 @@ size_t gwb_script(const gwb *g, size_t first, size_t n, char *buf, size_t room);
 
 /** From here on the session keeps of each command which solids it touches, also of those that are undone and redone; and where `is_asked`, what each solid
  * was when it was touched first since this call: what was asked for before is forgotten. A command, undo or redo whose solids aren't known, since it was
- * given before the first such call, or as a line, touches all. Where memory for any of it is refused, calls are GWB_MEMORY.
+ * given before the first such call, or as a line, touches all. No other call is refused for it: where memory for what a solid was is refused, that is
+ * lost, and gwb_compare says so.
  * @return GWB_OK; GWB_MEMORY; GWB_CLOSED. But for GWB_OK nothing has changed. */
 enum gwb_kind gwb_watch(gwb *g, bool is_asked);
 
@@ -696,7 +698,7 @@ typedef struct gwb_change {
 } gwb_change;
 
 /** Compares the solids that were touched since gwb_watch asked, as they were, with what they are, for gwb_compared. It takes about as long as reading both.
- * @return GWB_OK; GWB_MEMORY, and then there are no changes; GWB_CLOSED */
+ * @return GWB_OK; GWB_MEMORY, and then there are no changes: where what a solid was is lost, that stays so until the next gwb_watch; GWB_CLOSED */
 enum gwb_kind gwb_compare(gwb *g);
 
 /** Writes what was found by that, rising, as far as there is room: the faces (GWB_FACE) or edges (GWB_EDGE) that were made, or those that are gone. Of a closed
