@@ -35,7 +35,7 @@ def places(version: str) -> Iterator[Place]:
     yield Place('bindings/rust/Cargo.toml', r'^version = "(.*)"$', version)
     yield Place('bindings/rust/sys/Cargo.toml', r'^version = "(.*)"$', version)
     yield Place('bindings/rust/sys/src/lib.rs', r'^pub const VERSION: u32 = (.*);$', f'{number:_}')
-    yield Place('CHANGELOG.md', r'^## (.*)$', version)
+    yield Place('CHANGELOG.md', r'^## ([^(\n]*)$', version)  # a release that isn't out yet says so in parentheses
     yield Place('bindings/include/gwb.h', r'^#define GWB_VERSION (\d+)$', str(number), needed=False)
 
 
