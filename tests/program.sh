@@ -54,6 +54,7 @@ wrote() {
 
 # A script in a file, on standard input, from a pipe, and in a file whose name is that of a flag.
 gwb examples/wire.gwb < /dev/null; ended 'a file' 0; told 'a file' examples/wire.expected
+same 'standard input, beside a file' rest "$(echo rest | { gwb examples/wire.gwb; cat; })"
 gwb < examples/wire.gwb; ended 'standard input' 0; told 'standard input' examples/wire.expected
 cat examples/wire.gwb | gwb; ended 'a pipe' 0; told 'a pipe' examples/wire.expected
 cp examples/wire.gwb "$dir/--stop"
@@ -139,6 +140,14 @@ same 'a reply before the end' empty "$reply"
 exec 3>&- 4<&-
 wait $!; echo $? > "$dir/status"
 ended 'a conversation' 0
+
+# With `--stop` the program ends at the first complaint, though more may come.
+timeout 60 "$program" --stop < "$dir/to" > "$dir/out" 2> "$dir/err" &
+exec 3> "$dir/to"
+echo kvfs 1 >&3
+wait $!; echo $? > "$dir/status"
+exec 3>&-
+ended 'an end before the input ends' 1; wrote 'an end before the input ends' "$stops"
 
 echo "$((count - wrong)) passed, $wrong failed, $skipped skipped"
 [ "$wrong" = 0 ]
