@@ -8,15 +8,21 @@
 #include "history.h"
 #include "walks.h"
 
+/* What solids were from a place on: they are written down before they are touched for the first time after it. */
+struct asked {
+    size_t place;         /* that of gwb_watch is 0 */
+    bool are_all;         /* whether all were touched, also those that were made */
+    bool is_lost;         /* whether memory was refused for what a solid was */
+    struct list solids;   /* of uint32_t: those that were touched, rising */
+    struct solids before; /* what they were */
+};
+
 struct watch {
     struct commands touched;   /* of uint32_t: solids */
     size_t undone_before;      /* how many commands are undone that were given before any was watched */
-    bool is_asked;             /* whether what solids were before is asked for: */
-    bool are_all;              /* whether all were touched, also those that were made */
-    bool is_lost;              /* whether memory was refused for what a solid was */
-    struct list solids;        /* of uint32_t: those that were touched, rising */
-    struct solids before;      /* what they were */
-    struct list changes[2][2]; /* of gwb_change: what was found of them (history.h) */
+    size_t places;             /* how many were given */
+    struct list asked;         /* of struct asked */
+    struct list changes[2][2]; /* of gwb_change: what was found last (history.h) */
 };
 
 #define NO_SOLIDS {{.size = sizeof(gwb_half_edge_row)}, {.size = sizeof(gwb_vertex_row)}, {.size = sizeof(uint32_t)}}
@@ -38,7 +44,7 @@ struct watch *watch_new(bool is_drafting)
     if (!block.ok)
         return NULL;
     struct watch *w = block.at;
-    *w = (struct watch){.touched = NO_COMMANDS(uint32_t), .solids.size = sizeof(uint32_t), .before = NO_SOLIDS,
+    *w = (struct watch){.touched = NO_COMMANDS(uint32_t), .asked.size = sizeof(struct asked),
                         .changes = {{NO_CHANGES, NO_CHANGES}, {NO_CHANGES, NO_CHANGES}}};
     w->touched.is_drafting = is_drafting;
     if (!list_reserve(&w->touched.items, 2) || !commands_reserve(&w->touched)) {
@@ -57,23 +63,43 @@ static void free_solids(struct solids *solids)
     list_free(&solids->faces);
 }
 
+static void free_asked(struct asked *a)
+{
+    list_free(&a->solids);
+    free_solids(&a->before);
+}
+
+/* What is asked for, one place after another. */
+static struct asked *asked_at(const struct watch *w, size_t at) { return (struct asked *)w->asked.items + at; }
+
+/* What is asked for from a place on, or NULL. */
+static struct asked *asked_from(const struct watch *w, size_t place)
+{
+    for (size_t at = 0; at < w->asked.count; at++)
+        if (asked_at(w, at)->place == place)
+            return asked_at(w, at);
+    return NULL;
+}
+
 void watch_free(struct watch *w)
 {
     if (w == NULL)
         return;
-    struct list *lists[] = {&w->solids, &w->changes[0][0], &w->changes[0][1], &w->changes[1][0], &w->changes[1][1]};
+    struct list *lists[] = {&w->changes[0][0], &w->changes[0][1], &w->changes[1][0], &w->changes[1][1]};
     for (size_t i = 0; i < sizeof lists / sizeof *lists; i++)
         list_free(lists[i]);
+    for (size_t at = 0; at < w->asked.count; at++)
+        free_asked(asked_at(w, at));
+    list_free(&w->asked);
     commands_free(&w->touched);
-    free_solids(&w->before);
     rattle_dealloc(w);
 }
 
 /* ---- what solids were */
 
 /* The solids that were touched, and the place of one among them, or where it would stand. */
-static uint32_t *solids(const struct watch *w) { return w->solids.items; }
-static size_t place_of(const struct watch *w, uint32_t solid) { return first_from(solids(w), w->solids.count, sizeof solid, solid); }
+static uint32_t *solids(const struct asked *a) { return a->solids.items; }
+static size_t place_of(const struct asked *a, uint32_t solid) { return first_from(solids(a), a->solids.count, sizeof solid, solid); }
 
 static bool write_faces(struct solids *to, const gwb *g, uint32_t solid)
 {
@@ -109,26 +135,33 @@ static bool write_rows(struct solids *to, const gwb *g, uint32_t solid)
     return false;
 }
 
-/* Writes down what a solid is, if that is asked for and it isn't written down yet. Where all were, it has been made since. */
-static void write_solid(struct watch *w, const gwb *g, uint32_t solid)
+/* Writes down what a solid is, if it isn't written down yet. Where all were, it has been made since. */
+static void write_in(struct asked *a, const gwb *g, uint32_t solid)
 {
-    const size_t place = w->is_asked ? place_of(w, solid) : 0;
-    if (!w->is_asked || w->is_lost || w->are_all || (place < w->solids.count && solids(w)[place] == solid))
+    const size_t place = place_of(a, solid);
+    if (a->is_lost || a->are_all || (place < a->solids.count && solids(a)[place] == solid))
         return;
-    if (!list_reserve(&w->solids, w->solids.count + 1) || !write_rows(&w->before, g, solid)) {
-        w->is_lost = true;
+    if (!list_reserve(&a->solids, a->solids.count + 1) || !write_rows(&a->before, g, solid)) {
+        a->is_lost = true;
         return;
     }
-    uint32_t *at = solids(w) + place;
-    memmove(at + 1, at, (w->solids.count++ - place) * sizeof *at);
+    uint32_t *at = solids(a) + place;
+    memmove(at + 1, at, (a->solids.count++ - place) * sizeof *at);
     *at = solid;
 }
 
-static void write_all(struct watch *w, const gwb *g)
+static void write_all_in(struct asked *a, const gwb *g)
 {
-    for (uint32_t solid = 0; w->is_asked && !w->is_lost && gwb_number_after(g, GWB_SOLID, solid, &solid) == GWB_FOUND;)
-        write_solid(w, g, solid);
-    w->are_all = !w->is_lost;
+    for (uint32_t solid = 0; !a->is_lost && gwb_number_after(g, GWB_SOLID, solid, &solid) == GWB_FOUND;)
+        write_in(a, g, solid);
+    a->are_all = !a->is_lost;
+}
+
+/* The same for all that is asked for; solid 0 stands for all. */
+static void write_solid(struct watch *w, const gwb *g, uint32_t solid)
+{
+    for (size_t at = 0; at < w->asked.count; at++)
+        solid != 0 ? write_in(asked_at(w, at), g, solid) : write_all_in(asked_at(w, at), g);
 }
 
 /* ---- which are touched */
@@ -203,7 +236,7 @@ void watch_touch_any(struct watch *w, const gwb *g)
 {
     const struct used before = apart();
     commands_begin(&w->touched);
-    write_all(w, g);
+    write_solid(w, g, 0);
     added(w, touch(w, 0));
     gwb_used = before;
 }
@@ -234,10 +267,8 @@ void watch_abandon(struct watch *w) { commands_abandon(&w->touched); }
 static void see(struct watch *w, const gwb *g, size_t from, size_t to)
 {
     const struct used before = apart();
-    for (size_t i = from; i < to; i++) {
-        const uint32_t solid = ((uint32_t *)w->touched.items.items)[i];
-        solid != 0 ? write_solid(w, g, solid) : write_all(w, g);
-    }
+    for (size_t i = from; i < to; i++)
+        write_solid(w, g, ((uint32_t *)w->touched.items.items)[i]);
     gwb_used = before;
 }
 
@@ -248,7 +279,7 @@ static void see_command(struct watch *w, const gwb *g, bool is_known, size_t com
     if (is_known)
         see(w, g, commands_first(&w->touched, command), commands_first(&w->touched, command + 1));
     else
-        write_all(w, g);
+        write_solid(w, g, 0);
     gwb_used = before;
 }
 
@@ -280,66 +311,114 @@ static void forget_changes(struct watch *w)
         w->changes[of][MADE].count = w->changes[of][REMOVED].count = 0;
 }
 
+/* What is asked for from a place on ends. */
+static void end_asked(struct watch *w, size_t place)
+{
+    struct asked *a = asked_from(w, place);
+    if (a == NULL)
+        return;
+    free_asked(a);
+    *a = *asked_at(w, --w->asked.count);
+}
+
+/* Begins to watch a session, and asks from a place on, or not. False where memory is refused. */
+static bool begin(struct beside *of, bool is_asked, size_t place)
+{
+    if (of->watch == NULL && (of->watch = watch_new(of->is_drafting)) == NULL)
+        return false;
+    return !is_asked || list_add(&of->watch->asked, &(struct asked){.place = place, .solids.size = sizeof(uint32_t), .before = NO_SOLIDS});
+}
+
+/* The same, in the heap of the session. */
+static enum gwb_kind ask(struct beside *of, bool is_asked, size_t place)
+{
+    const struct used before = gwb_used;
+    gwb_used = (struct used){of->heap, NULL};
+    const bool is_well = begin(of, is_asked, place);
+    gwb_used = before;
+    return is_well ? GWB_OK : GWB_MEMORY;
+}
+
 enum gwb_kind gwb_watch(gwb *g, bool is_asked)
 {
     if (!gwb_is_open(g))
         return GWB_CLOSED;
     struct beside *of = beside_of(g);
-    if (of->watch == NULL) {
-        struct used before = gwb_used;
-        gwb_used = (struct used){of->heap, NULL};
-        of->watch = watch_new(of->is_drafting);
-        gwb_used = before;
-        if (of->watch == NULL)
-            return GWB_MEMORY;
-    }
-    struct watch *w = of->watch;
-    w->is_asked = is_asked;
-    w->are_all = w->is_lost = false;
-    w->solids.count = w->before.half_edges.count = w->before.vertices.count = w->before.faces.count = 0;
-    forget_changes(w);
+    const bool was_asked = of->watch != NULL && asked_from(of->watch, 0) != NULL;
+    const enum gwb_kind answer = ask(of, is_asked, 0);
+    if (answer != GWB_OK)
+        return answer;
+    if (was_asked) /* (before what is asked for now) */
+        end_asked(of->watch, 0);
+    forget_changes(of->watch);
     return GWB_OK;
 }
 
-/* The least solid above one that was touched, or is there where all were: 0 where there is none. */
-static uint32_t touched_after(const gwb *g, const struct watch *w, uint32_t solid)
+enum gwb_kind gwb_watch_from(gwb *g, size_t *place)
 {
-    size_t place = place_of(w, solid);
-    place += place < w->solids.count && solids(w)[place] == solid;
-    const uint32_t touched = place < w->solids.count ? solids(w)[place] : 0;
+    if (!gwb_is_open(g))
+        return GWB_CLOSED;
+    struct beside *of = beside_of(g);
+    const size_t next = of->watch != NULL ? of->watch->places + 1 : 1;
+    const enum gwb_kind answer = ask(of, true, next);
+    if (answer == GWB_OK)
+        *place = of->watch->places = next;
+    return answer;
+}
+
+void gwb_watch_to(gwb *g, size_t place)
+{
+    if (gwb_is_open(g) && beside_of(g)->watch != NULL)
+        end_asked(beside_of(g)->watch, place);
+}
+
+/* The least solid above one that was touched, or is there where all were: 0 where there is none. */
+static uint32_t touched_after(const gwb *g, const struct asked *a, uint32_t solid)
+{
+    size_t place = place_of(a, solid);
+    place += place < a->solids.count && solids(a)[place] == solid;
+    const uint32_t touched = place < a->solids.count ? solids(a)[place] : 0;
     uint32_t found = 0;
-    if (w->are_all)
+    if (a->are_all)
         gwb_number_after(g, GWB_SOLID, solid, &found);
     return found == 0 || (touched != 0 && touched < found) ? touched : found;
 }
 
 /* Compares what was touched with what it is now: false where any of it was lost, or memory is refused. */
-static bool compare(struct watch *w, const gwb *g)
+static bool compare(struct watch *w, struct asked *a, const gwb *g)
 {
     struct solids after = NO_SOLIDS;
-    bool is_well = !w->is_lost;
-    forget_changes(w);
-    for (uint32_t solid = 0; is_well && (solid = touched_after(g, w, solid)) != 0;)
+    bool is_well = !a->is_lost;
+    for (uint32_t solid = 0; is_well && (solid = touched_after(g, a, solid)) != 0;)
         is_well = write_rows(&after, g, solid);
-    is_well = is_well && history_find(&w->before, &after, w->changes);
+    is_well = is_well && history_find(&a->before, &after, w->changes);
     free_solids(&after);
     if (!is_well)
         forget_changes(w);
     return is_well;
 }
 
-enum gwb_kind gwb_compare(gwb *g)
+enum gwb_kind gwb_compare_from(gwb *g, size_t place)
 {
     if (!gwb_is_open(g))
         return GWB_CLOSED;
     const struct beside *of = beside_of(g);
-    if (of->watch == NULL)
-        return GWB_OK;
+    struct asked *a = of->watch != NULL ? asked_from(of->watch, place) : NULL;
+    if (of->watch != NULL)
+        forget_changes(of->watch);
+    if (a == NULL)
+        return GWB_NO_CALL;
     struct used before = gwb_used;
     gwb_used = (struct used){of->heap, NULL};
-    const bool is_well = compare(of->watch, g);
+    const bool is_well = compare(of->watch, a, g);
     gwb_used = before;
     return is_well ? GWB_OK : GWB_MEMORY;
+}
+
+enum gwb_kind gwb_compare(gwb *g)
+{
+    const enum gwb_kind answer = gwb_compare_from(g, 0);
+    return answer != GWB_NO_CALL ? answer : GWB_OK;
 }
 
 size_t gwb_compared(const gwb *g, uint32_t entity, bool is_made, gwb_change *rows, size_t room)

@@ -23,7 +23,7 @@ CRATES = ('gwb_c', 'session_slots')
 # Calls that hand on to no export of their own: they are of what lies beside the kernel, or put together of other calls.
 BESIDE = {'gwb_succeeded', 'gwb_kind_text', 'gwb_is_open', 'gwb_use_heap', 'gwb_open_in', 'gwb_last_block', 'gwb_last_lamina', 'gwb_plus', 'gwb_minus',
           'gwb_lone', 'gwb_read_half_edges', 'gwb_read_vertices', 'gwb_read_triangles', 'gwb_face_triangles', 'gwb_load', 'gwb_lines', 'gwb_changes',
-          'gwb_record', 'gwb_recorded', 'gwb_script', 'gwb_watch', 'gwb_compare', 'gwb_compared',
+          'gwb_record', 'gwb_recorded', 'gwb_script', 'gwb_watch', 'gwb_watch_from', 'gwb_watch_to', 'gwb_compare', 'gwb_compare_from', 'gwb_compared',
           'gwb_stop_by', 'gwb_greatest_number'}
 # C's name of each struct, and the names by which C and the crate call the same argument or field where they differ.
 STRUCTS = {'Refused': 'gwb_refusal', 'Counts': 'gwb_counts', 'Wide': 'gwb_wide', 'PlaneRow': 'gwb_plane', 'HalfEdgeRow': 'gwb_half_edge_row',

@@ -49,6 +49,27 @@ static void try_operators()
     check(bench.count(block).faces == 6, "the block is there");
 }
 
+// A follow in another: each tells what came in it.
+static void try_nested()
+{
+    Workbench bench;
+    const Block block = bench.block({0, 0, 0}, {4, 4, 4});
+    Notes<Face, int> outer, inner;
+    outer[block.sides[0]] = inner[block.top] = 7;
+    Changes within;
+    const Changes changes = follow(
+        bench,
+        [&] {
+            bench.split(block.solid, 0, 0, 1, -2);
+            within = follow(bench, [&] { bench.block({9, 9, 9}, {1, 1, 1}); }, inner);
+            auto attempts = bench.attempt();
+            check(!kill_solid(attempts, Solid()), "a call that is refused");
+        },
+        outer);
+    check(within.faces.made.size() == 6 && changes.faces.made.size() == 12, "what came in each");
+    check(outer.all().size() == 2 && inner.all().size() == 1, "the notes of both");
+}
+
 // The plane of a face with its coefficients divided by what they have in common: faces on one plane that look one way have the same.
 static std::array<std::int64_t, 4> plane_of(const Workbench &bench, Face face)
 {
@@ -407,7 +428,7 @@ static void try_costs()
 
 int main()
 {
-    for (void (*part)() : {try_operators, try_splits, try_gone, try_numbers_used_again, try_throws, try_walls_and_copies, try_touched,
+    for (void (*part)() : {try_operators, try_nested, try_splits, try_gone, try_numbers_used_again, try_throws, try_walls_and_copies, try_touched,
                            try_what_was_before, try_draft_given_up, try_costs}) {
         try {
             part();

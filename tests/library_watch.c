@@ -319,6 +319,39 @@ static void try_greatest_numbers(void)
     gwb_close(&g);
 }
 
+static size_t made_from(gwb *g, size_t place)
+{
+    check(gwb_compare_from(g, place) == GWB_OK, "what is asked for from a place");
+    return gwb_compared(g, GWB_FACE, true, NULL, 0);
+}
+
+/* Watches one in another, and side by side: none ends another. */
+static void try_nested(void)
+{
+    gwb g = {0};
+    size_t outer = 0, inner = 0;
+    check(gwb_watch_from(&g, &outer) == GWB_CLOSED && gwb_compare_from(&g, 1) == GWB_CLOSED, "a closed handle");
+    gwb_watch_to(&g, 1);
+    if (!gwb_open(&g))
+        abort();
+    check(gwb_compare_from(&g, 1) == GWB_NO_CALL && gwb_compare(&g) == GWB_OK, "nothing is asked for");
+    check(gwb_watch_from(&g, &outer) == GWB_OK && outer != 0, "no outer watch");
+    gwb_block(&g, 1, 0, 0, 0, 4, 4, 4);
+    check(gwb_watch_from(&g, &inner) == GWB_OK && inner != outer, "no inner watch");
+    gwb_split(&g, 1, 0, 0, 1, -2, 2);
+    check(gwb_watch(&g, true) == GWB_OK, "no watch beside them");
+    gwb_block(&g, 3, 9, 0, 0, 4, 4, 4);
+    check(made_from(&g, outer) == 18 && made_from(&g, inner) == 12 && made_from(&g, 0) == 6, "each tells what came after it");
+    check(gwb_compare(&g) == GWB_OK && gwb_compared(&g, GWB_FACE, true, NULL, 0) == 6, "gwb_compare tells what came after gwb_watch");
+    gwb_watch_to(&g, inner);
+    check(gwb_compare_from(&g, inner) == GWB_NO_CALL && gwb_compared(&g, GWB_FACE, true, NULL, 0) == 0, "what is ended isn't asked for");
+    check(gwb_watch(&g, false) == GWB_OK && gwb_compare(&g) == GWB_OK && gwb_compared(&g, GWB_FACE, true, NULL, 0) == 0, "nor that of gwb_watch");
+    gwb_undo(&g);
+    check(made_from(&g, outer) == 12, "the outer watch goes on");
+    check(gwb_watch_from(&g, &inner) == GWB_OK && gwb_compare_from(&g, inner) == GWB_OK, "another inner watch");
+    gwb_close(&g);
+}
+
 /* Each word of a command is recorded where it is a line. */
 static void try_words(void)
 {
@@ -342,6 +375,7 @@ int main(int argc, char **argv)
     try_redone();
     try_drafts();
     try_greatest_numbers();
+    try_nested();
     try_words();
     try_each_request();
     try_random(argc > 1 ? strtol(argv[1], NULL, 10) : 200);

@@ -686,11 +686,19 @@ size_t gwb_recorded(const gwb *g);
 size_t gwb_script(const gwb *g, size_t first, size_t n, char *buf, size_t room);
 
 /** From here on the session keeps of each command which solids it touches, also of those that are undone and redone; and where `is_asked`, what each solid
- * was when it was touched first since this call: what was asked for before is forgotten. A command, undo or redo whose solids aren't known, since it was
- * given before the first such call, or as a line, touches all. No other call is refused for it: where memory for what a solid was is refused, that is
- * lost, and gwb_compare says so.
+ * was when it was touched first since this call: what was asked for before is forgotten, but for that of gwb_watch_from. A command, undo or redo whose
+ * solids aren't known, since it was given before the first such call, or as a line, touches all. No other call is refused for it: where memory for what a
+ * solid was is refused, that is lost, and gwb_compare says so.
  * @return GWB_OK; GWB_MEMORY; GWB_CLOSED. But for GWB_OK nothing has changed. */
 enum gwb_kind gwb_watch(gwb *g, bool is_asked);
+
+/** The same from a place on, which is written: as many may be asked for at once as are wanted, one within another or side by side, and none ends another.
+ * What is written down until gwb_watch_to costs as much for each of them.
+ * @return GWB_OK; GWB_MEMORY; GWB_CLOSED. But for GWB_OK nothing has changed. */
+enum gwb_kind gwb_watch_from(gwb *g, size_t *place);
+
+/** Ends what gwb_watch_from asked for, and nothing where no such is asked for. */
+void gwb_watch_to(gwb *g, size_t place);
 
 /** A face or an edge that is new or gone, and the one that it was split from, or joined to: 0 where there is none. */
 typedef struct gwb_change {
@@ -701,7 +709,11 @@ typedef struct gwb_change {
  * @return GWB_OK; GWB_MEMORY, and then there are no changes: where what a solid was is lost, that stays so until the next gwb_watch; GWB_CLOSED */
 enum gwb_kind gwb_compare(gwb *g);
 
-/** Writes what was found by that, rising, as far as there is room: the faces (GWB_FACE) or edges (GWB_EDGE) that were made, or those that are gone. Of a closed
+/** The same from a place on.
+ * @return also GWB_NO_CALL, where nothing is asked for from there on; then there are no changes */
+enum gwb_kind gwb_compare_from(gwb *g, size_t place);
+
+/** Writes what was found by the last of these, rising, as far as there is room: the faces (GWB_FACE) or edges (GWB_EDGE) that were made, or those that are gone. Of a closed
  * handle none. A reader.
  *
  * A new face was split from the one that had a half-edge of it, or else an edge along one of its own from the same vertex, if it lies in that face's plane

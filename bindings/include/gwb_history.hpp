@@ -51,18 +51,18 @@ struct Changes {
     }
 };
 
-/// What comes is watched until the end of the scope (gwb_watch).
+/// What comes is watched until the end of the scope (gwb_watch_from). Such scopes may lie one in another.
 class Watching {
 public:
-    explicit Watching(gwb *g) : g_(g), began_(gwb_changes(g)), from_(gwb_depth(g)) { require(gwb_watch(g, true)); }
+    explicit Watching(gwb *g) : g_(g), began_(gwb_changes(g)), from_(gwb_depth(g)) { require(gwb_watch_from(g, &place_)); }
     Watching(const Watching &) = delete;
     Watching &operator=(const Watching &) = delete;
-    ~Watching() { (void)gwb_watch(g_, false); }
+    ~Watching() { gwb_watch_to(g_, place_); }
 
     /// What happened since.
     [[nodiscard]] Changes changes(Turn turn) const
     {
-        require(gwb_compare(g_));
+        require(gwb_compare_from(g_, place_));
         return {changes_of<Face>(), changes_of<Edge>(), turn, from_, gwb_depth(g_), began_, gwb_changes(g_)};
     }
 
@@ -88,7 +88,7 @@ private:
 
     gwb *g_;
     std::uint64_t began_;
-    std::size_t from_;
+    std::size_t from_, place_ = 0;
 };
 
 /// Values on faces or on edges, which follow what becomes of them: a part that was split off has a copy of the value; what is gone has none, and has

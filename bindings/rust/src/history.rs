@@ -64,9 +64,10 @@ impl Noted for Edge {
     }
 }
 
-/// What comes is watched for as long as this is there.
+/// What comes is watched for as long as this is there; such may lie one in another.
 struct Watching<'session> {
     session: &'session mut Session,
+    place: usize,
     depth: usize,
     count: u64,
 }
@@ -74,14 +75,15 @@ struct Watching<'session> {
 // SAFETY, for all calls in this file: as in readers.rs.
 impl<'session> Watching<'session> {
     fn new(session: &'session mut Session) -> Result<Self, Error> {
-        let answer = unsafe { gwb_sys::gwb_watch(session.handle(), true) };
+        let mut place = 0;
+        let answer = unsafe { gwb_sys::gwb_watch_from(session.handle(), &mut place) };
         session.answered(answer)?;
         let (depth, count) = (session.depth(), session.changes());
-        Ok(Self { session, depth, count })
+        Ok(Self { session, place, depth, count })
     }
 
     fn changes(&self, turn: Turn) -> Result<Changes, Error> {
-        let answer = unsafe { gwb_sys::gwb_compare(self.session.handle()) };
+        let answer = unsafe { gwb_sys::gwb_compare_from(self.session.handle(), self.place) };
         self.session.answered(answer)?;
         let (depths, counts) = ([self.depth, self.session.depth()], [self.count, self.session.changes()]);
         Ok(Changes { faces: self.changes_of(), edges: self.changes_of(), turn, depths, counts })
@@ -104,7 +106,7 @@ impl<N: Id> From<gwb_sys::Change> for Change<N> {
 
 impl Drop for Watching<'_> {
     fn drop(&mut self) {
-        unsafe { gwb_sys::gwb_watch(self.session.handle(), false) };
+        unsafe { gwb_sys::gwb_watch_to(self.session.handle(), self.place) };
     }
 }
 

@@ -408,6 +408,21 @@ fn numbers_used_again_have_no_colour() {
     assert_eq!((colours.get(Face(1)), colours.iter().count()), (Some(&"red"), 1));
 }
 
+/// What is followed within another is told to both.
+#[test]
+fn followed_within_another() {
+    let mut session = block();
+    let mut colours = Notes::from([(Face(3), "red")]);
+    let (within, changes) = session
+        .followed(|session| {
+            session.split(Solid(1), [0, 0, 1, -2], None)?;
+            session.followed(|session| session.block(None, [9, 9, 9], [1, 1, 1]).map(drop)).map(|(_, changes)| changes).map_err(|(error, _)| error)
+        })
+        .unwrap();
+    colours.follow(&changes);
+    assert_eq!((within.faces.made.len(), changes.faces.made.len(), colours.iter().count()), (6, 12, 2));
+}
+
 /// What is accepted before a refusal is followed; walls are no parts of the face that is moved; a copy has the values of what it is of.
 #[test]
 fn what_notes_follow() {

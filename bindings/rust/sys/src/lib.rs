@@ -360,7 +360,10 @@ extern "C" {
     pub fn gwb_recorded(g: *const Gwb) -> usize;
     pub fn gwb_script(g: *const Gwb, first: usize, n: usize, buf: *mut u8, room: usize) -> usize;
     pub fn gwb_watch(g: *mut Gwb, is_asked: bool) -> u32;
+    pub fn gwb_watch_from(g: *mut Gwb, place: *mut usize) -> u32;
+    pub fn gwb_watch_to(g: *mut Gwb, place: usize);
     pub fn gwb_compare(g: *mut Gwb) -> u32;
+    pub fn gwb_compare_from(g: *mut Gwb, place: usize) -> u32;
     pub fn gwb_compared(g: *const Gwb, entity: u32, is_made: bool, rows: *mut Change, room: usize) -> usize;
     pub fn gwb_stop_by(g: *mut Gwb, stop: Option<Stop>, user: *mut c_void);
 
