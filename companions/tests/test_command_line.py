@@ -57,18 +57,6 @@ class Programs(unittest.TestCase):
                 self.assertEqual((wanted.err, wanted.status), ('', 0))
                 self.assertEqual(run('explain', *words, str(windows), str(path)), wanted)
 
-    def test_a_script_in_place_of_replies(self):
-        with tempfile.TemporaryDirectory() as folder:
-            path = Path(folder, 'script')
-            for line in ('block 1 0 0 0 4 4 4', '# a block', 'undo'):
-                path.write_text(line + '\nlist\n')
-                for name in LISTING_PROGRAMS:
-                    outcome = run(name, str(path))
-                    self.one_line(name, outcome)
-                    self.assertIn('give what gwb replies to the script', outcome.err)
-            path.write_text('hello\n')
-            self.assertNotIn('script', run('svg', str(path)).err)
-
     def test_words_that_are_refused(self):
         for name in PROGRAMS:
             outcome = run(name, '--nonsense')

@@ -127,7 +127,7 @@ class Program(InFiles):
         for words in (['--view', '0', '0', '0'], ['--section', '0', '0', '0', '1'], ['--section', '0', '0', '1'], ['--face', '1', '--view', '0', '0', '1']):
             self.assertEqual(run('dxf', *words, path).status, 2, words)
         outcome = run('dxf', '--face', '7', path)
-        self.assertEqual((outcome.status, outcome.out, outcome.err), (3, '', 'gwb-dxf: there is no face 7 in the listing\n'))
+        self.assertEqual((outcome.status, outcome.out, outcome.err), (3, '', 'gwb-dxf: there is no face 7\n'))
 
 
 if __name__ == '__main__':

@@ -122,7 +122,7 @@ class Comments(InFolder):
 
     def test_the_way_through_the_programs(self):
         listed = self.file('part.txt', TWO)
-        script = self.file('part.gwb', '\n'.join(comments(LOOKS)) + '\nmvfs 1 1 1 1 0 0 0\n')
+        script = self.file('part.gwb', '\n'.join(comments(LOOKS)) + '\n')
         step = run('step', '--names', script, listed).out
         self.assertEqual(self.looks_back('part.step', step), LOOKS)
         materials = str(self.folder / 'colours.mtl')

@@ -231,11 +231,13 @@ class Scripts(unittest.TestCase):
         self.assertEqual((len(err), err[-1]), (6, 'gwb-view: 3 more complaints'))
 
     def test_names_of_a_script(self):
+        program()
+        listed = subprocess.run([program()], input=b'block 1 0 0 0 4 4 4\nlist\n', capture_output=True, check=True).stdout
         with tempfile.TemporaryDirectory() as folder:
             script = Path(folder, 'names.gwb')
             script.write_bytes(self.SCRIPT)
             for words in (['--names', str(script)], []):
-                data = data_of(self.viewed(BLOCK.encode(), *words).out)
+                data = data_of(self.viewed(listed, *words).out)
                 self.assertEqual(data['names'], {'s1': 'Lid'} if words else {})
 
 

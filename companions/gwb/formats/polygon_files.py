@@ -69,7 +69,7 @@ def _place_of(error: Exception) -> str:
 def form_of(data: bytes, name: str) -> str:
     """The form of a file, by its first bytes, else by the end of its name. Raises NotAMesh where neither says it."""
     begin = data[:_READ_AHEAD].lstrip(b'\xef\xbb\xbf \t\r\n')
-    words = begin.split()[:1] or [b'']
+    words = next((line.split()[:1] for line in begin.splitlines() if line.strip() and not line.lstrip().startswith(b'#')), [b''])
     last = name.lower().rpartition('.')[2]
     ending = _ENDINGS.get(last, '')
     if begin.startswith(b'PK'):
@@ -89,15 +89,19 @@ def form_of(data: bytes, name: str) -> str:
     if not ending and any(line.split()[:1] and line.split()[0] in _OBJ_WORDS for line in data[:_MOST_BYTES].splitlines()):
         return 'obj'
     if not ending:
-        raise _unknown(last)
+        raise _unknown(name)
     return ending
 
 
-def _unknown(ending: str) -> NotAMesh:
+def told_unread(name: str) -> str:
+    """What is to be said of a file whose name ends as one of a form that is known and not read; nothing of others."""
+    ending = name.lower().rpartition('.')[2]
+    return 'it looks like {}, which is not read: {}'.format(*_UNREAD[ending]) if ending in _UNREAD else ''
+
+
+def _unknown(name: str) -> NotAMesh:
     """What is wrong with a file of no form that is read, by the end of its name."""
-    if ending in _UNREAD:
-        return NotAMesh('it looks like {}, which is not read: {}'.format(*_UNREAD[ending]))
-    return NotAMesh(f'it is of no form that is known: {", ".join(FORMS).upper()}; --form says which, and most programs write one of them')
+    return NotAMesh(told_unread(name) or f'it is of no form that is known: {", ".join(FORMS).upper()}; --form says which, and most programs write one of them')
 
 
 def files_beside(path: Optional[str]) -> Beside:

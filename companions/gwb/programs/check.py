@@ -4,7 +4,8 @@ from argparse import ArgumentTypeError
 from typing import Optional, Sequence
 
 from ..checks.check import check
-from .command_line import FOUND, OK, listing_parser, run, wanted_model
+from .command_line import FOUND, OK, listing_parser, run
+from .given import wanted
 
 PROGRAM = 'gwb-check'
 
@@ -16,15 +17,15 @@ def _ratio(word: str) -> int:
 
 
 def work(words: Optional[Sequence[str]]) -> int:
-    """Reads a listing and says what is wrong with it."""
-    parser = listing_parser(PROGRAM, 'Looks in a listing of gwb for rings that run the wrong way or lie outside their face, '
+    """Reads a model and says what is wrong with it."""
+    parser = listing_parser(PROGRAM, 'Looks in a model for rings that run the wrong way or lie outside their face, '
                                      'loops that cross, faces that meet or are bent, solids that are inside out or touch '
                                      'themselves. Solids are looked at one by one. All arithmetic is exact.')
     parser.epilog = (parser.epilog or '') + ' 1: something was found.'
     parser.add_argument('--between', action='store_true', help='look for solids that share room too')
     parser.add_argument('--slivers', type=_ratio, metavar='N', help='name faces and solids more than N times as long as wide or thick, by 1000 say')
     options = parser.parse_args(words)
-    report = check(wanted_model(options), options.between, options.slivers)
+    report = check(wanted(options).model, options.between, options.slivers)
     for line in report.lines():
         print(line)
     return FOUND if report.findings else OK

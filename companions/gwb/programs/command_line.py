@@ -4,11 +4,10 @@ import argparse
 import gc
 import os
 import sys
-from typing import Callable, Optional, Sequence
+from typing import Callable, Optional, Sequence, Tuple
 
 from ..errors import CompanionError
-from ..geometry.model import Model
-from ..protocol.listing import Listed, read_listed
+from ..protocol.listing import Listed
 from ..version import VERSION
 
 OK, FOUND, REFUSED, INTERRUPTED = 0, 1, 3, 130
@@ -67,35 +66,18 @@ def listing_parser(program: str, description: str) -> argparse.ArgumentParser:
     """A parser of the words that all programs which read a listing take."""
     parser = argparse.ArgumentParser(
         prog=program, description=description,
-        epilog='The input is what gwb writes; its last listing is taken. '
-               'Status 0: done; 2: the command line is refused; 3: the input is refused, or reading or writing failed.')
-    parser.add_argument('listing', nargs='?', metavar='FILE', help='replies of gwb with a listing (default: standard input)')
+        epilog='FILE says by what it holds what it is. Status 0: done; 2: the command line is refused; 3: the input is refused, or reading or writing failed.')
+    parser.add_argument('listing', nargs='?', metavar='FILE', help='a script, which is run to its end, replies of gwb, of which the last listing is '
+                                                                   'taken, or a file that gwb-import reads (default: standard input)')
     parser.add_argument('--solid', type=int, metavar='S', help='take solid S alone')
     add_version(parser)
     parser.set_defaults(program=program)
     return parser
 
 
-def warn_of_later(program: str, listed: Listed) -> None:
-    """One line on standard error where commands changed the model after it was listed."""
-    if listed.later:
-        commands = '1 command changed' if listed.later == 1 else f'{listed.later:,} commands changed'
-        print(f'{program}: warning: {commands} the model after this listing: `list` at the end of the script lists what it leaves', file=sys.stderr)
-
-
-def filled_model(options: argparse.Namespace) -> Model:
-    """As wanted_model, but an empty model is refused."""
-    model = wanted_model(options)
-    if not model.solids:
-        raise CompanionError('the model is empty')
-    return model
-
-
-def wanted_model(options: argparse.Namespace) -> Model:
-    """The model that the words of listing_parser name."""
-    listed = read_listed(read_bytes(options.listing))
-    model = listed.model
-    if options.solid is not None and options.solid not in model.solids:
-        raise CompanionError(f'there is no solid {options.solid} in the listing')
-    warn_of_later(options.program, listed)
-    return model if options.solid is None else model.only(options.solid)
+def told_later(listed: Listed) -> Tuple[str, ...]:
+    """What is said where commands changed the model after it was listed."""
+    if not listed.later:
+        return ()
+    commands = '1 command changed' if listed.later == 1 else f'{listed.later:,} commands changed'
+    return (f'warning: {commands} the model after this listing: `list` at the end of the script lists what it leaves',)

@@ -1,20 +1,21 @@
-"""gwb-dxf: writes a drawing, a section or a face of a listing as DXF."""
+"""gwb-dxf: writes a drawing, a section or a face of a model as DXF."""
 
 from typing import Optional, Sequence
 
 from ..drawing.dxf import drawing_dxf, face_dxf, section_dxf
 from ..errors import CompanionError
-from .command_line import OK, filled_model, listing_parser, run
+from .command_line import OK, listing_parser, run
+from .given import filled
 from .inside_out import warn_of_inside_out
-from .names_of_script import add_names, said_by
+from .names_of_script import add_names
 from .svg import view_step
 
 PROGRAM = 'gwb-dxf'
 
 
 def work(words: Optional[Sequence[str]]) -> int:
-    """Reads a listing and writes a drawing of it, or the outlines of a section or a face."""
-    parser = listing_parser(PROGRAM, 'Writes a drawing of a listing as DXF (AutoCAD release 12), or the outlines of a section or a face, '
+    """Reads a model and writes a drawing of it, or the outlines of a section or a face."""
+    parser = listing_parser(PROGRAM, 'Writes a drawing of a model as DXF (AutoCAD release 12), or the outlines of a section or a face, '
                                      'in their true size.')
     kinds = parser.add_mutually_exclusive_group()
     kinds.add_argument('--view', nargs=3, type=view_step, default=(0, 0, 1), metavar=('X', 'Y', 'Z'),
@@ -27,13 +28,13 @@ def work(words: Optional[Sequence[str]]) -> int:
     options = parser.parse_args(words)
     if not any(options.view) or options.section is not None and not any(options.section[:3]):
         parser.error('the first three numbers are a direction, and not all zero')
-    said, model = said_by(options), filled_model(options)
+    model, said, *_ = filled(options)
     if options.section is not None:
         a, b, c, d = options.section
         text = section_dxf(model, (a, b, c, d), said)
     elif options.face is not None:
         if options.face not in model.faces:
-            raise CompanionError(f'there is no face {options.face} in the listing')
+            raise CompanionError(f'there is no face {options.face}')
         text = face_dxf(model, options.face, said)
     else:
         x, y, z = options.view

@@ -1,4 +1,4 @@
-"""gwb-mesh: writes a listing as a mesh of triangles: OFF, OBJ, STL, 3MF or GLB."""
+"""gwb-mesh: writes a model as a mesh of triangles: OFF, OBJ, STL, 3MF or GLB."""
 
 import argparse
 import os
@@ -11,9 +11,10 @@ from ..formats.mesh_files import FORMS
 from ..formats.obj import mtl_text, obj_text
 from ..geometry.model import Model
 from ..geometry.touching_solids import touching_solids
-from .command_line import OK, filled_model, listing_parser, run, write_bytes
+from .command_line import OK, listing_parser, run, write_bytes
+from .given import filled
 from .inside_out import warn_of_inside_out
-from .names_of_script import add_names, said_by
+from .names_of_script import add_names
 
 PROGRAM = 'gwb-mesh'
 # Forms that don't say which triangles are a solid.
@@ -21,8 +22,8 @@ _WITHOUT_SOLIDS = ('off', 'stl')
 
 
 def work(words: Optional[Sequence[str]]) -> int:
-    """Reads a listing and writes its mesh."""
-    parser = listing_parser(PROGRAM, 'Writes a listing of gwb as a mesh of triangles, triangulated exactly.')
+    """Reads a model and writes its mesh."""
+    parser = listing_parser(PROGRAM, 'Writes a model as a mesh of triangles, triangulated exactly.')
     parser.add_argument('--form', choices=FORMS, default='off', help='the form of the mesh (default: off)')
     parser.add_argument('--materials', metavar='FILE', help='with --form obj: write the colours to this file, which the mesh names')
     parser.add_argument('--groups', action='store_true', help='with --form obj: a group for each face, which many programs take for a mesh of its own')
@@ -32,8 +33,8 @@ def work(words: Optional[Sequence[str]]) -> int:
         parser.error('argument --materials: it goes with --form obj')
     if options.groups and options.form != 'obj':
         parser.error('argument --groups: it goes with --form obj')
-    said = said_by(options)
-    mesh = mesh_of(filled_model(options))
+    model, said, *_ = filled(options)
+    mesh = mesh_of(model)
     write_bytes(_written(mesh, options, said))
     warn_of_inside_out(PROGRAM, mesh.model)
     if options.form in _WITHOUT_SOLIDS:

@@ -5,18 +5,12 @@ from fractions import Fraction
 
 from ..formats.appearance import Said, appearances_in
 from ..scripts.unit_comments import unit_in
-from .command_line import read_bytes
 
 
 def add_names(parser: argparse.ArgumentParser) -> None:
     """Adds the word."""
-    parser.add_argument('--names', metavar='SCRIPT',
-                        help='take names, colours and the unit from the comments of a script, as gwb-import and sessions of Python write them')
-
-
-def said_by(options: argparse.Namespace) -> Said:
-    """What the script says; nothing where no script is named. The last unit counts."""
-    return Said() if options.names is None else said_in(read_bytes(options.names))
+    parser.add_argument('--names', metavar='SCRIPT', dest='script_of_names',
+                        help='with replies: take names, colours and the unit from the comments of their script, as gwb-import and Python write them')
 
 
 def said_in(data: bytes) -> Said:

@@ -3,14 +3,14 @@
 import os
 import re
 from contextlib import closing
-from typing import Dict, Iterable, List, NamedTuple, Optional, Sequence, Set, Tuple, Union
+from typing import Callable, Dict, Iterable, Iterator, List, NamedTuple, Optional, Sequence, Set, Tuple, TypeVar, Union
 
 from ..drawing.page import Step
 from ..drawing.page_rows import EMPTY, PageRows
 from ..errors import ProgramMissing
 from ..geometry.model import Model
 from ..geometry.vectors import Vector
-from ..protocol.language import first_word, is_answered
+from ..protocol.language import first_word, is_answered, is_comment
 from ..protocol.replies import Reply, shortened
 from ..session.library import Library, find_path, is_library
 from .explain import meaning
@@ -26,6 +26,8 @@ _TURNS = {'undo': -1, 'redo': 0}
 _NUMBER = re.compile('@?([+-]?)0*([0-9]{1,9})')
 # The reply to a command, and the model before and after it, or that of some faces, among which are all that it changed.
 Answer = Tuple[Reply, Model, Model]
+InLibrary = TypeVar('InLibrary', bound=Library)
+InProgram = TypeVar('InProgram', bound=Pipe)
 
 
 class Played(NamedTuple):
@@ -134,23 +136,28 @@ def _number(word: str) -> int:
     return int(found[1] + found[2]) if found else 0
 
 
-def _player() -> Union[LibraryPlayer, ProgramPlayer]:
-    """The library; the program where the environment variable GWB names one, or there is no library."""
+def _begun(by_library: Callable[[str], InLibrary], by_program: Callable[[str], InProgram]) -> Union[InLibrary, InProgram]:
+    """What runs a script by the library; by the program where the environment variable GWB names one, or there is no library."""
     named = os.environ.get('GWB', '')
     if not named or is_library(named):
         try:
-            return LibraryPlayer(find_path())
+            return by_library(find_path())
         except ProgramMissing:
             if named:
                 raise
-    return ProgramPlayer(find_program())
+    return by_program(find_program())
+
+
+def _given(script: bytes) -> Iterator[Tuple[int, bytes]]:
+    """The lines of a script that are given to gwb, with their numbers: comments aren't, whatever their letters."""
+    return ((number, line) for number, line in enumerate(script.split(b'\n'), 1) if is_answered(line) and not is_comment(line))
 
 
 def played(script: bytes) -> Played:
     """The commands of a script, run one after another."""
     rows, steps = PageRows(), []
-    with closing(_player()) as player:
-        for line in filter(is_answered, script.split(b'\n')):
+    with closing(_begun(LibraryPlayer, ProgramPlayer)) as player:
+        for _, line in _given(script):
             reply, before, after = player.give(line.decode('utf-8', 'surrogateescape'))
             told = shortened(line.decode('ascii', 'backslashreplace').strip(), 200)
             steps.append(Step(told, _told(line, reply), reply.is_complaint, rows.changed(before, after)))
@@ -165,15 +172,28 @@ class Ended(NamedTuple):
 
 
 def run_to_its_end(script: bytes) -> Ended:
-    """Runs the commands of a script through the program."""
+    """Runs the commands of a script."""
     complaints: List[str] = []
-    with closing(Pipe(find_program())) as pipe:
-        for number, line in ((number, line) for number, line in enumerate(script.split(b'\n'), 1) if is_answered(line)):
-            reply = pipe.ask(line.decode('utf-8', 'surrogateescape'))
+    with closing(_begun(Library, Pipe)) as bench:
+        for number, line in _given(script):
+            if first_word(line) == 'list':
+                continue
+            reply = bench.ask(line.decode('utf-8', 'surrogateescape'))
             if reply.is_complaint:
                 told = shortened(line.decode('ascii', 'backslashreplace').strip(), 60)
                 complaints.append(f'line {number}: {told}: {_told(line, reply)}')
-        return Ended(pipe.model(), complaints)
+        return Ended(bench.model(), complaints)
+
+
+def models_of(script: bytes) -> Iterator[Model]:
+    """The models that a script lists, and the one that it leaves."""
+    with closing(_begun(Library, Pipe)) as bench:
+        for _, line in _given(script):
+            if first_word(line) == 'list':
+                yield bench.model()
+            else:
+                bench.ask(line.decode('utf-8', 'surrogateescape'))
+        yield bench.model()
 
 
 def _told(line: bytes, reply: Reply) -> str:

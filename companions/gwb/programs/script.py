@@ -1,4 +1,4 @@
-"""Writes the script that makes the model of a listing, or that takes it away."""
+"""Writes the script that makes a model, or that takes it away."""
 
 import argparse
 import re
@@ -10,10 +10,11 @@ from ..geometry.free_numbers import renumbered_after
 from ..geometry.joined_models import without
 from ..geometry.model import Model
 from ..geometry.moved import Change, changed, mirroring, moving, scaling, turning
-from ..protocol.listing import read_model
 from ..scripts.inversion import script_of, taking_away
 from ..scripts.short_script import short_script_of
-from .command_line import OK, listing_parser, read_bytes, run
+from ..scripts.unit_comments import unit_lines
+from .command_line import OK, listing_parser, run
+from .given import given
 from .inside_out import warn_of_inside_out
 
 PROGRAM = 'gwb-script'
@@ -58,7 +59,7 @@ class _Change(argparse.Action):
 
 
 def _parser() -> argparse.ArgumentParser:
-    parser = listing_parser(PROGRAM, 'Writes the script that makes the model of a listing of gwb, with the same numbers. '
+    parser = listing_parser(PROGRAM, 'Writes the script that makes a model, with the same numbers. '
                                      'Changes of place are made in the order in which they are given.')
     parser.add_argument('--move', nargs=3, type=int, metavar=('DX', 'DY', 'DZ'), action=_Change, dest='changes',
                         help='move it by a vector')
@@ -69,7 +70,7 @@ def _parser() -> argparse.ArgumentParser:
     parser.add_argument('--scale', type=int, metavar='K', action=_Change, dest='changes', help='multiply its coordinates')
     parser.add_argument('--without', type=int, metavar='S', action='append', default=[], help='leave solid S out; may be given again')
     beside = parser.add_mutually_exclusive_group()
-    beside.add_argument('--after', metavar='LISTING', help='renumber it, so that the script can be run where this model is')
+    beside.add_argument('--after', metavar='FILE', help='renumber it, so that the script can be run where this model is')
     beside.add_argument('--copy', action='store_true', help='renumber it, so that the script can be run where the model that was read is')
     beside.add_argument('--away', action='store_true', help='write the commands that take it away, to be run where the model is')
     parser.add_argument('--short', action='store_true', help='use lamina, block and sweep where they make exactly a solid')
@@ -91,7 +92,7 @@ def _chosen(held: Model, options: argparse.Namespace) -> Model:
     """The solids that are wanted of those that were read."""
     for solid in (*options.without, *([] if options.solid is None else [options.solid])):
         if solid not in held.solids:
-            raise CompanionError(f'there is no solid {solid} in the listing')
+            raise CompanionError(f'there is no solid {solid}')
     model = held if options.solid is None else held.only(options.solid)
     return without(model, options.without) if options.without else model
 
@@ -101,23 +102,24 @@ def _script(held: Model, model: Model, options: argparse.Namespace) -> List[str]
         return taking_away(model, [held])
     for change in options.changes or ():
         model = changed(model, change)
-    beside = [held] if options.copy else [] if options.after is None else [read_model(read_bytes(options.after))]
+    beside = [held] if options.copy else [] if options.after is None else [given(options.after).model]
     for other in beside:
         model = renumbered_after(model, other)
     return (short_script_of if options.short else script_of)(model, beside)
 
 
 def work(words: Optional[Sequence[str]]) -> int:
-    """Reads a listing and writes its script."""
+    """Reads a model and writes its script."""
     parser = _parser()
     options = parser.parse_args(_with_times(sys.argv[1:] if words is None else words))
     if options.away and (options.short or options.changes):
         parser.error('argument --away: not allowed with --short or a change of place')
-    held = read_model(read_bytes(options.listing))
-    model = _chosen(held, options)
-    lines = _script(held, model, options)
+    found = given(options.listing)
+    model = _chosen(found.model, options)
+    found.tell(PROGRAM)
+    lines = _script(found.model, model, options)
     warn_of_inside_out(PROGRAM, model)
-    for line in lines:
+    for line in [*unit_lines(found.said.unit), *lines]:
         print(line)
     return OK
 

@@ -16,7 +16,7 @@ from typing import Callable, Dict, Iterator, List, NamedTuple, Optional, Sequenc
 from ..errors import ProgramMissing
 from ..geometry.free_numbers import greatest_of, numbers_of
 from ..geometry.model import Model
-from ..protocol.language import COMMANDS, first_word, is_answered
+from ..protocol.language import COMMANDS, first_word, is_answered, is_comment
 from ..protocol.listing import model_of
 from ..protocol.replies import Reply
 from ..protocol.word_advice import word_advice
@@ -137,7 +137,7 @@ class Shell(cmd.Cmd):
     def run_file(self, path: str) -> None:
         """Runs a script, and says what was complained about."""
         lines = enumerate(read_bytes(path).split(b'\n'), 1)
-        asked = (Answered(number, line, self.ask(_text(line))) for number, line in lines if is_answered(line))
+        asked = (Answered(number, line, self.ask(_text(line))) for number, line in lines if is_answered(line) and not is_comment(line))
         for told in complaints(path.encode('utf-8', 'backslashreplace').decode('utf-8'), asked):
             print(told)
 
@@ -164,7 +164,7 @@ class Shell(cmd.Cmd):
             print('\n'.join(self.help_lines(words[1:])))
         elif words[1:] == ['all'] and words[0] in _REPEATED:
             print(self._repeat(words[0]), _REPEATED[words[0]])
-        elif is_answered(line.encode('utf-8', 'surrogateescape')):
+        elif is_answered(data := line.encode('utf-8', 'surrogateescape')) and not is_comment(data):
             self._show(line, self.ask(line))
         return False
 

@@ -1,22 +1,23 @@
-"""gwb-step: writes a listing as STEP."""
+"""gwb-step: writes a model as STEP."""
 
 from typing import Optional, Sequence
 
 from ..formats.step.write import step_text
-from .command_line import OK, filled_model, listing_parser, run
+from .command_line import OK, listing_parser, run
+from .given import filled
 from .inside_out import warn_of_inside_out
-from .names_of_script import add_names, said_by
+from .names_of_script import add_names
 
 PROGRAM = 'gwb-step'
 
 
 def work(words: Optional[Sequence[str]]) -> int:
-    """Reads a listing and writes it as STEP."""
-    parser = listing_parser(PROGRAM, 'Writes a listing of gwb as STEP AP214 (advanced boundary representation, in millimetres).')
+    """Reads a model and writes it as STEP."""
+    parser = listing_parser(PROGRAM, 'Writes a model as STEP AP214 (advanced boundary representation, in millimetres).')
     add_names(parser)
     options = parser.parse_args(words)
-    model = filled_model(options)
-    print(step_text(model, *said_by(options)), end='')
+    model, said, *_ = filled(options)
+    print(step_text(model, *said), end='')
     warn_of_inside_out(PROGRAM, model)
     return OK
 

@@ -1,11 +1,12 @@
-"""gwb-svg: draws a listing."""
+"""gwb-svg: draws a model."""
 
 import sys
 from argparse import ArgumentTypeError
 from typing import Optional, Sequence
 
 from ..drawing.svg import SIZE, picture
-from .command_line import OK, filled_model, listing_parser, run
+from .command_line import OK, listing_parser, run
+from .given import filled
 from .inside_out import warn_of_inside_out
 
 PROGRAM = 'gwb-svg'
@@ -30,8 +31,8 @@ def _size(word: str) -> int:
 
 
 def work(words: Optional[Sequence[str]]) -> int:
-    """Reads a listing and draws it."""
-    parser = listing_parser(PROGRAM, 'Draws a listing of gwb as SVG: visible edges black, or each solid of several in its colour; '
+    """Reads a model and draws it."""
+    parser = listing_parser(PROGRAM, 'Draws a model as SVG: visible edges black, or each solid of several in its colour; '
                                      'hidden ones thin and dashed (found exactly), seams between faces of one plane grey.')
     parser.add_argument('--view', nargs=3, type=view_step, default=(2, -3, 2), metavar=('X', 'Y', 'Z'),
                         help='the viewer stands in this direction, z is up (default: 2 -3 2)')
@@ -42,7 +43,7 @@ def work(words: Optional[Sequence[str]]) -> int:
     options = parser.parse_args(words)
     if not any(options.view):
         parser.error('argument --view: the viewer stands in no direction')
-    model = filled_model(options)
+    model = filled(options).model
     x, y, z = options.view
     drawn = picture(model, (x, y, z), options.names, options.hidden, options.size)
     print(drawn.text, end='')

@@ -123,6 +123,11 @@ def is_answered(line: bytes) -> bool:
     return bool(words) and not words.startswith(b'#')
 
 
+def is_comment(line: bytes) -> bool:
+    """Whether the line is a comment of whatever letters: companions leave out those that gwb answers with NotAscii."""
+    return len(line) <= LINE_LIMIT and line.lstrip(_BLANKS).startswith(b'#')
+
+
 def command_bytes(line: str) -> bytes:
     """The bytes of one line that gwb answers."""
     data = line.encode('utf-8', 'surrogateescape')

@@ -1,0 +1,216 @@
+"""What a companion is given: a script, replies, a listing and each form that is read, in each companion; names of scripts; comments of any letters."""
+
+import subprocess
+import tempfile
+import unittest
+from pathlib import Path
+
+from support import box, program, run, shells
+
+from gwb.errors import CompanionError
+from gwb.formats.appearance import Appearance, Said, comments
+from gwb.formats.mesh import mesh_of
+from gwb.formats.mesh_files import FORMS as WRITTEN
+from gwb.formats.polygon_files import FORMS
+from gwb.formats.step.write import step_text
+from gwb.programs.given import REPLIES, SCRIPT, first_answered, given, kind_of
+from gwb.protocol.listing import read_model
+
+SCRIPT_TEXT = '# Geh\u00e4use\n# solid 1 name "Lid" colour #FF8000\n# solid 2 name "Base"\nblock 1 0 0 0 4 5 6\nblock 2 10 0 0 3 3 3\n'
+LOOKS = {('solid', 1): Appearance('Lid', (255, 128, 0)), ('solid', 2): Appearance('Base')}
+# The programs that take a file of whatever kind, with words of which each gives another output.
+TAKING = {'view': [], 'mesh': ['--form', 'glb'], 'step': [], 'dxf': ['--section', '0', '0', '1', '-1'], 'svg': [], 'check': [], 'script': []}
+
+
+def listed(script: str) -> bytes:
+    """What gwb replies to a script and `list`."""
+    ascii_lines = ''.join(line for line in script.splitlines(keepends=True) if line.isascii())
+    return subprocess.run([program()], input=(ascii_lines + 'list\n').encode(), capture_output=True, check=True).stdout
+
+
+def ply_of(model) -> str:
+    """The model's triangles as PLY, which no companion writes."""
+    mesh = mesh_of(model)
+    head = ['ply', 'format ascii 1.0', f'element vertex {len(mesh.vertices)}', *(f'property int {axis}' for axis in 'xyz'),
+            f'element face {len(mesh.triangles)}', 'property list uchar int vertex_indices', 'end_header']
+    places = {vertex: place for place, vertex in enumerate(mesh.vertices)}
+    return '\n'.join([*head, *(' '.join(map(str, model.vertices[vertex])) for vertex in mesh.vertices),
+                      *(' '.join(['3', *(str(places[vertex]) for vertex in triangle)]) for triangle in mesh.triangles)]) + '\n'
+
+
+def amf_of(model) -> str:
+    """The model's triangles as AMF, which no companion writes."""
+    mesh = mesh_of(model)
+    places = {vertex: place for place, vertex in enumerate(mesh.vertices)}
+    corners = ''.join('<vertex><coordinates><x>{}</x><y>{}</y><z>{}</z></coordinates></vertex>'.format(*model.vertices[vertex]) for vertex in mesh.vertices)
+    objects = ''.join(f'<object id="{solid}"><mesh><vertices>{corners}</vertices><volume>' + ''.join(
+        '<triangle><v1>{}</v1><v2>{}</v2><v3>{}</v3></triangle>'.format(*(places[vertex] for vertex in triangle)) for triangle in mesh.triangles_of(solid))
+        + '</volume></mesh></object>' for solid in model.solids)
+    return f'<amf unit="millimeter">{objects}</amf>'
+
+
+def files_of(folder: Path) -> dict:
+    """The script above, what gwb replies to it, and its model in each form, by what they are."""
+    replies = listed(SCRIPT_TEXT)
+    model = read_model(replies)
+    held = {'script': SCRIPT_TEXT.encode(), 'replies': replies, 'listing': replies.partition(b'ok\nok\n')[2], 'step': step_text(model, LOOKS).encode(),
+            'ply': ply_of(model).encode(), 'amf': amf_of(model).encode(), **{form: write(mesh_of(model), Said(LOOKS)) for form, write in WRITTEN.items()}}
+    paths = {}
+    for name, data in held.items():
+        paths[name] = folder / f'part.{name}'
+        paths[name].write_bytes(data)
+    return paths
+
+
+class InFolder(unittest.TestCase):
+    """Tests with a folder of their own."""
+
+    def setUp(self):
+        program()
+        folder = tempfile.TemporaryDirectory()
+        self.addCleanup(folder.cleanup)
+        self.folder = Path(folder.name)
+
+    def file(self, name, data):
+        path = self.folder / name
+        path.write_bytes(data.encode() if isinstance(data, str) else data)
+        return str(path)
+
+
+class Pairs(InFolder):
+    """Each file in each companion."""
+
+    def test_all_pairs(self):
+        paths = files_of(self.folder)
+        self.assertEqual(set(paths), {'script', 'replies', 'listing', *FORMS})
+        for name, path in paths.items():
+            found = given(str(path))
+            self.assertEqual(found.kind, {'script': SCRIPT}.get(name, name if name in FORMS else REPLIES))
+            beside = self.file('part', listed('\n'.join(run('script', str(path)).out.splitlines()) + '\n'))
+            names = self.file('names.gwb', '\n'.join(comments(found.said.looks)) + '\n')
+            for companion, words in TAKING.items():
+                with self.subTest(f'{companion} {name}'):
+                    outcome = run(companion, *words, str(path))
+                    self.assertEqual((outcome.status, outcome.err), (0, '' if name != 'glb' else 'gwb-{}: lengths in metre were multiplied by 1000, '
+                                                                                                'to millimetres\n'.format(companion)))
+                    named = ['--names', names] if companion in ('view', 'mesh', 'step', 'dxf') else []
+                    wanted = run(companion, *words, *named, beside).out
+                    self.assertEqual(outcome.out, wanted)
+                    self.assertTrue(outcome.out)
+
+    def test_the_model_and_the_names_are_those_of_the_script(self):
+        for name, path in files_of(self.folder).items():
+            found = given(str(path))
+            boxes = sorted(tuple((min(axis), max(axis)) for axis in zip(*(found.model.vertices[vertex] for face in found.model.faces_of(solid)
+                                                                           for vertex in found.model.face_vertices(face)))) for solid in found.model.solids)
+            self.assertEqual(boxes, [((0, 4), (0, 5), (0, 6)), ((10, 13), (0, 3), (0, 3))], name)
+            wanted = {'Lid', 'Base'} if name in ('script', 'step', '3mf', 'obj', 'glb') else set()
+            self.assertEqual({look.name for look in found.said.looks.values() if look.name}, wanted, name)
+
+    def test_from_standard_input(self):
+        """What a file is is said by its bytes: no name is needed."""
+        for name, path in files_of(self.folder).items():
+            if name != 'script':
+                self.assertEqual(kind_of(path.read_bytes(), None), name if name in FORMS else REPLIES)
+        self.assertEqual(kind_of(SCRIPT_TEXT.encode(), '-'), SCRIPT)
+
+
+class Kinds(InFolder):
+    """What a file is said to be."""
+
+    def test_by_the_first_line(self):
+        for data, kind in ((b'block 1 0 0 0 1 1 1', SCRIPT), (b'\n# \xc3\xa4\n  mvfs 1 1 1 1 0 0 0\n', SCRIPT), (b'ok\n', REPLIES),
+                           (b'solid 1\nface 1 1 1\n', REPLIES), (b'solid 1\nfacet normal 0 0 1\n', 'stl'), (b'solid 1\nendsolid 1\n', 'stl'), (b'solid lid\n', 'stl'), (b'solid 1\n', REPLIES),
+                           (b'# OBJ\nv 0 0 0\n', 'obj'), (b'# made\nOFF\n', 'off'), (b'', REPLIES), (b'# nothing\n', REPLIES)):
+            self.assertEqual(kind_of(data, None), kind, data)
+        self.assertEqual(kind_of(b'blok 1 0 0 0 1 1 1\n', 'part.gwb'), SCRIPT)
+
+    def test_a_long_comment_is_read_over(self):
+        self.assertEqual(first_answered(b'#' + b'x' * 200_000 + b'\nblock 1 0 0 0 1 1 1\n'), b'block 1 0 0 0 1 1 1')
+
+    def test_what_is_none(self):
+        for name, data, said in (('part', 'hello\n', '`hello` begins no script and no replies of gwb; it is of no form that is known'),
+                                 ('part.dxf', 'SECTION\n', 'it looks like DXF, which is not read: write STL or 3MF there'),
+                                 ('part', bytes(range(256)), 'begins no script'), ('part.step', '', 'the file is empty')):
+            path = self.file(name, data)
+            for companion in TAKING:
+                outcome = run(companion, path)
+                self.assertEqual((outcome.status, outcome.out, outcome.err.count('\n')), (3, '', 1), outcome.err)
+                self.assertIn(said, outcome.err)
+
+
+class Units(InFolder):
+    """Files whose points aren't whole millimetres."""
+
+    CUBE = 'OFF\n8 6 0\n' + ''.join(f'{x} {y} {z}\n' for x, y, z in box((0, 0, 0), (1, 1, 1))[0]) + ''.join(
+        ' '.join(['4', *(str(vertex - 1) for vertex in face[0])]) + '\n' for face in box((0, 0, 0), (1, 1, 1))[1])
+
+    def test_thousandths(self):
+        found = given(self.file('part.off', self.CUBE.replace('1 1 1\n', '1 1 1.0\n').replace('\n1 ', '\n1.25 ').replace('OFF\n1.25', 'OFF\n1')))
+        self.assertEqual((found.said.unit.denominator, found.warnings), (1000, ()))
+        self.assertEqual({point[0] for point in found.model.vertices.values()}, {0, 1250})
+
+    def test_what_is_rounded_is_said(self):
+        path = self.file('part.off', self.CUBE.replace('\n1 ', '\n1.0004 ').replace('\n1.0004 0 1', '\n1.0003 0 1'))
+        self.assertEqual(given(path).warnings[0], 'points were moved by 0.0004 mm at most')
+        self.assertIn('gwb-step: points were moved', run('step', path).err)
+
+    def test_what_is_wrong_with_it(self):
+        path = self.file('part.off', self.CUBE.replace('8 6 0', '8 5 0').rsplit('\n', 2)[0] + '\n')
+        for companion in TAKING:
+            outcome = run(companion, path)
+            self.assertEqual((outcome.status, outcome.err.count('\n')), (3, 1), outcome.err)
+
+
+class Names(InFolder):
+    """`--names`."""
+
+    def refused(self, script, data=None):
+        path = self.file('part', data or listed('block 1 0 0 0 3 3 3\n'))
+        for companion in ('view', 'mesh', 'step', 'dxf'):
+            outcome = run(companion, '--names', self.file('names.gwb', script), path)
+            self.assertEqual((outcome.status, outcome.out, outcome.err.count('\n')), (3, '', 1), outcome.err)
+        return outcome.err
+
+    def test_another_script(self):
+        self.assertIn('it names solid 7', self.refused('# solid 7 name "Lid"\n'))
+        self.assertIn('it names face 9', self.refused('# solid 1 name "Lid"\n# face 9 colour #FF0000\n'))
+        self.assertIn('run, it makes another model', self.refused('# solid 1 name "Base plate"\nblock 1 0 0 0 9 9 9\n'))
+
+    def test_its_own_script(self):
+        script = '# solid 1 name "Lid"\nblock 1 0 0 0 3 3 3\nlist\nblock 2 9 0 0 1 1 1\n'
+        for lines in ('block 1 0 0 0 3 3 3\n', 'block 1 0 0 0 3 3 3\nblock 2 9 0 0 1 1 1\n'):
+            outcome = run('step', '--names', self.file('names.gwb', script), self.file('part', listed(lines)))
+            self.assertEqual((outcome.status, outcome.err), (0, ''))
+            self.assertIn("'Lid'", outcome.out)
+
+    def test_not_with_what_says_its_own(self):
+        step = step_text(read_model(shells(((0, 0, 0), (1, 1, 1))).encode()))
+        for data, said in (('block 1 0 0 0 3 3 3\n', 'this is a script'), (step, 'this is a file of STEP')):
+            self.assertIn(said, self.refused('# solid 1 name "Lid"\n', data))
+        self.assertEqual(run('view', '--steps', '--names', 'x', self.file('part', 'block 1 0 0 0 3 3 3\n')).status, 2)
+
+
+class Letters(InFolder):
+    """Comments that aren't ASCII, which gwb itself answers with a fault."""
+
+    def test_they_are_read_over(self):
+        path = self.file('part.gwb', SCRIPT_TEXT)
+        for words in ([], ['--steps']):
+            outcome = run('view', *words, path)
+            self.assertEqual((outcome.status, outcome.err), (0, ''))
+        self.assertNotIn('NotAscii', run('view', '--steps', path).out)
+
+    def test_lines_keep_their_numbers(self):
+        self.assertIn('line 3: kvfs 9', given(self.file('part.gwb', '# \u00e4\nblock 1 0 0 0 1 1 1\nkvfs 9\n')).warnings[0])
+
+    def test_commands_of_other_letters_are_told(self):
+        self.assertIn('NotAscii', given(self.file('part.gwb', 'block 1 0 0 0 1 1 1\nkvfs \u00e4\n')).warnings[0])
+
+    def test_an_empty_script(self):
+        with self.assertRaises(CompanionError):
+            given(self.file('part.gwb', '# \u00e4\n'))
+
+
+if __name__ == '__main__':
+    unittest.main()
