@@ -116,7 +116,7 @@ class Part:
             self.others = [cut.above] if cut.above is not None else []
         elif word == 'around':
             count, axis, quarters = row.number(), 'xyz'[row.number()], row.number()
-            self.others = [copy.solid for copy in self.bench.pattern_around(self.solid, count, axis, quarters, about=row.point())]
+            self.others = [copy.solid for copy in self.bench.pattern_around(self.solid, count, axis, degrees=90 * quarters, about=row.point())]
         elif word == 'trim':
             self.bench.trim(self.solid, row.numbers())
         else:

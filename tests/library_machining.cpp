@@ -683,6 +683,56 @@ static void try_drills()
     check(drill(attempt, Face(99), {9, 9, 9}, 1, 4).error().is(GWB_WHY_NO_FACE), "a drill in no face");
 }
 
+// How far the sides of a polygon around the origin, and its corners, lie from it, and its area: the least, the greatest, and twice the area.
+struct Reached {
+    double least = 1e300, greatest = 0;
+    std::int64_t doubled = 0;
+
+    explicit Reached(const std::vector<std::array<std::int64_t, 2>> &corners)
+    {
+        for (std::size_t place = 0; place < corners.size(); place++) {
+            const auto [x, y] = corners[place];
+            const auto [u, v] = corners[(place + 1) % corners.size()];
+            doubled += x * v - y * u;
+            const auto from = static_cast<double>(x), aside = static_cast<double>(y), way = static_cast<double>(u - x), across = static_cast<double>(v - y);
+            const double length = way * way + across * across, share = length == 0 ? 0 : -(from * way + aside * across) / length;
+            const double nearest = std::min(std::max(share, 0.0), 1.0);
+            least = std::min(least, std::hypot(from + nearest * way, aside + nearest * across));
+            greatest = std::max(greatest, std::hypot(from, aside));
+        }
+    }
+};
+
+static bool has_all_mirrored(const std::vector<std::array<std::int64_t, 2>> &corners, bool by_quarters)
+{
+    const std::set<std::array<std::int64_t, 2>> all(corners.begin(), corners.end());
+    return std::all_of(corners.begin(), corners.end(), [&](const auto &at) {
+        return all.count({at[0], -at[1]}) == 1 && (!by_quarters || (all.count({-at[1], at[0]}) == 1 && all.count({at[1], at[0]}) == 1));
+    });
+}
+
+// Corners for circles: the same on both sides of each axis; with flats none of which lies inside the circle; with its area; on multiples of the grain.
+static void try_circles()
+{
+    for (std::int64_t radius = 2; radius <= 40; radius++)
+        for (std::uint32_t sides : {4U, 5U, 6U, 8U, 12U, 16U, 24U})
+            for (Circle fit : {Circle::corners, Circle::flats, Circle::area}) {
+                check(has_all_mirrored(circle(2 * radius, sides, fit), sides % 4 == 0), "a polygon that is the same on both sides");
+                check(fit != Circle::flats || Reached(circle(2 * radius, sides, fit)).least >= static_cast<double>(radius), "flats outside the circle");
+            }
+    for (std::uint32_t sides : {3U, 7U, 24U, 360U}) {
+        const Reached corners(circle(10'000, sides)), flats(circle(10'000, sides, Circle::flats)), area(circle(10'000, sides, Circle::area));
+        check(std::abs(corners.greatest - 5000) < 0.71 && flats.least >= 5000 && flats.least < 5001.5, "how far out a polygon lies");
+        check(std::abs(static_cast<double>(area.doubled) / 2 / (3.14159265358979324 * 5000 * 5000) - 1) < 3e-4, "the area of the circle");
+    }
+    check(circle(7, 4) == std::vector<std::array<std::int64_t, 2>>{{4, 0}, {0, 4}, {-4, 0}, {0, -4}}, "half a step is rounded outwards");
+    check(circle(10, 12)[1] == std::array<std::int64_t, 2>{4, 3} && circle(10, 12).size() == 12, "the corners of a drill");
+    for (const auto &[x, y] : circle(1000, 12, Circle::corners, 5))
+        check(x % 5 == 0 && y % 5 == 0, "corners on multiples of the grain");
+    check(circle(0, 4).empty() && circle(4, 2).empty() && circle(4, 1'000'001).empty() && circle(4, 4, Circle::area, 0).empty(), "what is no circle");
+    check(circle(4'000'000'001, 4).empty() && circle(4, 4, static_cast<Circle>(3)).empty(), "what is out of range");
+}
+
 // The faces of a solid, or of all, that look a way, that have an area, or that lie in the plane z = 8, as their planes say.
 struct Wanted {
     std::vector<Face> looking, large, level;
@@ -859,6 +909,7 @@ int main(int count, char **words)
         try_refusals();
         try_drafts();
         try_drills();
+        try_circles();
         try_queries();
         try_what_is_known();
         try_among_pockets();

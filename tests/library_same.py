@@ -98,7 +98,7 @@ class Session:
         if way == 0:
             self.bench.move(solid, _point(numbers))
         elif way == 1:
-            self.bench.turn(solid, 'xyz'[numbers[0]], numbers[1])
+            self.bench.turn(solid, 'xyz'[numbers[0]], degrees=90 * numbers[1])
         else:
             self.bench.mirror(solid, _across(numbers[0]))
         return []
@@ -182,7 +182,7 @@ _CALLS: Dict[str, Call] = {
     'chamfer': lambda s, n, w: [s.bench.chamfer(n(), n(), n())], 'kill': lambda s, n, w: _nothing(s.bench.delete(n())),
     'copy': lambda s, n, w: s.copy(n(), n(), list(w)), 'move': lambda s, n, w: s.move(n(), n(), list(w)),
     'pattern': lambda s, n, w: [made.solid for made in s.bench.pattern(n(), n(), _three(w))],
-    'pattern_around': lambda s, n, w: [made.solid for made in s.bench.pattern_around(n(), n(), 'xyz'[n()], n(), about=_three(w))],
+    'pattern_around': lambda s, n, w: [made.solid for made in s.bench.pattern_around(n(), n(), 'xyz'[n()], degrees=90 * n(), about=_three(w))],
     'chamfer_edges': lambda s, n, w: list(s.bench.chamfer_edges(width=n(), edges=list(w))),
     'polyhedron': lambda s, n, w: s.polyhedron(n(), n(), n(), list(w)),
     'renumber': lambda s, n, w: s.counted([number for pair in s.bench.renumber().solids.items() for number in pair]),

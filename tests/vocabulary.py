@@ -28,13 +28,15 @@ CPP_CALLS = {'unite': 'union'}
 # Python's names, where they are others, and then the arguments too; what it takes by name besides; and arguments that it has otherwise.
 PYTHON_CALLS = {'kill_solid': ('delete',), 'move_solid': ('move', 'turn', 'mirror'), 'copy_solid': ('copy',), 'split_solid': ('split',),
                 'find_faces': ('faces',), 'find_edges': ('edges',)}
-PYTHON_BESIDES = {'solid', 'above', 'keep', 'scale'}
-PYTHON_ARGUMENTS = {('pattern_around', 'times'): ('quarters',), ('polyhedron', 'faces'): ('corners', 'sizes')}
+PYTHON_BESIDES = {'solid', 'above', 'keep', 'scale', 'diameter', 'circle', 'within', 'times', 'to'}
+PYTHON_ARGUMENTS = {('pattern_around', 'degrees'): ('quarters',), ('polyhedron', 'faces'): ('corners', 'sizes')}
 # The solid that is made, which Python chooses, and how many planes are sought, which it doesn't ask.
 PYTHON_LEFT_OUT = {('profile', 'solid'), ('polyhedron', 'solid'), ('cut', 'above'), ('off_lattice', 'most')}
 # What comes back as the same structure in C++, Rust and Python, and a word of Rust.
 STRUCTURES = ('Profile', 'Ring', 'Pocket', 'Hole', 'Notch')
 RUST_FIELDS = {'of_loop': 'loop'}
+# What Python tells besides.
+PYTHON_FIELDS_BESIDES = {'reach'}
 
 
 def text_of(*files: str) -> str:
@@ -177,7 +179,8 @@ def rust_fields(name: str) -> Arguments:
 def python_fields(name: str) -> Arguments:
     """Those of one in Python."""
     body = re.search(rf'^class {name}\(NamedTuple\):\n(.*?)(?=^\S|\Z)', text_of(f'{PYTHON_CLASSES}/results.py'), re.MULTILINE | re.DOTALL)
-    return tuple(re.findall(r'^    (\w+):', body.group(1) if body else '', re.MULTILINE))
+    found = re.findall(r'^    (\w+):', body.group(1) if body else '', re.MULTILINE)
+    return tuple(name for name in found if name not in PYTHON_FIELDS_BESIDES)
 
 
 def findings() -> Iterator[str]:

@@ -195,6 +195,19 @@ extern "C" {
 
 void gwb_forget_features(struct beside *of) { delete static_cast<machining::Surroundings *>(of->known); }
 
+bool gwb_circle(int64_t diameter, int64_t grain, uint32_t n, uint32_t circle, int64_t *corners)
+{
+    const auto is_length = [](std::int64_t length) { return length >= 1 && length <= circles::longest; };
+    if (!is_length(diameter) || !is_length(grain) || n < 3 || n > circles::most_sides || circle > GWB_CIRCLE_AREA)
+        return false;
+    const long double out = circles::reach(diameter, grain, n, circle);
+    for (std::uint32_t place = 0; place < n; place++) {
+        const auto at = circles::corner(place, n, out, grain);
+        std::copy(at.begin(), at.end(), corners + std::size_t{2} * place);
+    }
+    return true;
+}
+
 const char *gwb_misfit_name(uint32_t misfit) { return misfit_name(static_cast<Misfit>(misfit)); }
 
 size_t gwb_made(const gwb *g, uint32_t list, uint32_t *buf, size_t room)

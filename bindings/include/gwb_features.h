@@ -148,6 +148,12 @@ enum gwb_kind gwb_pocket(gwb *g, uint32_t face, const gwb_point *points, size_t 
 enum gwb_kind gwb_boss(gwb *g, uint32_t face, const gwb_point *points, size_t n, int64_t height, gwb_outline_made *made, uint32_t *sides,
                        gwb_refusal *why);
 enum gwb_kind gwb_hole(gwb *g, uint32_t face, const gwb_point *points, size_t n, gwb_outline_made *made, uint32_t *sides, gwb_refusal *why);
+/** What of a polygon lies on its circle: the corners; the flats, none of which lies inside it, so that a bolt passes; or their areas are equal. */
+enum gwb_circle_fit { GWB_CIRCLE_CORNERS, GWB_CIRCLE_FLATS, GWB_CIRCLE_AREA };
+/** The corners of a polygon of `n` sides, from 3 to 1,000,000, for a circle around the origin, n rows of x and y, counterclockwise from the first axis on:
+ * the multiples of `grain` nearest to the corners of a regular polygon; of two as near, the one farther out. They lie alike in all quarters of a turn where
+ * `n` is a multiple of 4. False where `n`, the diameter or the grain (1 to 4,000,000,000 each) or the fit is none: then nothing is written. */
+bool gwb_circle(int64_t diameter, int64_t grain, uint32_t n, uint32_t circle, int64_t *corners);
 /** A hole with a polygon of `n` sides, at most 1,000,000, around the center: through, where the depth is 0, else so deep, as a pocket. Its corners, which
  * are written, are the whole points nearest to those of a regular polygon of this radius from the axis after the face's own on; of two as near, the one
  * farther out. Refused: SizeRange, with the place of the radius, `n` or the depth; PointRange; what holes and pockets refuse. Not possible: NOT_ACROSS;

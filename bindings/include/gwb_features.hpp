@@ -295,6 +295,21 @@ template <class Policy> Answer<Policy, Hole> hole(Commands<Policy> &bench, Face 
     return bench.feature("hole", gwb_hole, bored, face.number(), points.data(), points.size(), &made, sides.data());
 }
 
+/// What of a polygon lies on its circle: the corners; the flats, none of which lies inside it, so that a bolt passes; or their areas are equal.
+enum class Circle : std::uint32_t { corners = GWB_CIRCLE_CORNERS, flats = GWB_CIRCLE_FLATS, area = GWB_CIRCLE_AREA };
+
+/// The corners of a polygon for a circle around the origin, x and y of each, counterclockwise from the first axis on: the multiples of `grain` nearest to
+/// those of a regular polygon. None where `sides` isn't from 3 to 1,000,000, or the diameter or the grain from 1 to 4,000,000,000.
+[[nodiscard]] inline std::vector<std::array<std::int64_t, 2>> circle(std::int64_t diameter, std::uint32_t sides, Circle fit = Circle::corners,
+                                                                     std::int64_t grain = 1)
+{
+    constexpr std::uint32_t most_sides = 1'000'000;
+    std::vector<std::array<std::int64_t, 2>> corners(sides <= most_sides ? sides : 0);
+    if (corners.empty() || !gwb_circle(diameter, grain, sides, static_cast<std::uint32_t>(fit), corners.front().data()))
+        corners.clear();
+    return corners;
+}
+
 /// A hole with a polygon of so many sides around the center, on whole numbers nearest to the circle of the radius: through, where the depth is 0, or so deep.
 template <class Policy>
 Answer<Policy, Hole> drill(Commands<Policy> &bench, Face face, Point center, std::int64_t radius, std::uint32_t sides, std::int64_t depth = 0)

@@ -7,15 +7,16 @@ def solid_cases(number, given, point, plane, points, length, flag):
     line = {'face': 1, 'start': (0, 0, 0), 'end': (4, 0, 0), 'width': 2, 'depth': 1}
     wrong_line = {'face': number, 'start': point, 'end': point, 'width': length, 'depth': length}
     optional = tuple(wrong for wrong in length if wrong is not None)
+    turns, ways = (1, '90', True, None, 45, 90.5, float('nan')), (1, 'ab', (1, 0, 0), (1.0, 0), (0, 0), (1, 1))
     return {
         'delete': ({'solid': 1}, {'solid': number}),
         'copy': ({'solid': 1}, {'solid': number, 'move': point, 'mirror': mirror}),
         'pattern': ({'solid': 1, 'count': 2, 'step': (1, 0, 0)}, {'solid': number, 'count': (*length, 1), 'step': (*point, (0, 0, 0))}),
         'pattern_around': ({'solid': 1, 'count': 2, 'axis': 'x'}, {'solid': number, 'count': (*length, 1, 5), 'axis': (1, None, 'w', 'xy', ['x']),
-                                                                   'times': (1.0, '1', None, True, 2 ** 63, 0, 4), 'about': point}),
+                                                                   'times': turns[:2], 'degrees': (*turns, 0, 360, 60), 'to': ways, 'about': point}),
         'move': ({'solid': 1, 'vector': (1, 0, 0)}, {'solid': number, 'vector': point}),
-        'turn': ({'solid': 1, 'axis': 'x'}, {'solid': number, 'axis': (1, None, 'w', 'xy', ['x']), 'times': (1.0, '1', None, True, 2 ** 63),
-                                             'about': point}),
+        'turn': ({'solid': 1, 'axis': 'x'}, {'solid': number, 'axis': (1, None, 'w', 'xy', ['x']), 'times': turns[:2], 'degrees': turns,
+                                             'to': ways, 'about': point}),
         'mirror': ({'solid': 1, 'plane': (1, 0, 0, 0)}, {'solid': number, 'plane': (*mirror, None)}),
         'scale': ({'factor': 2}, {'factor': length}),
         'cut': ({'solid': 1, 'plane': (1, 0, 0, 0)}, {'solid': number, 'plane': plane, 'keep': (1, None, 'none', b'both'), 'above': given,

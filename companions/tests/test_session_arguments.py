@@ -79,7 +79,8 @@ CASES = {
     'boss': ({'face': 1, 'points': TRIANGLE, 'height': 1}, {'face': NUMBER, 'points': POINTS, 'height': LENGTH}),
     'hole': ({'face': 1, 'points': TRIANGLE}, {'face': NUMBER, 'points': POINTS}),
     'drill': ({'face': 1, 'center': P, 'radius': 1, 'sides': 4},
-              {'face': NUMBER, 'center': POINT, 'radius': LENGTH, 'sides': (*LENGTH, 2, 10 ** 6 + 1), 'depth': LENGTH[:3] + LENGTH[4:]}),
+              {'face': NUMBER, 'center': POINT, 'radius': LENGTH, 'sides': (*LENGTH[:3], *LENGTH[4:], 2, 10 ** 6 + 1),
+               'depth': LENGTH[:3] + LENGTH[4:], 'diameter': (*LENGTH[:3], *LENGTH[4:], 2), 'circle': (1, None, 'corner'), 'within': (-1, True, None, '1')}),
     'glue_all': ({'solids': [1]}, {'solids': (None, 1, '12', [], [1, 1], [1, '2'], [1, 2.0])}),
 }
 CASES.update(solid_cases(NUMBER, GIVEN, POINT, PLANE, POINTS, LENGTH, FLAG))

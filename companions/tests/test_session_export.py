@@ -43,6 +43,11 @@ class Exports(unittest.TestCase):
                 self.bench.export(file)
                 self.assertEqual(self.volumes(self.imported(file)), [Fraction(6), Fraction(120)])
 
+    def test_no_script_is_saved_under_the_name_of_another_form(self):
+        for ending in FORMS:
+            self.assertRaisesRegex(ValueError, r'^part\.\w+: save\(\) writes a script, and export\(\) a file', self.bench.save, self.folder / f'part{ending}')
+            self.assertFalse((self.folder / f'part{ending}').exists())
+
     def test_names_and_colours_go_with_it(self):
         for ending in ('.step', '.3mf', '.obj'):
             with self.subTest(ending):

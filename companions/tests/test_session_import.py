@@ -1,6 +1,7 @@
 """Files of other programs taken into a session, beside what it holds."""
 
 import unittest
+import warnings
 from fractions import Fraction
 from pathlib import Path
 
@@ -170,6 +171,18 @@ class Imports(unittest.TestCase):
             self.assertEqual((again.listing(), again.labels), (self.bench.listing(), self.bench.labels))
             again.undo()
             self.assertEqual(again.solids().numbers, (1,))
+
+    def test_points_that_are_moved_are_told(self):
+        path = self.folder / 'part.stl'
+        with Workbench(library(), unit=Fraction(1, 60)) as fine:
+            fine.block((0, 0, 0), (75, 60, 60))
+            fine.export(path)
+        with self.assertWarnsRegex(UserWarning, 'part.stl: points were moved by 0.25 mm at most$'):
+            made = self.bench.import_file(path, rounded=True)
+        self.assertEqual((made.moved, self.bench.volume(made.one())), (0.25, 1))
+        with warnings.catch_warnings():
+            warnings.simplefilter('error')
+            self.assertEqual(self.bench.import_file(path, scale=4, rounded=True).moved, 0)
 
 
 def _sizes(model):

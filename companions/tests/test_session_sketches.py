@@ -29,7 +29,7 @@ class Sketches(Sketched):
 
     def test_the_top(self):
         sketch = self.bench.sketch(self.block.top)
-        self.assertEqual(sketch, ((100, 200, 310), (1, 0, 0), (0, 1, 0)))
+        self.assertEqual((sketch.origin, sketch.right, sketch.up), ((100, 200, 310), (1, 0, 0), (0, 1, 0)))
         self.assertEqual(sketch.point(3, 4), (103, 204, 310))
         self.assertEqual(sketch.rectangle((2, 3), (5, 1)), [(102, 203, 310), (107, 203, 310), (107, 204, 310), (102, 204, 310)])
         self.assertEqual(sketch.polygon((10, 10), 5, 4), [(115, 210, 310), (110, 215, 310), (105, 210, 310), (110, 205, 310)])
@@ -55,7 +55,8 @@ class Sketches(Sketched):
     def test_a_direction_of_ones_own(self):
         slope = self.bench.profile([(0, 0, 0), (30, 0, 0), (30, 40, 0)], along=(0, 0, 9))
         face = self.bench.faces(solid=slope.solid, containing=(15, 20, 4)).one()
-        self.assertEqual(self.bench.sketch(face), ((0, 0, 0), (0, 0, 5), (3, 4, 0)))
+        sketch = self.bench.sketch(face)
+        self.assertEqual((sketch.origin, sketch.right, sketch.up), ((0, 0, 0), (0, 0, 5), (3, 4, 0)))
         sketch = self.bench.sketch(face, origin=(3, 4, 2), right=(3, 4, 0))
         self.assertEqual((sketch.right, sketch.up), ((3, 4, 0), (0, 0, -5)))
         self.bench.pocket(face, sketch.rectangle((1, -1), (2, 1)), 5)

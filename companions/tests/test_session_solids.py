@@ -73,8 +73,9 @@ class Whole(unittest.TestCase):
         """Six ways with one solid of a model: how many. The others stay as they were."""
         rest = [model.only(other) for other in model.solids if other != solid]
         volume = self.six_volume(solid)
-        for way, arguments in (('move', ((1, -2, 3),)), ('turn', ('y', 3)), ('mirror', ((1, -1, 0, 0),)), ('mirror', ((0, 0, 3, -6),))):
-            self.one_step(lambda: getattr(self.bench, way)(solid, *arguments))
+        for act in (lambda: self.bench.move(solid, (1, -2, 3)), lambda: self.bench.turn(solid, 'y', degrees=270),
+                    lambda: self.bench.mirror(solid, (1, -1, 0, 0)), lambda: self.bench.mirror(solid, (0, 0, 3, -6))):
+            self.one_step(act)
             after = self.bench.listing()
             self.assertEqual([after.only(other) for other in model.solids if other != solid], rest)
             self.assertEqual((after.solids, list(after.faces), list(after.edges)), (model.solids, list(model.faces), list(model.edges)))
@@ -96,7 +97,7 @@ class Whole(unittest.TestCase):
         self.bench.undo()
         self.one_step(lambda: self.bench.turn(block.solid, 'z', about=(10, 0, 7)))
         self.assertEqual(self.bench.listing().vertices, {vertex: (10 - y, x - 10, z) for vertex, (x, y, z) in before.items()})
-        self.bench.turn(block.solid, 'z', -1, about=(10, 0, 7))
+        self.bench.turn(block.solid, 'z', degrees=-90, about=(10, 0, 7))
         self.assertEqual(self.bench.listing().vertices, before)
         self.one_step(lambda: self.bench.mirror(block.solid, (0, 0, 2, -3)))
         self.assertEqual(self.bench.listing().vertices, {vertex: (x, y, 3 - z) for vertex, (x, y, z) in before.items()})
@@ -143,7 +144,7 @@ class Whole(unittest.TestCase):
         block = with_hole(self.bench)
         points = {vertex.number: vertex.point for vertex in self.bench.vertices(solid=block)}
         for axis, (count, times), (x, y, z) in (('z', (4, 1), (-3, 1, 0)), ('x', (4, -1), (0, -20, 2)), ('y', (2, 2), (-9, 0, -9)), ('z', (3, 3), (0, -9, 0))):
-            row = self.one_step(lambda: self.bench.pattern_around(block, count, axis, times, about=(x, y, z)))
+            row = self.one_step(lambda: self.bench.pattern_around(block, count, axis, degrees=90 * times, about=(x, y, z)))
             self.assertEqual(len(row), count - 1)
             for place, made in enumerate(row, 1):
                 for number, point in points.items():
@@ -202,7 +203,7 @@ class Whole(unittest.TestCase):
         self.refuse('PointRange', 2, lambda: self.bench.pattern(block.solid, 3, (500_000_000, 0, 0)))
         self.refuse('OffLattice', 1, lambda: self.bench.mirror(block.solid, (3, 0, 0, -1)))
         self.refuse('OffLattice', 2, lambda: self.bench.copy(block.solid, mirror=(1, 2, 0, 0)))
-        self.bench.turn(block.solid, 'x', 10 ** 12)
+        self.bench.turn(block.solid, 'x', degrees=36 * 10 ** 12)
         self.assertEqual(self.bench.vertices(at=(1, 2, 3)).one().number, 7)
 
     def test_numbers_in_gaps_where_the_last_one_is_in_use(self):
@@ -214,7 +215,7 @@ class Whole(unittest.TestCase):
         block = self.bench.block((0, 0, 0), (1, 1, 1)).solid
         for error, part, act in (
                 (TypeError, 'vector', lambda: self.bench.move(block, 1)), (ValueError, 'axis', lambda: self.bench.turn(block, 'w')),
-                (TypeError, 'times', lambda: self.bench.turn(block, 'x', 1.0)), (TypeError, 'about', lambda: self.bench.turn(block, 'x', about=0)),
+                (TypeError, 'times', lambda: self.bench.turn(block, 'x', 1)), (TypeError, 'about', lambda: self.bench.turn(block, 'x', about=0)),
                 (ValueError, 'plane', lambda: self.bench.mirror(block, (0, 0, 0, 1))),
                 (ValueError, 'mirror', lambda: self.bench.copy(block, mirror=(0, 0, 0, 0))),
                 (ValueError, 'count', lambda: self.bench.pattern(block, 1, (1, 0, 0))),

@@ -202,9 +202,9 @@ class Unit(unittest.TestCase):
             texts[ending] = self.exported(f'part{ending}').read_bytes()
         self.assertIn(b'LENGTH_MEASURE(1.6666666666666666E-1)', texts['.step'])
         self.assertIn(b"CONVERSION_BASED_UNIT('1/6 MILLIMETRE',", texts['.step'])
-        self.assertTrue(texts['.obj'].startswith(b'# unit 1/6\n'))
-        self.assertTrue(texts['.off'].startswith(b'OFF\n# unit 1/6\n'))
-        self.assertTrue(texts['.stl'].startswith(b'solid gwb # unit 1/6\n'))
+        self.assertIn(b'\nv 0 3.666666667 0\n', texts['.obj'])
+        self.assertIn(b'\n0 3.666666667 0\n', texts['.off'])
+        self.assertIn(b'\nvertex 0 3.666666667 0\n', texts['.stl'])
         self.assertIn(b'gwb, unit 1/6', texts['.html'])
         with zipfile.ZipFile(self.folder / 'part.3mf') as package:
             self.assertIn(b'transform="0.16666666666666666 0 0 0 0.16666666666666666 0 0 0 0.16666666666666666 0 0 0"',
@@ -229,7 +229,7 @@ class Unit(unittest.TestCase):
         self.bench.split(self.block, PLANE, scale=True)
         for ending in ('.obj', '.off', '.stl', '.3mf', '.step', '.glb'):
             with self.subTest(ending), Workbench(library()) as again:
-                made = again.import_file(self.exported(f'part{ending}'), scale=6 if ending in ('.3mf', '.step', '.glb') else 1)
+                made = again.import_file(self.exported(f'part{ending}'), scale=6, within=Fraction(1, 10 ** 8))
                 self.assertEqual(sum(map(again.volume, made)), 216 * (105 + 8))
                 self.assertEqual(again.labels, {})
 
@@ -241,13 +241,12 @@ class Began(unittest.TestCase):
         with tempfile.TemporaryDirectory() as folder, Workbench(library(), unit=Fraction(1, 60)) as bench:
             bench.block((0, 0, 0), (60, 120, 180))
             self.assertEqual(bench.unit, Fraction(1, 60))
-            for ending in ('.step', '.3mf', '.obj', '.gwb'):
+            bench.save(Path(folder) / 'part.gwb')
+            for ending in ('.step', '.3mf', '.obj', '.off', '.stl', '.glb'):
                 file = Path(folder) / f'part{ending}'
-                (bench.save if ending == '.gwb' else bench.export)(file)
-                if ending in ('.step', '.3mf'):
-                    with Workbench(library()) as again:
-                        self.assertEqual(again.volume(again.import_file(file).one()), 6, ending)
-            self.assertTrue((Path(folder) / 'part.obj').read_text().startswith('# unit 1/60\n'))
+                bench.export(file)
+                with Workbench(library()) as again:
+                    self.assertEqual(again.volume(again.import_file(file).one()), 6, ending)
             with Workbench.load(Path(folder) / 'part.gwb', library()) as again:
                 self.assertEqual((again.unit, again.listing()), (bench.unit, bench.listing()))
                 again.undo()

@@ -62,6 +62,26 @@ impl Motion {
     }
 }
 
+/// What of a polygon lies on its circle.
+#[derive(Clone, Copy, Debug, PartialEq, Eq)]
+pub enum Circle {
+    /// The corners.
+    Corners,
+    /// The flats, none of which lies inside the circle, so that a bolt passes.
+    Flats,
+    /// Neither: their areas are equal.
+    Area,
+}
+
+/// The corners of a polygon for a circle around the origin, x and y of each, counterclockwise from the first axis on: the multiples of `grain` nearest to
+/// those of a regular polygon. None where `sides` isn't from 3 to 1,000,000, or the diameter or the grain from 1 to 4,000,000,000.
+#[must_use]
+pub fn circle(diameter: i64, sides: u32, fit: Circle, grain: i64) -> Option<Vec<[i64; 2]>> {
+    let mut corners = room::<[i64; 2]>(sides);
+    // SAFETY: there is room for x and y of each corner; where there is none, nothing is written.
+    unsafe { gwb_sys::gwb_circle(diameter, grain, sides, fit as u32, corners.as_mut_ptr().cast()) }.then_some(corners)
+}
+
 /// The place of an axis among the three.
 fn place(axis: i32) -> usize {
     axis.unsigned_abs() as usize - 1

@@ -1,5 +1,5 @@
 //! Features of outlines and up to the edges of faces, and cuts between whole points, as the session in Python gives them.
-use gwb::{Edge, Error, Face, HalfEdge, Misfit, Point, Readers, Refusal, Session, Solid};
+use gwb::{circle, Circle, Edge, Error, Face, HalfEdge, Misfit, Point, Readers, Refusal, Session, Solid};
 use std::collections::BTreeSet;
 use std::fmt::Debug;
 
@@ -288,4 +288,21 @@ fn what_is_known() -> Result<(), Error> {
     session.move_solid(plate.solid, gwb::Motion::by([-8, 0, 0]))?;
     assert!(!makes(&mut session, far, [27, 10], 1) && makes(&mut session, far, [7, 10], 1));
     Ok(())
+}
+
+/// Corners for circles are those of a drill, alike in all quarters, with their flats outside the circle where that is asked for.
+#[test]
+fn circles() {
+    let mut session = Session::new().unwrap();
+    session.block(None, [0, 0, 0], [100, 100, 9]).unwrap();
+    let drilled = session.drill(Face(1), [50, 50, 9], 9, 12, 0).unwrap();
+    let corners = circle(18, 12, Circle::Corners, 1).unwrap();
+    let moved: Vec<Point> = corners.iter().map(|&[x, y]| Point { x: x + 50, y: y + 50, z: 9 }).collect();
+    assert_eq!(drilled.points, moved);
+    assert!(corners.iter().all(|&[x, y]| corners.contains(&[-y, x]) && corners.contains(&[x, -y])));
+    let flats = circle(18, 12, Circle::Flats, 1).unwrap();
+    let sides = flats.iter().zip(flats.iter().cycle().skip(1));
+    assert!(sides.clone().all(|(a, b)| (a[0] * b[1] - a[1] * b[0]).pow(2) >= 81 * ((b[0] - a[0]).pow(2) + (b[1] - a[1]).pow(2))));
+    assert!(circle(1001, 8, Circle::Area, 5).unwrap().iter().flatten().all(|part| part % 5 == 0));
+    assert_eq!([circle(0, 8, Circle::Area, 1), circle(9, 2, Circle::Area, 1), circle(9, 8, Circle::Area, 0)], [None, None, None]);
 }

@@ -10,7 +10,7 @@ from ..geometry.plane_figures import Exact
 
 _NUMBER = re.compile(r'[+-]?(?:[0-9]{1,400}(?:\.[0-9]{0,400})?|\.[0-9]{1,400})(?:[eE][+-]?[0-9]{1,3})?')
 _RATIO = re.compile(r'[0-9]{1,400}/[0-9]{1,400}')
-_DIGITS, _FEW = 25, 10 ** 6
+_DIGITS, _FEW, _ROUNDED_PLACES = 25, 10 ** 6, 9
 
 
 class NotANumber(CompanionError):
@@ -95,3 +95,21 @@ def _decimal(digits: int, places: int) -> str:
 def told_point(point: Sequence[Exact]) -> str:
     """The point's coordinates in digits."""
     return ' '.join(map(told, point))
+
+
+class InMillimetres:
+    """Coordinates of a unit in digits, as millimetres: exactly where the unit is a decimal fraction, else in nine places."""
+
+    def __init__(self, unit: Fraction) -> None:
+        places = max(_power_in(unit.denominator, 2), _power_in(unit.denominator, 5))
+        self._places = places if 10 ** places % unit.denominator == 0 else _ROUNDED_PLACES
+        self._times = unit * 10 ** self._places
+
+    def told(self, coordinate: int) -> str:
+        """One of them."""
+        digits = coordinate * self._times.numerator if self._times.denominator == 1 else round(coordinate * self._times)
+        return _decimal(digits, self._places).rstrip('0').rstrip('.') if self._places else str(digits)
+
+    def point(self, point: Sequence[int]) -> str:
+        """Those of a point."""
+        return ' '.join(map(self.told, point))

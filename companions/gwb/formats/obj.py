@@ -5,9 +5,8 @@ from typing import Callable, Dict, Iterator, List, Optional, Tuple
 
 from ..errors import CompanionError
 from ..geometry.flat_face import ExactVector
-from ..scripts.unit_comments import unit_lines
 from .appearance import NO_APPEARANCES, PLAIN_MATERIAL, Appearance, Appearances, Colour, colour_of_parts, hexadecimal, look_of, unique_names
-from .exact_numbers import Numbers, shortened
+from .exact_numbers import InMillimetres, Numbers, shortened
 from .mesh import Mesh
 from .parts import Gathered, NotAMesh, Part
 from .text_lines import as_utf_8, numbered_words
@@ -126,11 +125,11 @@ class _Reader:
 def obj_text(mesh: Mesh, looks: Appearances = NO_APPEARANCES, materials: Optional[str] = None, unit: Fraction = Fraction(1),
              groups: bool = False) -> str:
     """The mesh as Wavefront OBJ, with an object for each solid, and the names of solids that are given; with `groups` a group for each face,
-    which many programs take for a mesh of its own.
+    which many programs take for a mesh of its own. It is in millimetres, of which a coordinate is so many.
 
     With the name of a file of materials, whose text is mtl_text, solids and faces have their colours too.
     """
-    return '\n'.join([*unit_lines(unit), *_obj_lines(mesh, looks, materials, groups)]) + '\n'
+    return '\n'.join(_obj_lines(mesh, looks, materials, groups, InMillimetres(unit))) + '\n'
 
 
 def mtl_text(looks: Appearances) -> str:
@@ -144,12 +143,12 @@ def _material(colour: Optional[Colour]) -> str:
     return PLAIN_MATERIAL if colour is None else f'colour_{hexadecimal(colour)[1:]}'
 
 
-def _obj_lines(mesh: Mesh, looks: Appearances, materials: Optional[str], groups: bool) -> Iterator[str]:
+def _obj_lines(mesh: Mesh, looks: Appearances, materials: Optional[str], groups: bool, lengths: InMillimetres) -> Iterator[str]:
     if materials is not None:
         yield f'mtllib {materials}'
     places = {vertex: place for place, vertex in enumerate(mesh.vertices, 1)}
     for vertex in mesh.vertices:
-        yield 'v {} {} {}'.format(*mesh.model.vertices[vertex])
+        yield f'v {lengths.point(mesh.model.vertices[vertex])}'
     names = unique_names(mesh.model.solids, looks, 'solid_')
     for solid in mesh.model.solids:
         yield 'o ' + ' '.join(names[solid].split())

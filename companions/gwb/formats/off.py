@@ -4,9 +4,8 @@ import re
 from fractions import Fraction
 from typing import Iterator, List, Optional, Tuple
 
-from ..scripts.unit_comments import unit_lines
 from .appearance import Colour, colour_of_parts
-from .exact_numbers import Numbers
+from .exact_numbers import InMillimetres, Numbers
 from .mesh import Mesh
 from .parts import Gathered, NotAMesh, Part
 from .text_lines import words_of_lines
@@ -64,16 +63,15 @@ def _colour(words: List[str]) -> Optional[Colour]:
 
 
 def off_text(mesh: Mesh, unit: Fraction = Fraction(1)) -> str:
-    """The mesh in the Object File Format. Another unit than one is said in a comment, here and in obj_text."""
+    """The mesh in the Object File Format, in millimetres, of which a coordinate is so many."""
     return '\n'.join(_off_lines(mesh, unit)) + '\n'
 
 
 def _off_lines(mesh: Mesh, unit: Fraction) -> Iterator[str]:
-    places = {vertex: place for place, vertex in enumerate(mesh.vertices)}
+    places, lengths = {vertex: place for place, vertex in enumerate(mesh.vertices)}, InMillimetres(unit)
     yield 'OFF'
-    yield from unit_lines(unit)
     yield f'{len(places)} {len(mesh.triangles)} 0'
     for vertex in mesh.vertices:
-        yield '{} {} {}'.format(*mesh.model.vertices[vertex])
+        yield lengths.point(mesh.model.vertices[vertex])
     for a, b, c in mesh.triangles:
         yield f'3 {places[a]} {places[b]} {places[c]}'

@@ -7,9 +7,8 @@ from typing import Dict, Iterator, List, NamedTuple, Optional, Sequence, Tuple
 
 from ..geometry.flat_face import ExactVector
 from ..geometry.vectors import Vector, cross, subtract
-from ..scripts.unit_comments import unit_line
 from .appearance import Appearance
-from .exact_numbers import NotANumber, Numbers, of_float, shortened
+from .exact_numbers import InMillimetres, NotANumber, Numbers, of_float, shortened
 from .mesh import Mesh
 from .parts import Gathered, NotAMesh, Part, require_few
 from .text_lines import numbered_words
@@ -152,26 +151,26 @@ def _float_corner(corner: Tuple[float, ...], places: _Places) -> int:
 
 
 def stl_text(mesh: Mesh, unit: Fraction = Fraction(1)) -> str:
-    """The mesh as STL in its text form: one block, named after its solid or, where there are several, `gwb`. Another unit than one stands behind
-    the name, as a comment of its own."""
+    """The mesh as STL in its text form: one block, named after its solid or, where there are several, `gwb`. It is in millimetres,
+    of which a coordinate is so many."""
     return '\n'.join(_stl_lines(mesh, unit)) + '\n'
 
 
 def _stl_lines(mesh: Mesh, unit: Fraction) -> Iterator[str]:
-    solids = mesh.model.solids
+    solids, lengths = mesh.model.solids, InMillimetres(unit)
     name = f'solid_{solids[0]}' if len(solids) == 1 else 'gwb'
-    yield f'solid {name}' + ('' if unit == 1 else f' {unit_line(unit)}')
+    yield f'solid {name}'
     for triangle in (triangle for solid in solids for triangle in mesh.triangles_of(solid)):
-        yield from _stl_facet([mesh.model.vertices[vertex] for vertex in triangle])
+        yield from _stl_facet([mesh.model.vertices[vertex] for vertex in triangle], lengths)
     yield f'endsolid {name}'
 
 
-def _stl_facet(points: Sequence[Vector]) -> Iterator[str]:
+def _stl_facet(points: Sequence[Vector], lengths: InMillimetres) -> Iterator[str]:
     across = cross(subtract(points[1], points[0]), subtract(points[2], points[0]))
     length = sqrt(sum(part * part for part in across))
     yield 'facet normal ' + ' '.join(f'{part / length:.9g}' for part in across)
     yield 'outer loop'
-    for x, y, z in points:
-        yield f'vertex {x} {y} {z}'
+    for point in points:
+        yield f'vertex {lengths.point(point)}'
     yield 'endloop'
     yield 'endfacet'

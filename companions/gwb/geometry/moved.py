@@ -1,12 +1,14 @@
 """A model in another place: moved, turned by quarters about an axis, mirrored, or made larger."""
 
 from fractions import Fraction
-from typing import Callable, NamedTuple, Tuple
+from math import lcm
+from typing import Callable, List, NamedTuple, Tuple
 
 from ..errors import Unfit
 from .flat_face import ExactVector
 from .free_numbers import from_least
 from .model import Loop, Model
+from .plane_figures import Exact
 from .vectors import Vector, ZERO, add, dot, scaled, subtract
 
 FARTHEST = 1_000_000_000
@@ -51,6 +53,19 @@ def turning(axis: str, times: int = 1, about: Vector = ZERO) -> Change:
     return Change(turned)
 
 
+def turning_to(axis: str, way: Tuple[int, int], length: int, about: Vector = ZERO) -> Change:
+    """Turns points about the axis through a point, so that the next of the axes comes to lie along `way`, of which that is the length."""
+    first, second = {'x': (1, 2), 'y': (2, 0), 'z': (0, 1)}[axis]
+
+    def turned(point: Vector) -> ExactVector:
+        parts: List[Exact] = list(subtract(point, about))
+        u, v = parts[first], parts[second]
+        parts[first], parts[second] = Fraction(u * way[0] - v * way[1], length), Fraction(u * way[1] + v * way[0], length)
+        x, y, z = (part + middle for part, middle in zip(parts, about))
+        return (x, y, z)
+    return Change(turned)
+
+
 def mirroring(plane: PlaneNumbers, by: Vector = ZERO) -> Change:
     """Mirrors points in the plane a x + b y + c z + d = 0, where a, b and c are not all zero, and then moves them by a vector."""
     across = plane[:3]
@@ -61,6 +76,11 @@ def mirroring(plane: PlaneNumbers, by: Vector = ZERO) -> Change:
         x, y, z = (along - way * part + more for along, part, more in zip(point, across, by))
         return (x, y, z)
     return Change(mirrored, mirrors=True)
+
+
+def whole_factor(model: Model, change: Change) -> int:
+    """The least number by which coordinates must be multiplied for the points of the model to be whole once they are changed."""
+    return lcm(*(part.denominator for point in model.vertices.values() for part in change.place(point)))
 
 
 def changed(model: Model, change: Change) -> Model:

@@ -2,6 +2,7 @@
 
 from collections.abc import Iterable as Items
 from fractions import Fraction
+from math import isfinite
 from numbers import Integral, Rational
 from os import PathLike, fspath
 from typing import Iterable, List, NamedTuple, Optional, Protocol, Sequence, Tuple, Union
@@ -136,6 +137,15 @@ def corners(name: str, value: object, count: int) -> List[List[int]]:
     if not found or not all(0 <= corner < count for face in found for corner in face):
         raise ValueError(f'{name}: faces of places from 0 to {count - 1} are wanted')
     return found
+
+
+def rational(name: str, value: object) -> Fraction:
+    """A whole number, a fraction, or a float for the decimal that Python prints of it."""
+    if isinstance(value, float) and isfinite(value):
+        return Fraction(repr(float(value)))
+    if isinstance(value, bool) or not isinstance(value, Rational):
+        raise wrong(name, 'a number', value)
+    return Fraction(int(value.numerator), int(value.denominator))
 
 
 def factor(name: str, value: object, or_zero: bool = False) -> Fraction:

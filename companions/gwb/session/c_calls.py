@@ -54,7 +54,8 @@ _FEATURES: Dict[str, List[Any]] = {
 PROTOTYPES: Dict[str, Tuple[Any, List[Any]]] = {
     **{f'gwb_{name}': (result, [_HANDLE, *taken]) for name, (result, taken) in _CALLS.items()},
     **{f'gwb_{name}': (WORD, [_HANDLE, *taken, _REFUSAL]) for name, taken in _FEATURES.items()},
-    'gwb_advice_factor': (Wide, [ADDRESS]), 'gwb_advice_free': (None, [ADDRESS]), 'gwb_misfit_name': (ctypes.c_char_p, [WORD])}
+    'gwb_advice_factor': (Wide, [ADDRESS]), 'gwb_advice_free': (None, [ADDRESS]), 'gwb_misfit_name': (ctypes.c_char_p, [WORD]),
+    'gwb_circle': (ctypes.c_bool, [LENGTH, LENGTH, WORD, WORD, _ROWS])}
 _MOST_TERM = 2 ** 64 - 1
 
 

@@ -4,7 +4,7 @@ import os
 from fractions import Fraction
 from pathlib import Path
 from types import MappingProxyType
-from typing import Union
+from typing import Sequence, Union
 
 from ..drawing.page import page_of
 from ..errors import Unfit
@@ -24,7 +24,15 @@ from .bench import Methods, warn
 from .reading import FacePart, Selection, SolidPart
 from .steps import Block
 
-_ENDINGS = ('.step', '.stp', '.3mf', '.glb', '.obj', '.off', '.stl', '.html')
+ENDINGS = ('.step', '.stp', '.3mf', '.glb', '.obj', '.off', '.stl', '.html')
+
+
+class ImportedSolids(Selection[SolidPart]):
+    """The solids that a file had, rising by their numbers; `moved` is how far a point was moved at most to come to lie on the lattice, in millimetres."""
+
+    def __init__(self, solids: Sequence[SolidPart], moved: float) -> None:
+        super().__init__('solid', '', solids)
+        self.moved = moved
 
 
 class Exporting(Methods):
@@ -67,13 +75,14 @@ class Exporting(Methods):
 
     def export(self, path: arguments.Path) -> None:
         """Writes what is held to a file, by the ending of its name: .step or .stp, .3mf, .glb, .obj (colours in a .mtl beside it), .off, .stl, .html.
-        Names and colours go where the form has them. STEP, 3MF and GLB have the size, by `unit`; the other forms say it in a comment. Raises
+        Names and colours go where the form has them. All have the size, in millimetres, GLB in metres; what is no decimal fraction of one
+        is rounded to 9 places in OBJ, OFF and STL. Raises
         ValueError for another ending, Unfit where a face isn't flat and plain, nothing is held, or a coordinate is past what GLB holds, OSError where
         the file can't be written, or a .mtl is there that the .obj doesn't name. Warns where solids touch and the form doesn't keep them apart."""
         file = Path(arguments.path('path', path))
         form = file.suffix.lower()
-        if form not in _ENDINGS:
-            raise ValueError(f'{file.name}: the endings are {" ".join(_ENDINGS)}')
+        if form not in ENDINGS:
+            raise ValueError(f'{file.name}: the endings are {" ".join(ENDINGS)}')
         model = self._kernel.listing()
         if not model.solids and form != '.html':
             raise Unfit(f'{file.name}: no solid is held, so there is nothing to write')
@@ -84,14 +93,15 @@ class Exporting(Methods):
         file.write_bytes(self.page().encode() if form == '.html' else _written(model, Said(self._kernel.labels(), self.unit), file))
 
     def import_file(self, path: arguments.Path, *, form: str = '', scale: Exact = 1, rounded: bool = False, keep_triangles: bool = False,
-                    repair: bool = False, within: Exact = 0, flat: bool = False) -> 'Selection[SolidPart]':
+                    repair: bool = False, within: Exact = 0, flat: bool = False) -> 'ImportedSolids':
         """The solids of a file, as `gwb-import` reads it, beside what is held, with numbers that are free: these, with the names and colours that
-        the file has as labels.
+        the file has as labels. `moved` of them says how far a point was moved at most, in millimetres.
 
         `form` is 'step', 'stl', 'obj', 'off', 'ply', 'amf', '3mf' or 'glb' where the file doesn't look like it. Coordinates, in millimetres where the
         file says a unit, are multiplied by `scale`, a whole number or a fraction, and must then be whole in `unit`; `rounded` rounds them, and
         `within` only those of a point that lies no farther than so many units beside a whole place. Faces of one plane become one but with `keep_triangles`;
-        `repair` mends what can be; `flat` takes of STEP the flat solids alone. Warns of what is wrong with the solids, and of what is left out.
+        `repair` mends what can be; `flat` takes of STEP the flat solids alone. Warns of what is wrong with the solids, of what is left out, and of points
+        that were moved.
         Raises OSError; NotAMesh where it is no such file; Unfit where its surfaces aren't closed, or a point isn't whole or past the range.
         Refused: NumbersSpent."""
         kind = arguments.text('form', form) and arguments.word('form', form, FORMS_IN)
@@ -103,13 +113,16 @@ class Exporting(Methods):
                           rounded=round_all, keep_triangles=keep, repair=mend, flat=flat_alone, within=most)
         for wrong in found.wrong:
             warn(f'{file}: {wrong}')
+        moved = float(found.square_moved) ** 0.5 * float(self.unit)
+        if moved:
+            warn(f'{file}: points were moved by {moved:.3g} mm at most')
         new = self._kernel.numbers.instead_of(found.model)
         with Block(self._kernel, False):
             if found.model.solids:
                 self._kernel.load(renumbered(found.model, new))
             looks = [((kind, new[kind][number]), look._replace(name=look.name[:LONGEST_NAME])) for (kind, number), look in found.looks.items()]
             self._kernel.notes.put(*looks)
-        return Selection('solid', '', [SolidPart(self._kernel, new['solid'][solid]) for solid in found.model.solids])
+        return ImportedSolids([SolidPart(self._kernel, new['solid'][solid]) for solid in found.model.solids], moved)
 
 
 def _written(model: Model, said: Said, file: Path) -> bytes:

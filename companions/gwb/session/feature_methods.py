@@ -1,22 +1,27 @@
 """The methods of a workbench that make features of outlines, and shape solids up to the edges of their faces."""
 
-from math import cos, isqrt, pi, sin
-from typing import Any, Iterable, List, NamedTuple, Optional, Sequence, Tuple
+from dataclasses import dataclass, field
+from math import isqrt
+from typing import Any, Iterable, List, Optional, Sequence, Tuple
 
 from ..geometry.free_numbers import LARGEST
 from ..geometry.measures import why_unfit
 from ..geometry.outlines import Impossible
+from ..geometry.plane_figures import Exact
 from ..geometry.vectors import Vector, ZERO, add, cross, dot, reduced, scaled
 from ..protocol.complaints import refused
 from ..protocol.language import NUMBERS
 from . import arguments
 from .bench import Methods
 from .c_calls import FLOOR, WALLS, WORD, Pair, Point, rows, words
+from .circles import WITHIN, Circle, wanted
+from .kernel import Kernel
 from .reading import EdgePart, FacePart
 from .results import Hole, Notch, Numbers, Pocket, Polyhedron, Profile, Ring
 
 
-class Sketch(NamedTuple):
+@dataclass(frozen=True)
+class Sketch:
     """Two coordinates in the plane of a face: (u, v) is the origin, u steps to the right and v steps up, as one looks at the face from outside.
 
     What it gives are points in space. Coordinates are whole numbers."""
@@ -24,6 +29,7 @@ class Sketch(NamedTuple):
     origin: Vector
     right: Vector
     up: Vector
+    _kernel: Kernel = field(repr=False, compare=False)
 
     def point(self, u: int, v: int) -> Vector:
         """The point at two coordinates."""
@@ -39,11 +45,14 @@ class Sketch(NamedTuple):
         (u, v), (width, height) = arguments.coordinates('corner', corner, 2), arguments.coordinates('sizes', sizes, 2)
         return [self.point(*spot) for spot in ((u, v), (u + width, v), (u + width, v + height), (u, v + height))]
 
-    def polygon(self, center: Sequence[int], radius: int, sides: int) -> List[Vector]:
-        """A polygon around a center, its corners at the whole coordinates nearest to a circle, the first one to the right."""
-        (u, v), reach, count = arguments.coordinates('center', center, 2), arguments.positive('radius', radius), arguments.sides('sides', sides)
-        turns = [2 * pi * k / count for k in range(count)]
-        return [self.point(u + round(reach * cos(turn)), v + round(reach * sin(turn))) for turn in turns]
+    def polygon(self, center: Sequence[int], radius: Optional[int] = None, sides: Optional[int] = None, *, diameter: Optional[int] = None,
+                circle: str = 'corners', within: Exact = WITHIN) -> List[Vector]:
+        """A polygon for a circle around a center, with the corners that `drill` gives it, the first one to the right."""
+        (u, v), unit = arguments.coordinates('center', center, 2), self._kernel.notes.now.unit
+        found = wanted(unit, radius, diameter, sides, circle, within)
+        corners = found.corners(self._kernel.lines)
+        found.reached('polygon', (0, 0), corners, unit)
+        return [self.point(u + a, v + b) for a, b in corners]
 
 
 class FeatureMethods(Methods):
@@ -96,7 +105,7 @@ class FeatureMethods(Methods):
         up = scaled(upward, isqrt(dot(way, way) // dot(upward, upward)))
         if dot(up, up) != dot(way, way):
             raise Impossible('OffLattice', part.number, f'no whole vector in face {part.number} is as long as {way} and across it')
-        return Sketch(start, way, up)
+        return Sketch(start, way, up, self._kernel)
 
     def ring(self, face: arguments.Face, points: arguments.Points) -> Ring:
         """A face inside the face, with the outline through the points, and a ring around it.
@@ -133,21 +142,39 @@ class FeatureMethods(Methods):
         number, outline = self._number('face', face), arguments.points('points', points)
         return Hole(*self._kernel.outline('hole', number, outline), tuple(outline))
 
-    def drill(self, face: arguments.Face, center: arguments.Point, radius: int, sides: int, *, depth: Optional[int] = None) -> Hole:
-        """A hole with a polygon of so many sides around the center, its corners on the whole numbers nearest to a circle of the radius, of two as
-        near on the one farther out: through, or so deep.
+    def drill(self, face: arguments.Face, center: arguments.Point, radius: Optional[int] = None, sides: Optional[int] = None, *,
+              diameter: Optional[int] = None, circle: str = 'corners', within: Exact = WITHIN, depth: Optional[int] = None) -> Hole:
+        """A hole with a polygon for a circle of this radius or diameter around the center: through, or so deep. The corners lie on whole numbers, as near
+        to those of a regular polygon as they can, of two as near on the one farther out: `reach` of what it returns says how far from the center the
+        nearest side and the farthest corner lie. Warns where they lie farther beside the circle than a hundredth of the radius.
+
+        On the circle lie the corners; with circle='flats' the sides, none of which comes inside, so that a bolt passes; with 'area' neither, and the
+        areas are the same. Without `sides` there are as many as leave the flats within `within` millimetres of corners on the circle.
 
         Refused: NoFace; NotFlat: the face isn't flat; NotAcross: it doesn't lie across an axis; RepeatedPoint: two corners of the polygon fall
         on one point; NotInPlane: the center lies off the plane of the face; OutlineOutside: the polygon crosses or touches the boundary of the
         face or of the opposite one, or doesn't lie inside; OutlineAroundRing: a ring of either face lies inside the polygon; NoOpposite: there
         is nothing behind it; NotParallel: the face behind it isn't parallel; Meets: the hole would meet or touch something else of the solid,
         or with a depth come through it."""
-        number, middle = self._number('face', face), arguments.point('center', center)
-        reach, count = arguments.positive('radius', radius), arguments.sides('sides', sides)
-        deep = 0 if depth is None else arguments.positive('depth', depth)
-        made, along, corners = Pair(), (WORD * count)(), (Point * count)()
-        self._kernel.give('drill', number, Point(*middle), reach, count, deep, made, along, corners)
-        return Hole(made.first, made.second, tuple(along), tuple((at.x, at.y, at.z) for at in corners))
+        number, middle, unit = self._number('face', face), arguments.point('center', center), self._kernel.notes.now.unit
+        deep, found = 0 if depth is None else arguments.positive('depth', depth), wanted(unit, radius, diameter, sides, circle, within)
+        if found.fit == 'corners' and found.diameter % 2 == 0:
+            made, along, corners = Pair(), (WORD * found.sides)(), (Point * found.sides)()
+            self._kernel.give('drill', number, Point(*middle), found.diameter // 2, found.sides, deep, made, along, corners)
+            hole = Hole(made.first, made.second, tuple(along), tuple((at.x, at.y, at.z) for at in corners))
+        else:
+            outline = self._around(number, middle, found)
+            hole = Hole(*self._kernel.outline('pocket' if deep else 'hole', number, outline, *([deep] if deep else [])), tuple(outline))
+        return hole._replace(reach=found.reached('drill', middle, hole.points, unit))
+
+    def _around(self, face: int, center: Vector, circle: Circle) -> List[Vector]:
+        """The corners of a polygon in a face across an axis, from the axis after its own on. Refused: NoFace. Not possible: NotAcross."""
+        across = FacePart(self._kernel, face).normal
+        axis = next((place for place, part in enumerate(across) if part), 0)
+        if [part != 0 for part in across].count(True) != 1:
+            raise Impossible('NotAcross', face, f"face {face} doesn't lie across an axis")
+        corners = [dict(zip(((axis + 1) % 3, (axis + 2) % 3), corner)) for corner in circle.corners(self._kernel.lines)]
+        return [(center[0] + at.get(0, 0), center[1] + at.get(1, 0), center[2] + at.get(2, 0)) for at in corners]
 
     def glue_all(self, solids: Sequence[arguments.Solid]) -> int:
         """The solids become one along the faces that match: its number, the first one's.

@@ -137,12 +137,13 @@ class Pocket(NamedTuple):
 
 class Hole(NamedTuple):
     """What hole and drill make: the face it ends in, the ring at its start, the points of the outline, and for each the side from it to the
-    next."""
+    next; of a drill how far from its center the nearest side and the farthest corner lie."""
 
     other: int
     loop: int
     sides: Numbers
     points: Tuple[Tuple[int, int, int], ...]
+    reach: Optional[Tuple[float, float]] = None
 
 
 class Renumbered(NamedTuple):

@@ -2,15 +2,18 @@
 
 import ctypes
 from dataclasses import dataclass, field
+from math import atan2, pi
 from typing import Any, Dict, List, Mapping, Optional, Sequence, Tuple
 
 from ..errors import Refused
 from ..geometry.crossings import Plane, without_common_factor
 from ..geometry.free_numbers import KINDS, LARGEST, renumbered
 from ..geometry.model import Model
-from ..geometry.moved import FARTHEST, Change, Displaced, changed, mirroring, moving, turning
+from ..geometry.moved import FARTHEST, Change, Displaced, changed, mirroring, moving, turning_to, whole_factor
 from ..geometry.outlines import Impossible
+from ..geometry.plane_figures import Exact
 from ..geometry.vectors import ZERO, negative
+from ..geometry.whole_turns import WholeTurn, nearest_turn, whole_turn
 from ..protocol.complaints import refused
 from ..protocol.language import NUMBERS
 from ..protocol.replies import Reply
@@ -23,6 +26,8 @@ from .results import Cut, Numbers, Renumbered, Split
 from .steps import Block
 
 _AXES = ('x', 'y', 'z')
+# Where the first axis lies after no turn, a quarter, two and three.
+_QUARTERS = ((1, 0), (0, 1), (-1, 0), (0, -1))
 
 
 @dataclass(frozen=True)
@@ -84,15 +89,7 @@ class SolidMethods(Methods):
         Refused: NoSolid; PointRange: a point would leave the range; OffLattice: one would be mirrored between whole coordinates;
         NumbersSpent: there are no free numbers."""
         number, by = self._number('solid', solid), arguments.point('move', move)
-        change = moving(by) if mirror is None else mirroring(arguments.plane_across('mirror', mirror), by)
-        motion = _motion(change)
-        if motion is not None:
-            return self._in_a_row('copy_solid', number, 1, motion)[0]
-        model = _changed('copy_solid', self._alone(number)[0], change)
-        new = self._kernel.numbers.instead_of(model)
-        with Block(self._kernel, False):
-            self._kernel.load(renumbered(model, new))
-            return self._labelled(Copy(new['solid'][number], new['face'], new['loop'], new['edge'], new['vertex'], number, self))
+        return self._copied(number, moving(by) if mirror is None else mirroring(arguments.plane_across('mirror', mirror), by))
 
     def pattern(self, solid: arguments.Solid, count: int, step: arguments.Point) -> Tuple[Copy, ...]:
         """Copies of the solid, each a step farther than the one before, so that there are `count` of it with itself. Refused as copy is. Raises
@@ -104,25 +101,38 @@ class SolidMethods(Methods):
             raise refused('pattern', NUMBERS['NumbersSpent'], 1, f'there are {LARGEST:,} numbers for solids, not {many:,}')
         return self._in_a_row('pattern', number, many - 1, many, Point(*way))
 
-    def pattern_around(self, solid: arguments.Solid, count: int, axis: str, times: int = 1, *, about: arguments.Point = ZERO) -> Tuple[Copy, ...]:
-        """Copies of the solid around the axis 'x', 'y' or 'z' through a point, each so many quarter turns on from the one before it, counterclockwise as
-        seen from where the axis points, so that there are `count` of it with itself: at most 4, or 2 by half turns. Refused as copy is."""
-        number, round_axis, quarters = self._number('solid', solid), arguments.word('axis', axis, _AXES), arguments.whole('times', times) % 4
-        middle, most = Point(*arguments.point('about', about)), (1, 4, 2, 4)[quarters]
-        if most == 1:
-            raise ValueError(f'times: {times} quarter turns lead back')
-        many = arguments.whole('count', count, 2, most)
-        return self._in_a_row('pattern_around', number, many - 1, many, _AXES.index(round_axis), quarters, middle)
+    def pattern_around(self, solid: arguments.Solid, count: int, axis: str, times: None = None, *, degrees: Exact = 90,
+                       to: Optional[Sequence[int]] = None, about: arguments.Point = ZERO) -> Tuple[Copy, ...]:
+        """Copies of the solid around the axis 'x', 'y' or 'z' through a point, each turned on from the one before it, by degrees or `to` a vector as
+        `turn` says, so that there are `count` of it with itself. Refused as copy is; OffLattice: a point would not be whole. Raises ValueError as turn
+        does, and where one would come to lie where another is."""
+        number, round_axis, middle = self._number('solid', solid), arguments.word('axis', axis, _AXES), arguments.point('about', about)
+        turn, many = _wanted_turn('pattern_around', times, degrees, to), arguments.whole('count', count, 2)
+        if turn.length == 1:
+            quarters = _QUARTERS.index(turn.way)
+            if quarters == 0:
+                raise ValueError(f'{"degrees" if to is None else "to"}: copies by 0 degrees lie where the solid does')
+            if many > (4, 2, 4)[quarters - 1]:
+                raise ValueError(f'count: {many} copies by {turn.degrees:g} degrees lead back')
+            return self._in_a_row('pattern_around', number, many - 1, many, _AXES.index(round_axis), quarters, Point(*middle))
+        with Block(self._kernel, False):
+            return tuple(self._copied(number, turning_to(round_axis, *turn.repeated(times), middle)) for times in range(1, many))
 
     def move(self, solid: arguments.Solid, vector: arguments.Point) -> int:
         """The solid moves by the vector: its number, which stays, as all of its numbers do. Refused: NoSolid; PointRange: a point would
         leave the range."""
         return self._placed(solid, moving(arguments.point('vector', vector)))
 
-    def turn(self, solid: arguments.Solid, axis: str, times: int = 1, *, about: arguments.Point = ZERO) -> int:
-        """The solid turns by quarters about the axis 'x', 'y' or 'z' through a point, counterclockwise as seen from where the axis points:
-        its number. Refused as move is."""
-        return self._placed(solid, turning(arguments.word('axis', axis, _AXES), arguments.whole('times', times), arguments.point('about', about)))
+    def turn(self, solid: arguments.Solid, axis: str, times: None = None, *, degrees: Exact = 90, to: Optional[Sequence[int]] = None,
+             about: arguments.Point = ZERO) -> int:
+        """The solid turns about the axis 'x', 'y' or 'z' through a point, counterclockwise as seen from where the axis points: its number. It turns by
+        degrees, which are a multiple of 90; or so that the next of the axes comes to lie along `to`, two whole numbers whose length is whole, such as
+        (4, 3): about 'z' that axis is x, about 'x' it is y, and about 'y' it is z.
+
+        Refused as move is; OffLattice: a point would not be whole, and in a step how many times finer all would be. Raises ValueError for other angles
+        and vectors, which names one that is near."""
+        round_axis, turn = arguments.word('axis', axis, _AXES), _wanted_turn('turn', times, degrees, to)
+        return self._placed(solid, turning_to(round_axis, *turn, arguments.point('about', about)))
 
     def mirror(self, solid: arguments.Solid, plane: arguments.Point) -> int:
         """The solid becomes its image in the plane a x + b y + c z + d = 0: its number. Each loop runs the other way, by the mates of its
@@ -194,6 +204,17 @@ class SolidMethods(Methods):
                     warn('faces {} become one, which keeps the label of face {}'.format(' and '.join(map(str, faces)), faces[0]))
                 self._label_alike('face', [(faces[0], part)])
         return numbers[0]
+
+    def _copied(self, number: int, change: Change) -> Copy:
+        """A copy of the solid in another place, with its labels. Refused: NoSolid, PointRange, OffLattice, NumbersSpent."""
+        motion = _motion(change)
+        if motion is not None:
+            return self._in_a_row('copy_solid', number, 1, motion)[0]
+        model = _changed('copy_solid', self._alone(number)[0], change)
+        new = self._kernel.numbers.instead_of(model)
+        with Block(self._kernel, False):
+            self._kernel.load(renumbered(model, new))
+            return self._labelled(Copy(new['solid'][number], new['face'], new['loop'], new['edge'], new['vertex'], number, self))
 
     def _in_a_row(self, word: str, solid: int, count: int, *way: Any) -> Tuple[Copy, ...]:
         """So many copies of the solid, which a feature makes of where each lies."""
@@ -270,6 +291,30 @@ class SolidMethods(Methods):
         return made
 
 
+def _wanted_turn(word: str, times: object, degrees: object, to: object) -> WholeTurn:
+    """The turn that is wanted, by degrees or along a vector. Raises ValueError where it isn't by quarters, or the vector's length isn't whole."""
+    if times is not None:
+        raise TypeError(f'times: {word} takes degrees=90, a multiple of 90, or to=(4, 3), along which the next of the axes comes to lie')
+    if to is not None:
+        if degrees != 90:
+            raise ValueError('to: an angle in degrees is given already')
+        u, v = arguments.coordinates('to', to, 2)
+        found = whole_turn(u, v)
+        if found is None:
+            raise ValueError(f'to: the length of ({u}, {v}) is not whole{_near_by(atan2(v, u) * 180 / pi) if (u, v) != (0, 0) else ""}')
+        return found
+    angle = arguments.rational('degrees', degrees)
+    if angle % 90:
+        raise ValueError(f'degrees: {float(angle):g} is no multiple of 90, and turns no whole points to whole ones{_near_by(float(angle))}')
+    return WholeTurn(_QUARTERS[int(angle // 90) % 4], 1)
+
+
+def _near_by(degrees: float) -> str:
+    """What is said of the nearest turn that leaves fractions."""
+    near = nearest_turn(degrees)
+    return f': to={near.way} turns by {near.degrees:.2f} degrees, and wants a step {near.length} times finer at most' if near.length > 1 else ''
+
+
 def _motion(change: Change) -> Any:
     """A change of place as the library has it; None where axes don't go to axes, or points go far out of range."""
     start, *ends = map(change.place, (ZERO, (1, 0, 0), (0, 1, 0), (0, 0, 1)))
@@ -288,4 +333,5 @@ def _changed(word: str, model: Model, change: Change) -> Model:
     except Displaced as error:
         if error.name == 'PointRange':
             raise refused(word, NUMBERS[error.name], error.vertex, str(error)) from None
-        raise Impossible(error.name, error.vertex, str(error)) from None
+        text = f'{error}; times {whole_factor(model, change)} all points are whole'
+        raise Impossible(error.name, error.vertex, text) from None

@@ -32,7 +32,7 @@ from ..scripts.inversion import script_of
 from ..scripts.unit_comments import unit_in, unit_line
 from . import arguments
 from .commands import Commands
-from .exporting import Exporting
+from .exporting import ENDINGS, Exporting
 from .feature_methods import FeatureMethods
 from .kernel import Kernel
 from .library import find_path
@@ -113,8 +113,10 @@ class Workbench(SolidMethods, FeatureMethods, Commands, Reading, Exporting):
 
     def save(self, path: arguments.Path) -> None:
         """Writes the script to a file. Comments in it say which commands are one step, the unit, and the labels, so that `load` knows them
-        again."""
+        again. Raises ValueError for an ending of what `export` writes."""
         file = Path(arguments.path('path', path))
+        if file.suffix.lower() in ENDINGS:
+            raise ValueError(f'{file.name}: save() writes a script, and export() a file with the ending {file.suffix}')
         lines = [*_saved_lines(self._kernel), *comments(self._kernel.labels())]
         file.write_text(''.join(f'{line}\n' for line in lines), encoding='ascii')
 

@@ -379,6 +379,7 @@ extern "C" {
     pub fn gwb_glue_all(g: *mut Gwb, solids: *const u32, n: usize, why: *mut Refusal) -> u32;
     pub fn gwb_split_solid(g: *mut Gwb, solid: u32, plane: *const CutPlane, above: u32, why: *mut Refusal) -> u32;
     pub fn gwb_renumber(g: *mut Gwb, why: *mut Refusal) -> u32;
+    pub fn gwb_circle(diameter: i64, grain: i64, n: u32, circle: u32, corners: *mut i64) -> bool;
     pub fn gwb_drill(
         g: *mut Gwb, face: u32, center: *const Point, radius: i64, n: u32, depth: i64, made: *mut OutlineMade, sides: *mut u32, points: *mut Point,
         why: *mut Refusal,
