@@ -1,42 +1,50 @@
-# Builds gwb unproved, tries what is built, and installs it: the program, its man page, the companions, the pages and examples, and the library if
-# it is built. It proves nothing: that is .ci/run.
+# Builds gwb unproved, tries what is built, and installs it: the program, its man page, the library, the companions, the pages and examples. It
+# proves nothing: that is .ci/run.
 #
-#   make try                                 in about two minutes: out/gwb-unproved, and in out/unproved the library for C, C++, Rust and Python
+#   make try                                 in some minutes: out/gwb-unproved, and in out/unproved the library for C, C++, Rust and Python
 #   make check                               all tests that need no proof: the last line counts
 #   make check-unproved                      the same on what `make try` builds
 #   make reference                           out/reference: what each call is for, in C and C++, Python and Rust, from the sources
 #   make install PREFIX=/usr/local           DESTDIR=.. is put before every place, as for a package
 #   make uninstall PREFIX=/usr/local         takes away what was installed
 #
-# PROGRAM and ARCHIVE say where the program and the library's archive are, if not where rt leaves them.
+# What is installed and checked is what is built, proved before unproved; PROGRAM and ARCHIVE name another program, and another archive of the library.
+# Where there is no library, GWB_WITHOUT_LIBRARY=1 installs the rest. Python's package goes where PYTHON looks below PREFIX, or into PYTHONDIR.
 PREFIX ?= /usr/local
-PROGRAM ?= crates/gwb/out/gwb
-ARCHIVE ?= crates/gwb_c/out/libgwb_c.a
+PROGRAM ?= $(firstword $(wildcard crates/gwb/out/gwb out/gwb-unproved) crates/gwb/out/gwb)
+ARCHIVE ?= $(firstword $(wildcard crates/gwb_c/out/libgwb_c.a out/libgwb_c-unproved.a) crates/gwb_c/out/libgwb_c.a)
 INSTALL ?= install
+PYTHON ?= python3
 
 ROOT = $(abspath $(DESTDIR))$(abspath $(PREFIX))
 BIN = $(ROOT)/bin
 MAN = $(ROOT)/share/man/man1
 SHARE = $(ROOT)/share/gwb
 DOC = $(ROOT)/share/doc/gwb
-LIBRARY = $(MAKE) -C bindings PREFIX=$(abspath $(PREFIX)) DESTDIR=$(abspath $(DESTDIR)) ARCHIVE=$(abspath $(ARCHIVE))
+# what nothing is proved of is named so
+kind = $(if $(findstring unproved,$(notdir $1)),unproved,proved)
+OUT ?= $(if $(filter proved,$(call kind,$(ARCHIVE))),bindings/out,out/unproved)
+LIBRARY = $(MAKE) -C bindings PREFIX=$(abspath $(PREFIX)) DESTDIR=$(abspath $(DESTDIR)) ARCHIVE=$(abspath $(ARCHIVE)) OUT=$(abspath $(OUT))
+SITE = import site, sys; below = sys.argv[1] + "/lib/"; own = below + "python%d.%d/site-packages" % sys.version_info[:2]; \
+    print(next((at for at in [*site.getsitepackages(), site.getusersitepackages()] if at.startswith(below)), own))
+PYTHONDIR ?= $(shell $(PYTHON) -c '$(SITE)' $(abspath $(PREFIX)))
+PACKAGE = $(abspath $(DESTDIR))$(PYTHONDIR)/gwb
 COMPANIONS = $(notdir $(wildcard companions/gwb-*))
 # pages and examples lie below DOC as they lie here, so that their links lead on
 PAGES = README.md CHANGELOG.md companions/README.md $(wildcard docs/*.md docs/pictures/*.* docs/tutorial/*.*) $(wildcard examples/*.*) \
     bindings/README.md $(wildcard bindings/examples/*.*)
 
-# what nothing is proved of is named so
 UNPROVED = out/gwb-unproved out/libgwb_c-unproved.a
 TRIED = ../out/unproved
 SOURCES = .ci/unproved .ci/crates.py crates.txt $(shell find crates -path '*/src/*.rt')
 
-.PHONY: help try check check-unproved reference install uninstall install-program install-companions install-pages install-library
+.PHONY: help try check check-unproved reference built built-program install uninstall install-program install-companions install-pages install-library
 help:
-	@echo 'make try                            builds the program and the library in about two minutes, unproved'
-	@echo 'make check                          runs all tests that need no proof on what is built and proved'
+	@echo 'make try                            builds the program and the library in some minutes, unproved'
+	@echo 'make check                          runs all tests that need no proof on what is built, proved before unproved'
 	@echo 'make check-unproved                 runs them on what make try builds'
 	@echo 'make reference                      writes each language'"'"'s reference, from its headers and docstrings'
-	@echo 'make install PREFIX=/usr/local      installs the program, the library if it is built, the man page, the companions, pages and examples'
+	@echo 'make install PREFIX=/usr/local      installs what is built, proved before unproved: the program, the library, companions, pages'
 	@echo 'make uninstall PREFIX=/usr/local    takes them away'
 	@echo '.ci/run                             proves, tests and builds everything'
 
@@ -57,7 +65,7 @@ out/gwb-unproved: $(SOURCES)
 out/libgwb_c-unproved.a: $(SOURCES)
 	.ci/unproved gwb_c
 
-check: $(PROGRAM)
+check: built-program
 	tests/run.py $(PROGRAM) $(wildcard $(ARCHIVE))
 
 check-unproved: try
@@ -78,37 +86,40 @@ reference:
 	else echo 'there is no cargo, so the reference of Rust is left out (Debian: cargo)'; fi
 
 install: install-program install-companions install-pages install-library
+	@echo 'installed in $(ROOT): the program $(PROGRAM) ($(call kind,$(PROGRAM))), $(if $(HAS_LIBRARY),the library $(ARCHIVE) ($(call kind,$(ARCHIVE))),no library)'
+	@echo 'import gwb in Python takes $(PACKAGE): where Python does not look there, set PYTHONPATH=$(PYTHONDIR)'
 
-$(filter-out $(UNPROVED),$(PROGRAM)):
-	@echo '$(PROGRAM) is not built. One of these proves and builds it:'
-	@echo '    (cd crates/gwb && rt run) < examples/wire.gwb'
-	@echo '    .ci/run'
-	@echo 'In two minutes, unproved: make try. A program that lies elsewhere is named by PROGRAM=..'
-	@false
+# nothing is built here: it may be another user who installs
+HAS_LIBRARY = $(if $(GWB_WITHOUT_LIBRARY),,$(ARCHIVE))
+built: built-program
+	@test -z '$(HAS_LIBRARY)' || test -f '$(ARCHIVE)' || { echo 'There is no library $(ARCHIVE). `make try` builds one, unproved;' \
+	    '(cd crates/gwb_c && rt lib) proves and builds it. GWB_WITHOUT_LIBRARY=1 installs the rest alone.'; false; }
 
-install-program: $(PROGRAM)
+built-program:
+	@test -f $(PROGRAM) || { echo 'There is no program $(PROGRAM). `make try` builds one, unproved; .ci/run proves and builds it.'; false; }
+
+install-program: built
 	$(INSTALL) -D -m 755 $(PROGRAM) $(BIN)/gwb
 	$(INSTALL) -D -m 644 docs/gwb.1 $(MAN)/gwb.1
 
-# each companion is a link to the file that lies beside its package, which is how it finds it
-install-companions: $(PROGRAM)
+# each companion is a link to the file that lies beside its package, which is how it finds it, and Python finds the package by a link too
+install-companions: built
+	@test -h $(PACKAGE) || ! test -e $(PACKAGE) || { echo '$(PACKAGE) is there already: pip uninstall gwb'; false; }
 	cd companions && find gwb -type f -not -path '*/__pycache__/*' -exec $(INSTALL) -D -m 644 {} $(SHARE)/companions/{} \;
 	$(INSTALL) -m 755 $(COMPANIONS:%=companions/%) $(SHARE)/companions
 	$(INSTALL) -d $(BIN)
 	for name in $(COMPANIONS); do ln -sf ../share/gwb/companions/$$name $(BIN)/$$name || exit 1; done
+	$(INSTALL) -d $(dir $(PACKAGE))
+	ln -sfn $$(realpath -m --relative-to=$(dir $(PACKAGE)) $(SHARE)/companions/gwb) $(PACKAGE)
 
-install-pages: $(PROGRAM)
+install-pages: built
 	for page in $(PAGES); do $(INSTALL) -D -m 644 $$page $(DOC)/$$page || exit 1; done
 
-install-library: $(PROGRAM)
-ifneq ($(wildcard $(ARCHIVE)),)
-	$(LIBRARY) install
-else
-	@echo '$(ARCHIVE) is not built, so the library is left out; this proves and builds it:'
-	@echo '    (cd crates/gwb_c && rt lib)'
-endif
+install-library: built
+	$(if $(HAS_LIBRARY),$(LIBRARY) install)
 
 uninstall:
 	rm -f $(BIN)/gwb $(COMPANIONS:%=$(BIN)/%) $(MAN)/gwb.1
 	rm -rf $(SHARE) $(DOC)
+	test ! -h $(PACKAGE) || rm -f $(PACKAGE)
 	$(LIBRARY) uninstall

@@ -33,7 +33,7 @@ TOOLS = [['tests/refused_growths.py', '/bin/sh'], ['tests/direct_calls.py', '/bi
 # What needs something built, on what isn't there, and what its first line tells to type.
 UNBUILT = [(['make', '-s', '-C', 'bindings', f'ARCHIVE={NOWHERE}', 'OUT={folder}'], 'rt lib'),
            (['make', '-s', '-C', 'bench', 'library', f'LIBRARY={NOWHERE}'], 'make -C bindings bench'),
-           (['make', '-s', 'check', f'PROGRAM={NOWHERE}'], 'is not built'),
+           (['make', '-s', 'check', f'PROGRAM={NOWHERE}'], 'make try'),
            (['bench/run.py', '--program', NOWHERE], 'rt run')]
 ALWAYS = ['sh', 'env', 'dirname', 'realpath', 'mktemp', 'rm', 'date']
 

@@ -1,9 +1,10 @@
 #!/usr/bin/env python3
-"""Installs the program, the man page, the companions, the pages and the library in a folder of its own, runs them there, and takes them away again.
+"""Installs the program, the man page, the companions, the pages and the library in a folder of its own, runs them there, and takes them away again:
+by make, and the package of Python by pip, without a network.
 
     tests/install.py [PROGRAM [ARCHIVE]]        PROGRAM is crates/gwb/out/gwb where none is given
 
-Without an ARCHIVE no library is installed. Afterwards no file may be left in the folder. The last line counts.
+Without an ARCHIVE no library is installed, which has to be asked for. Afterwards no file may be left in the folder. The last line counts.
 """
 import os
 import re
@@ -38,11 +39,19 @@ int main(void)
 }
 '''
 PYTHON = '''
-from gwb import Workbench
+import gwb
 from gwb.session.library import find_path
-with Workbench() as bench:
-    print(bench.volume(bench.block((0, 0, 0), (4, 4, 4))), find_path())
+with gwb.Workbench() as bench:
+    print(bench.volume(bench.block((0, 0, 0), (4, 4, 4))), gwb.__proved__, gwb.__version__, find_path())
 '''
+# Of the package alone: its version, as pip has it, and whether it has a library.
+ALONE = '''
+from importlib.metadata import version
+from pathlib import Path
+import gwb
+print(version('gwb'), (Path(gwb.__file__).parent / '_lib').exists())
+'''
+PIP = 'install --no-index --no-build-isolation --no-deps --no-cache-dir --disable-pip-version-check -q'.split()
 CMAKE = '''cmake_minimum_required(VERSION 3.10)
 project(try C CXX)
 find_package(gwb {version} REQUIRED)
@@ -60,17 +69,25 @@ class Installation:
     def __init__(self, folder: Path, program: Path, archive: Optional[Path]) -> None:
         self.stage, self.prefix = folder / 'stage', folder / 'prefix'
         self.program, self.archive = program, archive
-        self._out = folder / 'out'
-        self._environment = {name: value for name, value in os.environ.items() if name not in ('GWB', 'PYTHONPATH', 'MAKEFLAGS')}
+        self.out = folder / 'out'
+        self._environment = {name: value for name, value in os.environ.items() if name not in ('GWB', 'PYTHONPATH', 'MAKEFLAGS', 'VIRTUAL_ENV')}
+        # (where Python looks for what a user installs for oneself)
+        self._environment.update(HOME=str(folder), PYTHONUSERBASE=str(self.prefix))
         self._environment['PKG_CONFIG_PATH'] = str(self.prefix / 'lib' / 'pkgconfig')
         self._environment['PATH'] = f'{self.prefix / "bin"}:{os.environ["PATH"]}'
 
+    @property
+    def is_proved(self) -> bool:
+        """Whether the archive is one that was proved: what wasn't is named so."""
+        return self.archive is not None and 'unproved' not in self.archive.name
+
     def make(self, goal: str, stage: Path = Path(), program: Optional[Path] = None,
-             libdir: Optional[Path] = None) -> subprocess.CompletedProcess:
-        """Runs make for a goal. The archive is one that isn't there where none was given."""
-        archive = self.archive or self._out / 'no_archive'
-        words = [f'PREFIX={self.prefix}', f'PROGRAM={program or self.program}', f'ARCHIVE={archive}', f'OUT={self._out}']
+             libdir: Optional[Path] = None, without_library: bool = True) -> subprocess.CompletedProcess:
+        """Runs make for a goal. Where no archive was given it names one that isn't there, and asks for what goes without the library."""
+        archive = self.archive or self.out / 'no_archive'
+        words = [f'PREFIX={self.prefix}', f'PROGRAM={program or self.program}', f'ARCHIVE={archive}', f'OUT={self.out}']
         words += [f'DESTDIR={stage}'] if stage != Path() else []
+        words += ['GWB_WITHOUT_LIBRARY=1'] if without_library and self.archive is None else []
         words += [f'LIBDIR={libdir}'] if libdir else []
         return self.run(['make', '-s', '-C', str(TOP), goal, *words])
 
@@ -102,7 +119,8 @@ def complaint(done: subprocess.CompletedProcess, told: bytes = b'', status: int 
 
 def installed(at: Installation) -> Iterator[str]:
     """The files, and what the programs do."""
-    yield complaint(at.make('install'), b'' if at.archive else b'rt lib')
+    library = f'the library {at.archive} ({"proved" if at.is_proved else "unproved"})' if at.archive else 'no library'
+    yield complaint(at.make('install'), library.encode())
     here = files(at.prefix)
     wanted = ['bin/gwb', 'share/man/man1/gwb.1', 'share/doc/gwb/examples/bracket.py', *(f'bin/{name}' for name in COMPANIONS),
               *(LIBRARY if at.archive else [])]
@@ -167,8 +185,7 @@ def library(at: Installation) -> Iterator[str]:
     yield complaint(at.run(['cc', 'try.c', '-o', 'plain', *words, '-lgwb'])) or complaint(at.run([at.prefix.parent / 'plain']))
     yield complaint(at.run(['cc', f'-I{at.prefix}/include', '-c', at.prefix / 'share' / 'gwb' / 'heap.c', '-o', 'heap.o']))
     yield complaint(at.run(['cc', 'try.c', '-o', 'own_heap', *words, *kernel])) or complaint(at.run([at.prefix.parent / 'own_heap']))
-    python = at.run(['env', f'PYTHONPATH={at.prefix}/share/gwb/companions', 'python3', '-B', '-c', PYTHON])
-    yield complaint(python, f'64 {at.prefix}/lib/{SONAME}\n'.encode())
+    yield complaint(at.run(['python3', '-B', '-c', PYTHON]), says(at, at.prefix / 'lib' / SONAME))
     for tool, tries in PACKAGES.items():
         if shutil.which(tool):
             yield from tries(at)
@@ -202,24 +219,63 @@ def elsewhere(at: Installation) -> Iterator[str]:
     yield '' if not files(at.prefix) else f'left: {files(at.prefix)}'
 
 
-def without_program(at: Installation) -> Iterator[str]:
+def says(at: Installation, library: Path) -> bytes:
+    """What the program in Python prints over the library."""
+    return f'64 {at.is_proved} {VERSION}{"" if at.is_proved else "+unproved"} {library}\n'.encode()
+
+
+def by_pip(at: Installation) -> Iterator[str]:
+    """The package that pip builds of what is built, from a copy of the sources: without a library, and with one, also where it leads to the sources."""
+    tree = at.prefix.parent / 'tree'
+    shutil.copytree(TOP / 'companions', tree / 'companions', ignore=shutil.ignore_patterns('__pycache__', 'tests'))
+    python = at.prefix.parent / 'environment' / 'bin' / 'python'
+    yield complaint(at.run(['python3', '-m', 'venv', '--without-pip', '--system-site-packages', python.parent.parent]))
+    install = [python, '-m', 'pip', *PIP]
+    yield complaint(at.run([*install, tree / 'companions']), b'make try', status=1)
+    yield complaint(at.run(['env', 'GWB_WITHOUT_LIBRARY=1', *install, tree / 'companions']))
+    yield complaint(at.run([python, '-c', ALONE]), f'{VERSION} False\n'.encode())
+    if at.archive is not None:
+        built = tree / ('bindings/out' if at.is_proved else 'out/unproved') / 'libgwb.so'
+        built.parent.mkdir(parents=True)
+        shutil.copy(at.out / 'libgwb.so', built)
+        for words, place in (([], python.parent.parent / 'lib'), (['-e'], built)):
+            yield complaint(at.run([*install, '--force-reinstall', *words, tree / 'companions']))
+            yield complaint(at.run([python, '-B', '-c', PYTHON]), says(at, place)[:-1])
+            yield complaint(at.run([python, '-B', '-c', ALONE]), b'' if at.is_proved else b'+unproved')
+    yield complaint(at.run([python.parent / 'gwb-view', '--version']), f'gwb-view {VERSION}'.encode())
+    yield complaint(at.run([python, '-m', 'pip', 'uninstall', '-q', '-y', 'gwb']))
+    left = [name for name in files(python.parent.parent) if 'gwb' in name and '__pycache__' not in name]
+    yield '' if not left else f'pip left {left}'
+
+
+def not_built(at: Installation) -> Iterator[str]:
     """What isn't built is said, with what to run, and nothing is installed."""
-    yield complaint(at.make('install', program=at.prefix / 'no_program'), b'rt run', status=2)
-    yield '' if not files(at.prefix) else f'installed without a program: {files(at.prefix)}'
+    yield complaint(at.make('install', program=at.prefix / 'no_program'), b'make try', status=2)
+    if at.archive is None:
+        yield complaint(at.make('install', without_library=False), b'make try', status=2)
+    yield '' if not files(at.prefix) else f'installed though something is not built: {files(at.prefix)}'
 
 
 def findings(program: Path, archive: Optional[Path]) -> Iterator[str]:
     """For each try what is wrong, or nothing."""
     with tempfile.TemporaryDirectory() as folder:
         at = Installation(Path(folder), program, archive)
-        yield from without_program(at)
+        yield from not_built(at)
         yield from installed(at)
         yield from pages(at)
         if archive is not None:
             yield from library(at)
+        if has_pip():
+            yield from by_pip(at)
         yield from taken_away(at)
         if archive is not None:
             yield from elsewhere(at)
+
+
+def has_pip() -> bool:
+    """Whether Python has what pip needs to build a package without a network."""
+    found = 'import sys; from importlib.util import find_spec; sys.exit(not all(map(find_spec, sys.argv[1:])))'
+    return subprocess.run(['python3', '-c', found, 'pip', 'setuptools', 'venv', 'wheel'], check=False).returncode == 0
 
 
 def main() -> int:
@@ -228,6 +284,7 @@ def main() -> int:
     archive = there(given.archive, 'archive') if given.archive else None
     needs('make', *(['cc', 'objdump'] if archive else []))
     skipped = [without(tool, 'what finds the installed library') for tool in PACKAGES if archive and shutil.which(tool) is None]
+    skipped += [] if has_pip() else [without('pip, setuptools, venv or wheel for python3', 'the package that pip builds')]
     return told(findings(program, archive), skipped)
 
 

@@ -17,14 +17,14 @@ _AFTER_LISTING = 'count 1'
 
 
 def find_program() -> str:
-    """The program: what the environment variable GWB names, else the one built in this repository or installed with this package,
-    else that on the path."""
+    """The program: what the environment variable GWB names, else the one built in this repository, proved before unproved, or
+    installed with this package, else that on the path."""
     named = os.environ.get('GWB', '')
     built = (str(path) for path in _places() if path.is_file())
     program = named if named and not is_library(named) else next(built, '') or shutil.which('gwb')
     if program is None:
         raise ProgramMissing('the program gwb was not found: the environment variable GWB may name it, or it lies on the path; '
-                             'in a copy of the sources `make try` builds it in two minutes, unproved, for GWB=out/gwb-unproved')
+                             'in a copy of the sources `make try` builds it, unproved')
     return program
 
 
@@ -32,6 +32,7 @@ def _places() -> Iterator[Path]:
     """Where the program lies in this repository, or beside the package as `make install` puts it: PREFIX/bin and PREFIX/share/gwb."""
     top = Path(__file__).resolve().parents[3]
     yield top / 'crates' / 'gwb' / 'out' / 'gwb'
+    yield top / 'out' / 'gwb-unproved'
     if top.parts[-2:] == ('share', 'gwb'):
         yield top.parents[1] / 'bin' / 'gwb'
 

@@ -28,17 +28,17 @@ class TextRefused(CompanionError):
 
 
 def find_path() -> str:
-    """The library: what the environment variable GWB names, else the one that lies in this package, is built in this repository or installed with
-    this package, else that of the system. Raises ProgramMissing."""
+    """The library: what the environment variable GWB names, else the one that lies in this package, is built in this repository, proved before
+    unproved, or installed with this package, else that of the system. Raises ProgramMissing."""
     named, top = os.environ.get('GWB', ''), _PACKAGE.parents[1]
-    places = [_PACKAGE / '_lib' / 'libgwb.so', top / 'bindings' / 'out' / 'libgwb.so']
+    places = [_PACKAGE / '_lib' / 'libgwb.so', top / 'bindings' / 'out' / 'libgwb.so', top / 'out' / 'unproved' / 'libgwb.so']
     if top.parts[-2:] == ('share', 'gwb'):    # (`make install` puts it into PREFIX/lib, and this package into PREFIX/share/gwb)
         places.append(top.parents[1] / 'lib' / f'libgwb.so.{_MAJOR}')
     built = (str(path) for path in places if path.is_file())
     path = named if is_library(named) else next(built, '') or find_library('gwb')
     if path is None:
         raise ProgramMissing('libgwb.so was not found: the environment variable GWB may name it; in a copy of the sources '
-                             '`make try` builds it in two minutes, unproved, for GWB=out/unproved/libgwb.so')
+                             '`make try` builds it, unproved')
     return path
 
 
@@ -66,6 +66,14 @@ def load(path: str) -> ctypes.PyDLL:
         function.restype, function.argtypes = result, taken
         setattr(library, name.replace('gwb_', '').replace('lent_', ''), function)
     return library
+
+
+def is_proved() -> Optional[bool]:
+    """Whether the library that sessions take says that its kernel is proved; None where there is none."""
+    try:
+        return hasattr(load(find_path()), 'gwb_proved')
+    except ProgramMissing:
+        return None
 
 
 class Library:
