@@ -1,5 +1,8 @@
 -- What isn't done changes nothing; and where memory isn't refused, calls have one list of answers.
-use Rattle.call_lists.proofs.Prelude.{◌≡◌, inl, inr, Bool, true, false, Option, List, [], ◌∷◌, refl, sym, ap, subst, ◌∙◌, true≢false, ◌≢◌, cond, Abandon, Ask, Back, Call, Change, Command, Commit, Done, DraftJournal, Drafting, Give, Journal, Machine, Mark, Memory, Model, Open, Redo, Refusal, Refused, Session, Settled, Stage, Tells, TellsDraft, TellsSession, Told, Undo, accepted, asked, held, made, redo, redo_refusal, refusal_of, undo, undo_refusal, same_machine, ended, MakesAll, OnlyDoneChanges, IdleListsStay, is_memory, heard, told_else, MemoryCanBeLeftOut, view_of, IsUnmarked, ListsHaveOneAnswer}
+use Rattle.call_lists.proofs.Prelude.{◌≡◌, inl, inr, Bool, true, false, Option, List, [], ◌∷◌, refl, sym, ap, subst, ◌∙◌, true≢false, ◌≢◌, cond, Abandon, Ask, Back, Call, Change, Command, Commit, Done, DraftJournal, Drafting, Give, Journal, Machine, Mark, Memory, Model, Open, Redo, Refusal, Refused, Session, Settled, Stage, Tells, TellsDraft, TellsSession, Told, Undo, accepted, asked, held, made, redo, redo_refusal, refusal_of, undo, undo_refusal, same_machine, ended, MakesAll, OnlyDoneChanges, IdleListsStay, is_memory, heard, told_else, MemoryCanBeLeftOut, view_of, IsUnmarked, ListsHaveOneAnswer, ListsHaveOneOutcome}
+use Rattle.undo_journal.specs.Journal.{recorded, record_of}
+use Rattle.commands.specs.Changes.{operators_of}
+use Rattle.commands.specs.declared.command.Told.TheVariants as told
 use Rattle.commands.proofs.Kept as kept
 use Rattle.call_lists.proofs.Histories.{session_stays}
 
@@ -109,3 +112,43 @@ lists_have_one_answer g k h j (c ∷ calls) (a ∷ answers) (b ∷ others) un na
       later.1,
     )
 lists_have_one_answer g k h j _ _ others un na nb is x y = absurd x
+
+-- ---- one list of answers, one stage, with marks, steps and records
+
+session_all : (s t v : Journal) (c : Command) (a b : Told) → a ≢ Memory → b ≢ Memory → TellsSession s c a t → TellsSession s c b v → (b ≡ a) × (v ≡ t)
+session_all s t v (Change c) a b na nb x y =
+    both_alike _ _ _ _ _ _ _ _ a b s (record { machine = accepted s.machine (made (held s.machine) c); records = recorded s (record_of (held s.machine) (operators_of (held s.machine) c)) }) t v refl na nb
+    (λ k. k) (λ g. (λ i. record { machine = g.0 i; records = g.1 i })) (λ k. k) (λ h. (λ i. record { machine = h.0 i; records = h.1 i })) x y
+session_all s t v (Ask q) a b na nb x y = (y.0 ∙ sym x.0, y.1 ∙ sym x.1)
+session_all s t v Undo a b na nb x y = both_alike _ _ _ _ _ _ _ _ a b s _ t v refl na nb (λ k. k) (λ k. k) (λ k. k) (λ k. k) x y
+session_all s t v Redo a b na nb x y = both_alike _ _ _ _ _ _ _ _ a b s _ t v refl na nb (λ k. k) (λ k. k) (λ k. k) (λ k. k) x y
+
+draft_all : (d e k : DraftJournal) (c : Command) (a b : Told) → a ≢ Memory → b ≢ Memory → TellsDraft d c a e → TellsDraft d c b k → (b ≡ a) × (k ≡ e)
+draft_all d e k (Change c) a b na nb x y = both_alike _ _ _ _ _ _ _ _ a b d _ e k refl na nb (λ z. z) (λ z. z.1.1) (λ z. z) (λ z. z.1.1) x y
+draft_all d e k (Ask q) a b na nb x y = (y.0 ∙ sym x.0, y.1 ∙ sym x.1)
+draft_all d e k c a b na nb x y = (y.0 ∙ sym x.0, y.1 ∙ sym x.1)
+
+abbrev drafting_of : DraftJournal → Stage
+drafting_of d = Drafting (record { draft = d })
+
+all_one : (g h j : Stage) (c : Call) (a b : Told) → a ≢ Memory → b ≢ Memory → Tells g c a h → Tells g c b j → (b ≡ a) × (j ≡ h)
+all_one (Session s) h j (Give c) a b na nb x y =
+    let one = session_all s x.0 y.0 c a b na nb x.2 y.2 in (one.0, y.1 ∙ ap Session one.1 ∙ sym x.1)
+all_one (Session s) h j Open a b na nb (inl x) (inl y) = (y.0 ∙ sym x.0, y.1 ∙ sym x.1)
+all_one (Session s) h j Open a b na nb (inl x) (inr y) = absurd (nb y.0)
+all_one (Session s) h j Open a b na nb (inr x) y = absurd (na x.0)
+all_one (Session s) h j c a b na nb x y = (y.0 ∙ sym x.0, y.1 ∙ sym x.1)
+all_one (Drafting d) h j (Give c) a b na nb x y =
+    let one = draft_all d.draft x.0.draft y.0.draft c a b na nb x.2 y.2 in (one.0, y.1 ∙ ap drafting_of one.1 ∙ sym x.1)
+all_one (Drafting d) h j Mark a b na nb x y = (y.1 ∙ ap told.Steps (y.2.steps ∙ sym x.2.steps) ∙ sym x.1, y.3 ∙ sym x.3)
+all_one (Drafting d) h j c a b na nb x y = (y.0 ∙ sym x.0, y.1 ∙ sym x.1)
+
+pub lists_have_one_outcome : ListsHaveOneOutcome
+lists_have_one_outcome g h j [] [] [] na nb x y = (refl, y ∙ sym x)
+lists_have_one_outcome g h j [] [] (b ∷ others) na nb x y = absurd y
+lists_have_one_outcome g h j (c ∷ calls) (a ∷ answers) [] na nb x y = absurd y
+lists_have_one_outcome g h j (c ∷ calls) (a ∷ answers) (b ∷ others) na nb x y =
+    let first = all_one g x.0 y.0 c a b na.0 nb.0 x.1 y.1 in
+    let later = lists_have_one_outcome x.0 h j calls answers others na.1 nb.1 x.2 (subst (λ (z : Stage). MakesAll z calls others j) first.1 y.2) in
+    (λ i. first.0 i ∷ later.0 i, later.1)
+lists_have_one_outcome g h j _ _ others na nb x y = absurd x

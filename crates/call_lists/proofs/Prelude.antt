@@ -1,6 +1,6 @@
 -- What the proofs here take from elsewhere, passed on from one place. Declares nothing.
 pub use Rattle.call_lists.specs.Common.{Abandon, Ask, Back, Call, Change, Command, Commit, Done, DraftJournal, DraftState, Drafting, Give, IsCall, IsConsistent, IsRecorded, IsWhole, Journal, Machine, Mark, MayLack, Memory, Model, NoDraft, NothingToRedo, NothingToUndo, Open, OpenDraft, Record, Redo, Refusal, Refused, Session, Settled, Stage, TakesSteps, Tells, TellsDraft, TellsSession, Told, Undo, Why, accepted, after_calls, after_redo, after_undo, ahead, asked, back_to, commit, depth, draft_step, first_refusal, held, made, never, open_draft, plain, redo, redo_refusal, redos, refusal_of, tried, undo, undo_refusal, undos, unless}
-pub use Rattle.call_lists.specs.Laws.{CommandsAreTakenBack, Each, EachIsWhole, GoesOnFrom, IdleListsStay, IsOnward, IsTakenBack, IsUnmarked, ListsAreHistories, ListsHaveOneAnswer, ListsKeepWhole, MarksLeadBack, MemoryCanBeLeftOut, OnlyDoneChanges, Place, PlacesAreCounted, RedosLeadToTheLast, StepsAreMarks, UndosLeadToTheFirst, after_command, after_done, heard, is_done, is_memory, machine_of, place_after, place_after_all, place_of, told_else, view_of}
+pub use Rattle.call_lists.specs.Laws.{CommandsAreTakenBack, Each, EachIsWhole, GoesOnFrom, IdleListsStay, IsOnward, IsTakenBack, IsUnmarked, ListsAreHistories, ListsHaveOneAnswer, ListsHaveOneOutcome, ListsKeepWhole, MarksLeadBack, MemoryCanBeLeftOut, OnlyDoneChanges, Place, PlacesAreCounted, RedosLeadToTheLast, StepsAreMarks, UndosLeadToTheFirst, after_command, after_done, heard, is_done, is_memory, machine_of, place_after, place_after_all, place_of, told_else, view_of}
 pub use Rattle.call_lists.specs.Making.{AreTold, MakesAll}
 pub use Rattle.commands.proofs.Settling.{ended, goes}
 pub use Rattle.commands.specs.Calls.{CommandsAreCalls}

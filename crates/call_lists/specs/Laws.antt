@@ -150,7 +150,7 @@ told_else (a ∷ answers) = cond (is_memory a) (told_else answers) (a ∷ told_e
 abbrev pub MemoryCanBeLeftOut : Type 0
 MemoryCanBeLeftOut = (g h : Stage) (calls : List Call) (answers : List Told) → MakesAll g calls answers h → MakesAll g (heard calls answers) (told_else answers) h
 
--- no call has to do with a mark, because how many steps a larger command takes is left open
+-- no call has to do with a mark: a mark is a number of steps, in which two drafts may differ that are seen alike
 abbrev pub IsUnmarked : Call → Type 0
 IsUnmarked Mark = ⊥
 IsUnmarked (Back n) = ⊥
@@ -165,10 +165,16 @@ pub record View : Type 0 where
 abbrev pub view_of : Stage → View
 view_of g = record { machine = machine_of g; model = shown g; drafting = is_draft g }
 
--- if no answer is `Memory`, the calls have one list of answers, and lead to one machine and one model
+-- two sessions or drafts are alike but for their records and steps. If no answer is `Memory`, calls without marks have one list of answers in both, and
+-- lead to two that are alike in this way
 abbrev pub ListsHaveOneAnswer : Type 0
 ListsHaveOneAnswer = (g k h j : Stage) (calls : List Call) (answers others : List Told) → Each IsUnmarked calls → Each (λ a. a ≢ Memory) answers → Each (λ b. b ≢ Memory) others
     → view_of k ≡ view_of g → MakesAll g calls answers h → MakesAll k calls others j → (others ≡ answers) × (view_of j ≡ view_of h)
+
+-- if no answer is `Memory`, the calls have one list of answers, and lead to one session or draft, with its records, steps and marks
+abbrev pub ListsHaveOneOutcome : Type 0
+ListsHaveOneOutcome = (g h j : Stage) (calls : List Call) (answers others : List Told) → Each (λ a. a ≢ Memory) answers → Each (λ b. b ≢ Memory) others
+    → MakesAll g calls answers h → MakesAll g calls others j → (others ≡ answers) × (j ≡ h)
 
 -- a call in a draft that neither ends it nor goes back before step n
 abbrev pub GoesOnFrom : ℕ → Call → Type 0

@@ -1,5 +1,5 @@
 //! The laws of lists of calls. Each function does nothing: its contract is what is proved, over every session or draft and every list.
-ghost use Rattle.call_lists.specs.Laws.{ListsAreHistories, ListsKeepWhole, EachIsWhole, PlacesAreCounted, UndosLeadToTheFirst, RedosLeadToTheLast, CommandsAreTakenBack, ListsHaveOneAnswer, OnlyDoneChanges, IdleListsStay, MemoryCanBeLeftOut, StepsAreMarks, MarksLeadBack};
+ghost use Rattle.call_lists.specs.Laws.{ListsAreHistories, ListsKeepWhole, EachIsWhole, PlacesAreCounted, UndosLeadToTheFirst, RedosLeadToTheLast, CommandsAreTakenBack, ListsHaveOneAnswer, ListsHaveOneOutcome, OnlyDoneChanges, IdleListsStay, MemoryCanBeLeftOut, StepsAreMarks, MarksLeadBack};
 
 use commands::commands_are_calls;
 
@@ -30,9 +30,11 @@ pub fn commands_are_taken_back()
 {}
 
 /// A call that isn't told `Done` changes nothing, and a list of such calls changes nothing either. A call that is told `Memory` can be left out. If
-/// no answer is `Memory`, a list of calls without marks has one list of answers, and leads to one machine and one model.
+/// no answer is `Memory`, a list of calls has one list of answers, and leads to one session or draft, with its records and steps. A list without
+/// marks has the same answers from two sessions or drafts that are alike but for their records and steps, and leads to two that are.
 pub fn lists_have_one_answer()
     ensures one { ListsHaveOneAnswer }
+    ensures all { ListsHaveOneOutcome }
     ensures kept { OnlyDoneChanges }
     ensures idle { IdleListsStay }
     ensures memory { MemoryCanBeLeftOut }

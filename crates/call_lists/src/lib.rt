@@ -11,8 +11,7 @@
 //! sound. `undos_and_redos_lead_to_the_ends`: the calls and answers alone tell how many commands can be undone and redone, and that many undos lead
 //! to the empty model, that many redos to the last one. `commands_are_taken_back`: n undos take n commands back, and n redos make them again.
 //! `lists_have_one_answer`: a call that isn't told `Done` changes nothing, a call that is told `Memory` can be left out, and if no answer is `Memory`
-//! a list without marks has one list of answers, and leads to one machine and model. `marks_lead_back`: going back to a mark gives the draft as it
-//! was there.
+//! a list has one list of answers, and leads to one session or draft. `marks_lead_back`: going back to a mark gives the draft as it was there.
 
 mod laws;
 mod making;

@@ -27,7 +27,7 @@
 
 ghost use Rattle.std.specs.Prelude.{◌≡◌, ◌↔◌, ◌+◌, ◌<◌, OnOk, OnErr, IfOk, IfErr, None, Some, Err, slice_index_or};
 ghost use Rattle.call_lists.specs.Common.{IsConsistent, IsWhole, Tells, act_refusal, after_act, after_commit, after_redo, after_step, after_undo, ahead, answer, depth, first_false, held, model_at, new_draft, new_journal, redo_refusal, six_volume, solid_refusal, undo_refusal, verdict};
-ghost use Rattle.call_lists.specs.Laws.{ListsAreHistories, ListsKeepWhole, EachIsWhole, PlacesAreCounted, UndosLeadToTheFirst, RedosLeadToTheLast, CommandsAreTakenBack, ListsHaveOneAnswer, OnlyDoneChanges, IdleListsStay, MemoryCanBeLeftOut, StepsAreMarks, MarksLeadBack};
+ghost use Rattle.call_lists.specs.Laws.{ListsAreHistories, ListsKeepWhole, EachIsWhole, PlacesAreCounted, UndosLeadToTheFirst, RedosLeadToTheLast, CommandsAreTakenBack, ListsHaveOneAnswer, ListsHaveOneOutcome, OnlyDoneChanges, IdleListsStay, MemoryCanBeLeftOut, StepsAreMarks, MarksLeadBack};
 ghost use Rattle.call_lists.specs.Making.{AreTold};
 ghost use Rattle.commands.specs.Steps.{LaminasTakeSteps, BlocksTakeSteps, SweepsTakeSteps, GluesTakeSteps, SplitsTakeSteps};
 ghost use Rattle.convex_laws.specs.Convex.{BlocksAreConvex, BuiltAreConvex, BuiltHaveVolume, ConvexSolidsHaveVolume, PartsOfConvexSolidsHaveVolume, SplitsKeepStrictlyConvex};
@@ -104,9 +104,12 @@ pub fn lists_of_calls_are_taken_back()
 }
 
 /// A call that isn't told `Done` changes nothing: no model, record or step. A list of such calls changes nothing either. Calls that are told `Memory`
-/// can be left out of a list. If no answer is `Memory`, a list without marks has one list of answers, and leads to one machine and one model.
+/// can be left out of a list. If no answer is `Memory`, a list has one list of answers, and leads to one session or draft: its model, its records, its
+/// steps and what can be undone and redone. A list without marks has the same answers from two sessions or drafts that are alike but for their records
+/// and steps, and leads to two that are alike in this way.
 pub fn lists_of_calls_have_one_answer()
     ensures one { ListsHaveOneAnswer }
+    ensures all { ListsHaveOneOutcome }
     ensures kept { OnlyDoneChanges }
     ensures idle { IdleListsStay }
     ensures memory { MemoryCanBeLeftOut }
