@@ -6,6 +6,9 @@
 #include "watch.h"
 #include <string.h>
 
+/* Says that memory was refused, and has the next reply say so too. The session or draft stays as it is. */
+enum gwb_kind kernel_gwb_lack(gwb *g);
+
 static inline enum gwb_kind counted(const gwb *g, enum gwb_kind kind)
 {
     if (kind == GWB_OK)

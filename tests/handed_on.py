@@ -14,7 +14,7 @@ import subprocess
 import sys
 import tempfile
 from pathlib import Path
-from typing import Dict, Iterator, List, NamedTuple, Set, Tuple
+from typing import Dict, Iterator, List, NamedTuple, Optional, Set, Tuple
 
 from counts import TOP, command_line, needs, told
 
@@ -25,6 +25,8 @@ BESIDE = {'gwb_succeeded', 'gwb_kind_text', 'gwb_is_open', 'gwb_use_heap', 'gwb_
           'gwb_lone', 'gwb_read_half_edges', 'gwb_read_vertices', 'gwb_read_triangles', 'gwb_face_triangles', 'gwb_load', 'gwb_lines', 'gwb_changes',
           'gwb_record', 'gwb_recorded', 'gwb_script', 'gwb_watch', 'gwb_watch_from', 'gwb_watch_to', 'gwb_compare', 'gwb_compare_from', 'gwb_compared',
           'gwb_stop_by', 'gwb_greatest_number'}
+# Exports that gwb.h doesn't show, since calls.c alone gives them. The library exports none of them.
+HIDDEN = {'gwb_lack'}
 # C's name of each struct, and the names by which C and the crate call the same argument or field where they differ.
 STRUCTS = {'Refused': 'gwb_refusal', 'Counts': 'gwb_counts', 'Wide': 'gwb_wide', 'PlaneRow': 'gwb_plane', 'HalfEdgeRow': 'gwb_half_edge_row',
            'FaceRow': 'gwb_face_row', 'EdgeRow': 'gwb_edge_row', 'Place': 'gwb_point', 'Range': 'gwb_range'}
@@ -104,13 +106,23 @@ def agree(c: Tuple[Argument, ...], of_crate: Tuple[Argument, ...]) -> bool:
     return len(c) == len(of_crate) and all(a.type == b.type and (a.name == b.name or (a.name, b.name) in SAME) for a, b in zip(c, of_crate))
 
 
+def declared_by_calls(name: str) -> Optional[Function]:
+    """The declaration of an export in calls.c, under the kernel's name for it."""
+    found = re.search(rf'^(enum \w+|\w+) kernel_{name}\(([^)]*)\);', (BINDINGS / 'calls.c').read_text(), re.MULTILINE)
+    return Function(found.group(1), tuple(argument(it) for it in found.group(2).split(','))) if found else None
+
+
 def declarations(functions: Dict[str, Function], exports: Dict[str, Function]) -> Iterator[str]:
-    """Of each export what is wrong in its declaration, or nothing."""
+    """Of each export what is wrong in its declaration, or nothing. One that is hidden is declared in calls.c, and neither shown nor exported."""
+    local = (BINDINGS / 'gwb.map').read_text().partition('local:')[2]
+    for name in HIDDEN:
+        is_hidden = name in exports and name not in functions and re.search(rf'\b{name};', local)
+        yield '' if is_hidden else f'{name}: it is to be an export of the crate that gwb.h doesn\'t show, and local in gwb.map'
     for name, export in exports.items():
-        declared = functions.get(name)
+        declared = declared_by_calls(name) if name in HIDDEN else functions.get(name)
         answers = {export.result, 'enum gwb_kind'} if export.result == 'uint32_t' else {export.result}
         is_so = declared is not None and declared.result in answers and agree(declared.arguments, export.arguments)
-        yield '' if is_so else f'{name}: gwb.h declares {declared}, and the crate has {export}'
+        yield '' if is_so else f'{name}: {"calls.c" if name in HIDDEN else "gwb.h"} declares {declared}, and the crate has {export}'
 
 
 def layouts(structs: Dict[str, List[Argument]], of_crate: Dict[str, List[Argument]]) -> Iterator[str]:
@@ -174,7 +186,8 @@ def renamed_exports() -> Set[str]:
 def stubs(functions: Dict[str, Function], exports: Dict[str, Function], called: Dict[str, str]) -> str:
     """The text of stubs.h."""
     renamed = renamed_exports()
-    kernel = (stub(name, functions[name], renamed) for name in exports if name in functions and name != 'gwb_version')
+    shown = {**functions, **{name: exports[name] for name in HIDDEN}}
+    kernel = (stub(name, shown[name], renamed) for name in exports if name in shown and name != 'gwb_version')
     tries = (call_of(name, functions[name], export, exports[export].takes_memory) for name, export in called.items())
     all_tries = ''.join(f'    try_{name}(state, answers);\n' for name in called)
     return ''.join([*kernel, *tries]) + f'\nstatic void try_all(enum state state, uint64_t answers)\n{{\n{all_tries}}}\n'
@@ -196,7 +209,7 @@ def complaints(text: str, folder: Path) -> List[str]:
 
 def tried(functions: Dict[str, Function], exports: Dict[str, Function], folder: Path) -> Iterator[str]:
     """Of each call what is wrong, or nothing."""
-    others = BESIDE | {'gwb_version', 'gwb_open', 'gwb_close'}
+    others = BESIDE | HIDDEN | {'gwb_version', 'gwb_open', 'gwb_close'}
     calls = {name: name if name in exports else export_of(name) for name in functions if name not in others and not name.startswith('gwb_lent_')}
     stray = [f'{name}: there is no export {export}' for name, export in calls.items() if export not in exports]
     left = [f'no call hands on to {name}' for name in set(exports) - set(calls.values()) - others]

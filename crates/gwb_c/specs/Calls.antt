@@ -1,6 +1,6 @@
 -- What a typed call does to the session or draft behind a handle.
 use Rattle.std.specs.Prelude.{◌≡◌, ℕ, List, Option, Some, None}
-use Rattle.session_slots.specs.Common.{Op, Change, Question, Command, Call, Answer, lacks, Slot_does, Slot_asks, Slot_makes_part}
+use Rattle.session_slots.specs.Common.{Op, Change, Question, Command, Call, Answer, lacks, Slot_does, Slot_asks, Slot_lacks, Slot_makes_part}
 use Rattle.session_slots.specs.declared.slot.Slot.{Slot}
 use Rattle.gwb_c.specs.Handle.{Calls, none, Recalls}
 
@@ -23,6 +23,10 @@ Asks old q new kind = Calls none (λ x y. Slot_asks x q y) old new kind
 -- a call that makes a new solid of some faces of a solid
 abbrev pub Parts : Option Slot → List ℕ → ℕ → Option Slot → ℕ → Type 0
 Parts old fs t new kind = Calls none (λ x y. Slot_makes_part x fs t y) old new kind
+
+-- no call is made, and the answer is that memory was refused
+abbrev pub Lacks : Option Slot → Option Slot → ℕ → Type 0
+Lacks old new kind = Calls none (λ x y. Slot_lacks x y) old new kind
 
 -- C is told only a kind, and nothing has changed; of a closed handle it is told that it is closed
 abbrev pub Leaves : Option Slot → ℕ → Option Slot → ℕ → Type 0

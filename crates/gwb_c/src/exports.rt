@@ -1,11 +1,14 @@
 //! Calls of C: sessions, and lines as text.
 ghost use Rattle.std.specs.Prelude.{◌≡◌, true, Some, None};
 ghost use Rattle.session_slots.specs.Common.{undos, redos, is_staged, Opened, slot_in};
+ghost use Rattle.gwb_c.specs.Calls.{Lacks};
 ghost use Rattle.gwb_c.specs.Handle.{Hears, Numbers, Says, Replies, Lists_model};
 
 use crate::told::{CLOSED, told_of, told_of_line};
 use script_running::Answer;
-use session_slots::{Gwb, GwbLent, Slot, begin, copy_front, hear, put, staged, take, text_of};
+use session_slots::{
+    Gwb, GwbLent, Slot, begin, copy_front, hear, lack, put, staged, status, take, text_of,
+};
 use std::alloc::Global;
 
 /// Opens a session that holds the empty model. False if memory is refused, or if there is a session; then nothing has changed.
@@ -38,6 +41,22 @@ pub extern "C" fn gwb_line(alloc: Global, gwb: &mut Gwb, line: &[u8]) -> u32
     let mut slot = slot;
     let heard = hear(alloc, slot.slot_mut(), line);
     let kind = told_of_line(slot.slot(), heard);
+    put(gwb, slot);
+    kind
+}
+
+/// Makes no call, and keeps as the last answer that memory was refused for what is kept beside the session or draft, which stays as it is. It takes no
+/// memory. `calls.c` alone gives it: `gwb.h` doesn't show it.
+#[unsafe(no_mangle)]
+pub extern "C" fn gwb_lack(alloc: Global, gwb: &mut Gwb) -> u32
+    ensures { Lacks gwb.old.kept.value gwb.new.kept.value result }
+{
+    let Some(slot) = take(alloc, gwb) else {
+        return CLOSED;
+    };
+    let mut slot = slot;
+    lack(slot.slot_mut());
+    let kind = status(&slot.slot().console.answer);
     put(gwb, slot);
     kind
 }

@@ -1,6 +1,7 @@
 -- What a call does to a slot: a session, or a draft of its next command, with the answer to the last command.
 use Rattle.std.specs.Prelude.{◌≡◌, ℕ, List, Some}
 use Rattle.session_slots.specs.Common.Below.{Answer, taken_in, taken_of, Counters, Question, Command, Call, Hears, Makes, Measures, Stage, shown, Slot}
+use Rattle.solid_listing.specs.declared.reply.Reply.{Reply}
 
 -- the greatest numbers in use in the model shown
 abbrev pub Counts_in : Slot → Counters → Type 0
@@ -25,3 +26,7 @@ Slot_measures x q a = Measures x.console q a
 -- a line is heard, and the greatest numbers in use before it are kept
 abbrev pub Slot_notes : Slot → List ℕ → Slot → Type 0
 Slot_notes old line new = Hears old.console line new.console × Counts_in old new.before
+
+-- it is answered that memory was refused: the session or draft stays, and the greatest numbers in use are kept
+abbrev pub Slot_lacks : Slot → Slot → Type 0
+Slot_lacks old new = (new.console.stage ≡ old.console.stage) × (new.console.answer ≡ Answer.Reply Reply.Memory) × Counts_in old new.before

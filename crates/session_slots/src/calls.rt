@@ -1,10 +1,11 @@
 //! Calls given as values: what each does to a slot.
-ghost use Rattle.session_slots.specs.Common.{act_of, lacks_said, spoken, Slot_does, Slot_asks, Slot_measures, Slot_notes, UnlessLacking};
+ghost use Rattle.session_slots.specs.Common.{act_of, lacks_said, spoken, Slot_does, Slot_asks, Slot_lacks, Slot_measures, Slot_notes, UnlessLacking};
 
 use crate::slot::{Slot, counted_in};
 use commands::{Call, Question};
 use euler_operators::Op;
 use script_running::Answer;
+use solid_listing::Reply;
 use std::alloc::Global;
 
 /// Makes a call, and keeps its answer and the greatest numbers in use before it.
@@ -52,4 +53,13 @@ pub fn hear(alloc: Global, slot: &mut Slot, line: &[u8]) -> bool
     }
     slot.before = before;
     true
+}
+
+/// Answers that memory was refused for what is kept beside the session or draft, which stays as it is. The numbers in use are kept as those from
+/// before this answer.
+pub fn lack(slot: &mut Slot)
+    ensures { Slot_lacks slot.old slot.new }
+{
+    slot.before = counted_in(slot);
+    slot.console.answer = Answer::Reply(Reply::Memory);
 }

@@ -35,7 +35,7 @@ pub use answers::{
     status, volume_of,
 };
 pub use arguments::{corner, kev, plus, polygon, ringmv};
-pub use calls::{act, ask, hear, make, measure};
+pub use calls::{act, ask, hear, lack, make, measure};
 pub use commands::{Call, Change, Command, OpenDraft, Points, Question, Stage};
 pub use cycles::{HalfEdgeRow, half_edge_rows, half_edges};
 pub use handle::{Gwb, begin, put, take};
