@@ -171,6 +171,8 @@ built 'the watch is built' library_watch.c "${CC:-cc}" -std=gnu11 -O2
 counted 'sessions watched and not' "$dir/built/library_watch"
 counted 'sessions watched and not, with each block alone' "$dir/alone/library_watch"
 counted 'the table of features, by Python' python3 tests/library_features.py "$dir/built/libgwb.so"
+built 'outlines and sizes are built' library_outlines.c "${CC:-cc}" -std=gnu11 -O2
+counted 'outlines and sizes of features' "$dir/built/library_outlines"
 built 'threads are built' library_threads.c "${CC:-cc}" -std=gnu11 -O2 -pthread
 counted 'threads that read at once' "$dir/built/library_threads"
 built 'threads in C++ are built' library_sharing.cpp "${CXX:-c++}" -std=c++17 -pthread -Wold-style-cast -Wshadow
@@ -210,7 +212,7 @@ if has cargo 'cargo check where there is no archive' 'cargo doc where there is n
         --manifest-path bindings/rust/Cargo.toml
 fi
 # (each is a program that was built above)
-in_cpp='library_cpp library_results library_history library_features library_machining library_record library_watch library_heap library_load library_triangles'
+in_cpp='library_cpp library_results library_history library_features library_machining library_record library_watch library_outlines library_heap library_load library_triangles'
 threads='library_threads library_sharing library_pages'
 if has valgrind 'valgrind over the example in C' $in_cpp $threads; then
     tried 'valgrind over the example in C' valgrind -q --error-exitcode=9 --leak-check=full --show-leak-kinds=all "$dir/alone/block_c"
@@ -236,7 +238,7 @@ echo 'int main(void) { return 0; }' > "$dir/empty.c"
 if "${CC:-cc}" $sanitizers -o "$dir/empty" "$dir/empty.c" 2> "$dir/err" && "$dir/empty"; then
     began=$(date +%s)
     tried 'the library is built with sanitizers' make -C bindings "ARCHIVE=$archive" "OUT=$dir/sanitized" "CFLAGS=$sanitizers" "CXXFLAGS=$sanitizers" "$dir/sanitized/libgwb.a"
-    for name in library_features_refused library_record library_watch library_heap library_load library_triangles library_threads library_pages library_worked; do
+    for name in library_features_refused library_record library_watch library_outlines library_heap library_load library_triangles library_threads library_pages library_worked; do
         sanitized "$name.c" "${CC:-cc}" -std=gnu11
     done
     for name in library_cpp library_history library_features library_machining library_sharing; do

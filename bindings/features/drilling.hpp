@@ -23,7 +23,7 @@ inline Hole drill(Bench &bench, Face face, Point center, std::int64_t radius, st
         at[(axis + 2) % 3] += second;
         points.push_back(point(at));
     }
-    Pocket made = depth == 0 ? make_hole(bench, face, points) : make_raised(bench, face, points, depth, false);
+    Pocket made = depth == 0 ? make_hole(bench, face, points) : make_raised(bench, face, points, sizes_of(depth)[0], false);
     return Hole{made.face, made.loop, std::move(made.sides), std::move(points)};
 }
 

@@ -55,6 +55,29 @@ inline int compare_products(Wide a, Wide b, Wide c, Wide d)
     return one * ((large > beside) - (large < beside));
 }
 
+/// A whole number of 640 bits, its lowest word first.
+using Words = std::array<std::uint64_t, 10>;
+
+/// The product of the magnitudes of five numbers.
+inline Words product_of(const std::array<Wide, 5> &factors)
+{
+    Words found{1};
+    for (Wide factor : factors) {
+        const auto whole = static_cast<Unsigned>(magnitude(factor));
+        const std::array parts = {static_cast<std::uint64_t>(whole), static_cast<std::uint64_t>(whole >> 64)};
+        const Words before = std::exchange(found, Words{});
+        for (std::size_t part = 0; part < parts.size(); part++) {
+            Unsigned carried = 0;
+            for (std::size_t at = part; at < found.size(); at++) {
+                carried += Unsigned{before[at - part]} * parts[part] + found[at];
+                found[at] = static_cast<std::uint64_t>(carried);
+                carried >>= 64;
+            }
+        }
+    }
+    return found;
+}
+
 /// A closed path from its least member on.
 template <class Path> Path from_least(Path path)
 {

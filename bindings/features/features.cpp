@@ -146,7 +146,9 @@ gwb_kind row_of(bool is_call, gwb *g, std::uint32_t solid, std::uint32_t count, 
 /// Whether each number stands once.
 bool are_different(const std::uint32_t *numbers, std::size_t n)
 {
-    return std::all_of(numbers, numbers + n, [&](const std::uint32_t &number) { return std::find(numbers, &number, number) == &number; });
+    std::vector<std::uint32_t> rising(numbers, numbers + n);
+    std::sort(rising.begin(), rising.end());
+    return std::adjacent_find(rising.begin(), rising.end()) == rising.end();
 }
 
 // ---- what is found
@@ -256,9 +258,9 @@ gwb_kind gwb_pattern_around(gwb *g, uint32_t solid, uint32_t count, uint32_t axi
 gwb_kind gwb_scale(gwb *g, int64_t factor, gwb_refusal *why)
 {
     return made(g, why, [&](Bench &bench, Lists &) {
-        machining::require_sizes({factor});
+        const auto [by] = machining::sizes_of(factor);
         for (const sheets::Model &model : models::all_read(bench))
-            sheets::make_anew(bench, models::moved(model, Motion(), {}, factor));
+            sheets::make_anew(bench, models::moved(model, Motion(), {}, by.length()));
     });
 }
 
@@ -325,12 +327,12 @@ gwb_kind gwb_ring(gwb *g, uint32_t face, const gwb_point *points, size_t n, gwb_
 
 gwb_kind gwb_pocket(gwb *g, uint32_t face, const gwb_point *points, size_t n, int64_t depth, gwb_outline_made *out, uint32_t *sides, gwb_refusal *why)
 {
-    return made(g, why, [&](Bench &bench, Lists &) { put(machining::make_raised(bench, Face(face), {points, n}, depth, false), out, sides); });
+    return made(g, why, [&](Bench &bench, Lists &) { put(machining::make_raised(bench, Face(face), {points, n}, machining::sizes_of(depth)[0], false), out, sides); });
 }
 
 gwb_kind gwb_boss(gwb *g, uint32_t face, const gwb_point *points, size_t n, int64_t height, gwb_outline_made *out, uint32_t *sides, gwb_refusal *why)
 {
-    return made(g, why, [&](Bench &bench, Lists &) { put(machining::make_raised(bench, Face(face), {points, n}, height, true), out, sides); });
+    return made(g, why, [&](Bench &bench, Lists &) { put(machining::make_raised(bench, Face(face), {points, n}, machining::sizes_of(height)[0], true), out, sides); });
 }
 
 gwb_kind gwb_hole(gwb *g, uint32_t face, const gwb_point *points, size_t n, gwb_outline_made *out, uint32_t *sides, gwb_refusal *why)
@@ -371,18 +373,21 @@ gwb_kind gwb_groove(gwb *g, uint32_t face, const gwb_point *start, const gwb_poi
 
 gwb_kind gwb_shoulder(gwb *g, uint32_t face, uint32_t edge, int64_t width, int64_t depth, gwb_refusal *why)
 {
-    return listed(g, GWB_MADE_FLOOR, why, [&](Bench &bench) { return shaping::cut_shoulder(bench, Face(face), Edge(edge), width, depth); });
+    return listed(g, GWB_MADE_FLOOR, why, [&](Bench &bench) { 
+        const auto [strip, down] = machining::sizes_of(width, depth);
+        return shaping::cut_shoulder(bench, Face(face), Edge(edge), strip, down);
+    });
 }
 
 gwb_kind gwb_chamfer(gwb *g, uint32_t edge, int64_t width, int64_t other, uint32_t *face, gwb_refusal *why)
 {
-    return made(g, why, [&](Bench &bench, Lists &) { put(shaping::make_chamfers(bench, {Edge(edge)}, width, other), face); });
+    return made(g, why, [&](Bench &bench, Lists &) { put(shaping::make_chamfers(bench, {Edge(edge)}, machining::sizes_of(width, other)), face); });
 }
 
 gwb_kind gwb_chamfer_edges(gwb *g, const uint32_t *edges, size_t n, int64_t width, uint32_t *faces, gwb_refusal *why)
 {
     return made_if(n != 0 && are_different(edges, n), g, why, [&](Bench &bench, Lists &) {
-        put(shaping::make_chamfers(bench, std::vector<Edge>(edges, edges + n), width, width), faces);
+        put(shaping::make_chamfers(bench, std::vector<Edge>(edges, edges + n), machining::sizes_of(width, width)), faces);
     });
 }
 

@@ -3,17 +3,33 @@
 /// Outlines may run either way round; what belongs to their points comes in the order of the points: the first of `sides` lies between the
 /// first two. A feature compares what lies near. What was read of a solid for one feature is known to the next ones, until another command comes.
 #pragma once
-#include "shapes.hpp"
+#include "simple_outlines.hpp"
 
 namespace gwb_session::machining {
 
 // ---- outlines
 
-/// Refuses sizes of the caller below 1, with the place of the first such.
-inline void require_sizes(std::initializer_list<std::int64_t> sizes)
+/// A size of the caller: from 1 on. What is longer than anything in range is taken as `greatest`, which is that too.
+class Size {
+public:
+    static constexpr std::int64_t greatest = 4 * farthest;
+
+    [[nodiscard]] std::int64_t length() const { return length_; }
+
+private:
+    explicit Size(std::int64_t given) : length_(std::min(given, greatest)) {}
+    template <class... Given> friend std::array<Size, sizeof...(Given)> sizes_of(Given... given);
+
+    std::int64_t length_;
+};
+
+/// Sizes of the caller. Refused where one is below 1, with the place of the first such: SizeRange.
+template <class... Given> std::array<Size, sizeof...(Given)> sizes_of(Given... given)
 {
-    const auto small = std::find_if(sizes.begin(), sizes.end(), [](std::int64_t size) { return size < 1; });
-    require(small == sizes.end(), refused(GWB_WHY_SIZE_RANGE, place(static_cast<std::size_t>(small - sizes.begin()))));
+    const std::array<std::int64_t, sizeof...(Given)> all = {given...};
+    const auto small = std::find_if(all.begin(), all.end(), [](std::int64_t size) { return size < 1; });
+    require(small == all.end(), refused(GWB_WHY_SIZE_RANGE, place(static_cast<std::size_t>(small - all.begin()))));
+    return {Size(given)...};
 }
 
 /// Points of the caller; refused where one lies out of range.
@@ -22,24 +38,6 @@ inline Path path_of(Items<Point> points)
     Path path = mapped(points, vector);
     require(all(path, is_in_range), refused(GWB_WHY_POINT_RANGE, 0));
     return path;
-}
-
-/// Refuses an outline that crosses or touches itself: two sides meet otherwise than neighbours do, at their common end.
-inline void require_simple(const Cycle &sides, Axes axes)
-{
-    const auto folds = [&](const Side &side, const Side &next) { return next.holds({side.start}, axes) || side.holds({next.end}, axes); };
-    const auto clash = [&](const Side &side, const Side &other) {
-        if (side.end == other.start)
-            return folds(side, other);
-        return other.end == side.start ? folds(other, side) : side.meets(other, axes);
-    };
-    const std::vector<Box> boxes = mapped(sides, [](const Side &side) { return box_of(side); });
-    for (std::size_t at = 0; at < sides.size(); at++) {
-        go_on();
-        for (std::size_t beyond = at + 1; beyond < sides.size(); beyond++)
-            if (boxes[at].meets(boxes[beyond]) && clash(sides[at], sides[beyond]))
-                throw impossible(Misfit::outline_crossed, place(at));
-    }
 }
 
 /// Refuses points off a plane.
@@ -250,14 +248,19 @@ inline void require_room(const Bench &bench, const Surface &surface, const Vecto
     });
     if (other == Face())
         walls.push_back(lids[1]);
+    BoxIndex boxes;
+    for (std::size_t at = 0; at < walls.size(); at++)
+        boxes.put(walls[at].box, at);
     const auto meets = [&](const Side &edge) { // has a point on a wall, or within
-        const auto touches = [&](const Shape &wall) { return wall.meets(edge); };
+        go_on();
+        const auto touches = [&](std::size_t at) { return walls[at].meets(edge); };
         const auto passes = [&](const Shape &lid) { return sign(lid.height({edge.start})) * sign(lid.height({edge.end})) < 0 && lid.meets(edge); };
         const auto lies_beside = [&](const Shape &lid, const Vector &ray) { return lid.hit({edge.start}, ray) != Place::outside; };
-        return any(walls, touches) || any(lids, passes) || (lies_beside(lids[0], negative(way)) && lies_beside(lids[1], way));
+        return any(boxes.meeting(box_of(edge)), touches) || any(lids, passes) || (lies_beside(lids[0], negative(way)) && lies_beside(lids[1], way));
     };
     const auto is_met = [&](const Shape &beside) {
-        return any(walls, [&](const Shape &wall) { return any(wall.sides, [&](const Side &side) { return beside.meets(side); }); });
+        go_on();
+        return any(boxes.meeting(beside.box), [&](std::size_t at) { return any(walls[at].sides, [&](const Side &side) { return beside.meets(side); }); });
     };
     require(!any(edges, meets) && !any(faces, is_met), impossible(Misfit::meets, face.number()));
 }
@@ -384,11 +387,10 @@ inline Pocket move_outline(Bench &bench, Face face, const Drawing &drawn, const 
 }
 
 /// The same by a length: up for a boss, down for a pocket. Where points would lie out of range a boss is refused, and a pocket would meet the far side.
-inline Pocket make_raised(Bench &bench, Face face, Items<Point> points, std::int64_t length, bool is_boss)
+inline Pocket make_raised(Bench &bench, Face face, Items<Point> points, Size length, bool is_boss)
 {
-    require_sizes({length});
     const Drawing drawn(bench, face, points);
-    const Vector way = steps_along(face, drawn.across, is_boss ? length : -length);
+    const Vector way = steps_along(face, drawn.across, is_boss ? length.length() : -length.length());
     require(all(moved(drawn.path, way), is_in_range), is_boss ? refused(GWB_WHY_POINT_RANGE, 0) : impossible(Misfit::meets, face.number()));
     return move_outline(bench, face, drawn, way);
 }

@@ -2,6 +2,7 @@
 #include <cstddef>
 #include <cstdlib>
 #include <new>
+#include <utility>
 
 extern "C" {
 struct tried {
@@ -46,20 +47,22 @@ void __verbose_terminate_handler() { std::abort(); }
 } // namespace __gnu_cxx
 extern "C" [[noreturn]] void __cxa_pure_virtual() { std::abort(); }
 
-// What is thrown is small, one at a time, so it needs no memory, and the pool that the C++ library keeps for it isn't brought along.
+// What is thrown is small, one at a time, so it needs no memory, and the pool that the C++ library keeps for it isn't brought along. A second one while
+// one is thrown would be written over it: then the program ends.
 extern "C" {
 static thread_local union {
     long double aligned;
     char bytes[512];
 } thrown;
+static thread_local bool is_thrown;
 void *__cxa_allocate_exception(std::size_t size) noexcept
 {
     constexpr std::size_t header = 256; // what the C++ library puts before it, and more
-    if (size > sizeof thrown - header)
+    if (size > sizeof thrown - header || std::exchange(is_thrown, true))
         std::abort();
     for (char &byte : thrown.bytes)
         byte = 0;
     return thrown.bytes + header;
 }
-void __cxa_free_exception(void *) noexcept {}
+void __cxa_free_exception(void *) noexcept { is_thrown = false; }
 }

@@ -197,23 +197,19 @@ inline bool is_drawn(const std::vector<Cycle> &loops, const Plane &plane)
     return counts[0] != 0 && !is_touched && (are_all_cut || std::accumulate(counts.begin(), counts.end(), 0) == 2);
 }
 
-/// The square of how far a cut moves: as a fraction where that fits, and as what is nearest.
+/// The square of how far a cut moves: a part of an edge whose square length is this.
 struct SquareMoved {
-    Fraction exact;
-    double value;
-    bool fits;
+    Fraction way;
+    Wide square;
 
-    /// So far along an edge whose square length is this.
-    SquareMoved(const Fraction &way, Wide square) : value(way.value() * way.value() * static_cast<double>(square))
-    {
-        Wide length = 0;
-        fits = !__builtin_mul_overflow(way.numerator, way.numerator, &length) && !__builtin_mul_overflow(length, square, &exact.numerator) &&
-               !__builtin_mul_overflow(way.denominator, way.denominator, &exact.denominator);
-    }
+    [[nodiscard]] double value() const { return way.value() * way.value() * static_cast<double>(square); }
     friend bool operator<(const SquareMoved &a, const SquareMoved &b)
     {
-        const bool fit = a.fits && b.fits;
-        return fit ? compare_products(a.exact.numerator, b.exact.denominator, b.exact.numerator, a.exact.denominator) < 0 : a.value < b.value;
+        const auto across = [](const SquareMoved &one, const SquareMoved &other) {
+            return product_of({one.way.numerator, one.way.numerator, one.square, other.way.denominator, other.way.denominator});
+        };
+        const Words first = across(a, b), second = across(b, a);
+        return std::lexicographical_compare(first.rbegin(), first.rend(), second.rbegin(), second.rend());
     }
 };
 
@@ -363,13 +359,13 @@ private:
     /// The square of how far the plane moves the cut along an edge at most; none where it is parallel to one.
     [[nodiscard]] std::optional<SquareMoved> square_moved(const Plane &plane) const
     {
-        SquareMoved most(Fraction(), 0);
+        SquareMoved most{Fraction(), 0};
         for (const Side &side : cuts_) {
             if (plane.height(side.start) == plane.height(side.end))
                 return std::nullopt;
             const Fraction old = met(side, plane_), now = met(side, plane);
             const Fraction way = Fraction::of(now.numerator * old.denominator - old.numerator * now.denominator, old.denominator * now.denominator);
-            most = std::max(most, SquareMoved(way, dot(side.way(), side.way())));
+            most = std::max(most, SquareMoved{way, dot(side.way(), side.way())});
         }
         return most;
     }
@@ -378,7 +374,7 @@ private:
     static gwb_near_plane near(const Plane &plane, const SquareMoved &square, bool is_parallel)
     {
         const auto [a, b, c] = point(plane.across);
-        const double moved = std::ceil(std::sqrt(square.value) * 100 - 1e-9) / 100; // (less than what rounding adds is not rounded up)
+        const double moved = std::ceil(std::sqrt(square.value()) * 100 - 1e-9) / 100; // (less than what rounding adds is not rounded up)
         return {{a, b, c, static_cast<std::int64_t>(plane.offset)}, is_parallel, moved};
     }
 

@@ -221,17 +221,20 @@ public:
             throw impossible(Misfit::outline_around_ring, face.number());
     }
 
-    /// A point within: the middle of a triangle of corners.
+    /// A point within, half way between two corners that are next to each other along an axis.
     [[nodiscard]] std::optional<ScaledPoint> inner_point() const
     {
-        const std::size_t count = sides.size();
-        for (std::size_t step = 1; step < count; step++)
-            for (std::size_t first = 0; first < count; first++)
-                for (std::size_t second = first + 1; second < count; second++) {
-                    const ScaledPoint middle{add(add(sides[first].start, sides[second].start), sides[(second + step) % count].start), 3};
-                    if (locate(middle) == Place::inside)
-                        return middle;
-                }
+        const std::size_t axis = axes_[1];
+        std::set<Wide> levels;
+        for (const Side &side : sides)
+            levels.insert(side.start[axis]);
+        for (auto level = levels.begin(), next = level; next != levels.end() && ++next != levels.end(); level = next) {
+            go_on();
+            Plane middle{{}, -*level - *next};
+            middle.across[axis] = 2;
+            if (const std::optional<Span> span = first_within(stops_on(middle)))
+                return span->first.between(span->second);
+        }
         return std::nullopt;
     }
 
@@ -258,28 +261,41 @@ public:
         return locate({add(times(start.at, magnitude(slope)), times(ray, magnitude(below))), start.scale * magnitude(slope)});
     }
 
-    /// The parts of a line within, along which a plane runs on both of whose sides it lies.
     using Span = std::pair<ScaledPoint, ScaledPoint>;
+    /// The parts of a line within, along which a plane runs on both of whose sides it lies.
     [[nodiscard]] std::vector<Span> cut_by(const Plane &other) const
     {
-        std::vector<ScaledPoint> stops;
-        bool is_below = false, is_above = false;
-        for (const Side &side : sides) {
-            const Wide before = other.height(side.start), after = other.height(side.end);
-            is_below = is_below || before < 0;
-            is_above = is_above || before > 0;
-            if (before == 0 || sign(before) * sign(after) < 0)
-                stops.push_back(divided(side, before, after));
-        }
-        std::sort(stops.begin(), stops.end());
+        const auto lies = [&](int where) { return any(sides, [&](const Side &side) { return sign(other.height(side.start)) == where; }); };
+        if (!lies(-1) || !lies(1))
+            return {};
+        const std::vector<ScaledPoint> stops = stops_on(other);
         std::vector<Span> found;
-        for (std::size_t at = 1; is_below && is_above && at < stops.size(); at++)
-            if (stops[at - 1] < stops[at] && locate(stops[at - 1].between(stops[at])) == Place::inside)
+        for (std::size_t at = 1; at < stops.size(); at++)
+            if (is_within(stops[at - 1], stops[at]))
                 found.emplace_back(stops[at - 1], stops[at]);
         return found;
     }
 
 private:
+    /// The points of sides in a plane, or where they cross it, in their order along the line.
+    [[nodiscard]] std::vector<ScaledPoint> stops_on(const Plane &other) const
+    {
+        std::vector<ScaledPoint> stops;
+        for (const Side &side : sides) {
+            const Wide before = other.height(side.start), after = other.height(side.end);
+            if (before == 0 || sign(before) * sign(after) < 0)
+                stops.push_back(divided(side, before, after));
+        }
+        std::sort(stops.begin(), stops.end());
+        return stops;
+    }
+    [[nodiscard]] bool is_within(const ScaledPoint &one, const ScaledPoint &next) const { return one < next && locate(one.between(next)) == Place::inside; }
+    /// The first part between stops that lies within.
+    [[nodiscard]] std::optional<Span> first_within(const std::vector<ScaledPoint> &stops) const
+    {
+        const auto found = std::adjacent_find(stops.begin(), stops.end(), [&](const auto &one, const auto &next) { return is_within(one, next); });
+        return found != stops.end() ? std::optional(Span(*found, *std::next(found))) : std::nullopt;
+    }
     /// Whether parts of a line have some of it in common with others.
     template <class Others> static bool overlap(const std::vector<Span> &parts, Others others)
     {

@@ -53,32 +53,32 @@ inline Tool wedge(const Corner &start, const Corner &end)
     return made;
 }
 
-inline Tool notch_tool(Face face, const Plane &plane, const Path &points, std::int64_t depth)
+inline Tool notch_tool(Face face, const Plane &plane, const Path &points, Size depth)
 {
     require_in(plane, points);
     (void)simple_normal(points);
-    return prism(points, steps_along(face, plane.across, -depth));
+    return prism(points, steps_along(face, plane.across, -depth.length()));
 }
 
 /// The way from a line in a face to the right side of a strip around it.
-inline Vector side_of_strip(Face face, const Plane &plane, const Path &ends, std::int64_t width)
+inline Vector side_of_strip(Face face, const Plane &plane, const Path &ends, Size width)
 {
     const Vector line = subtract(ends[1], ends[0]);
     require(!is_zero(line), refused(GWB_WHY_REPEATED_POINT, 2));
     require(dot(line, plane.across) == 0, impossible(Misfit::not_in_plane, 2));
-    require(width % 2 == 0, impossible(Misfit::off_lattice, face.number()));
-    return steps_along(face, reduced(cross(plane.across, line)), width / 2);
+    require(width.length() % 2 == 0, impossible(Misfit::off_lattice, face.number()));
+    return steps_along(face, reduced(cross(plane.across, line)), width.length() / 2);
 }
 
-inline Tool slot_tool(Face face, const Plane &plane, const Path &ends, std::int64_t width, std::int64_t depth)
+inline Tool slot_tool(Face face, const Plane &plane, const Path &ends, Size width, Size depth)
 {
     const Vector side = side_of_strip(face, plane, ends, width);
     return notch_tool(face, plane, {subtract(ends[0], side), subtract(ends[1], side), add(ends[1], side), add(ends[0], side)}, depth);
 }
 
-inline Tool groove_tool(Face face, const Plane &plane, const Path &ends, std::int64_t width, std::int64_t depth)
+inline Tool groove_tool(Face face, const Plane &plane, const Path &ends, Size width, Size depth)
 {
-    const Vector side = side_of_strip(face, plane, ends, width), way = steps_along(face, plane.across, -depth);
+    const Vector side = side_of_strip(face, plane, ends, width), way = steps_along(face, plane.across, -depth.length());
     const auto corner = [&](const Vector &at) { return Corner{add(at, way), subtract(at, side), add(at, side)}; };
     Tool made = wedge(corner(ends[0]), corner(ends[1])); // whose slope lies in the face
     made[walls].insert(made[walls].begin(), made[lids].front());
@@ -88,11 +88,11 @@ inline Tool groove_tool(Face face, const Plane &plane, const Path &ends, std::in
 
 /// The points where the line at a distance from a half-edge, in its face, meets the sides before and after it, square where these run the other way;
 /// of those that have such a line too the line.
-inline std::array<Vector, 2> setbacks(const Bench &bench, HalfEdge half, std::int64_t width, const std::set<Edge> &lined = {})
+inline std::array<Vector, 2> setbacks(const Bench &bench, HalfEdge half, Size width, const std::set<Edge> &lined = {})
 {
     const Face face = bench.face_of(half);
     const Vector normal = plane_of(bench, face).across;
-    const auto inwards = [&](HalfEdge from) { return steps_along(face, reduced(cross(normal, side_at(bench, from).way())), width); };
+    const auto inwards = [&](HalfEdge from) { return steps_along(face, reduced(cross(normal, side_at(bench, from).way())), width.length()); };
     const Vector step = inwards(half);
     const auto met = [&](HalfEdge side, HalfEdge corner, HalfEdge far) {
         const bool has_line = lined.count(side.edge()) != 0;
@@ -131,6 +131,7 @@ inline void join_slopes(const Bench &bench, Vertex vertex, const std::vector<Cor
     const Failure apart = impossible(Misfit::no_corner, vertex.number());
     std::set<Vector> points;
     for (Corner *end : ends) {
+        require(is_in_range(end->first) && is_in_range(end->second), refused(GWB_WHY_POINT_RANGE, 0)); // (so that slopes' normals fit)
         end->is_shared = true;
         points.insert({end->first, end->second});
     }
@@ -145,7 +146,7 @@ inline void join_slopes(const Bench &bench, Vertex vertex, const std::vector<Cor
 
 /// The wedges along edges, so far into the faces of their first half-edges, where their lids lie, and into the others; if there are several both
 /// are as far. The floors are the slopes.
-inline Tool chamfer_tool(const Bench &bench, const std::vector<Edge> &edges, std::int64_t first, std::int64_t second)
+inline Tool chamfer_tool(const Bench &bench, const std::vector<Edge> &edges, Size first, Size second)
 {
     const std::set<Edge> lined(edges.begin(), edges.end());
     std::vector<std::array<Corner, 2>> corners(edges.size());
@@ -217,21 +218,20 @@ inline std::array<std::vector<Face>, 2> cut_out(Bench &bench, Face face, const T
 /// A feature in a face by a tool that is made of the face's plane, points and sizes.
 template <class MakeTool, class... Sizes> auto cut_in_face(Bench &bench, Face face, Items<Point> points, MakeTool make, Sizes... sizes)
 {
-    require_sizes({sizes...});
+    const auto lengths = sizes_of(sizes...);
     const Plane plane = plane_of(bench, face);
-    return cut_out(bench, face, make(face, plane, path_of(points), sizes...));
+    return std::apply([&](auto... length) { return cut_out(bench, face, make(face, plane, path_of(points), length...)); }, lengths);
 }
 
-inline auto cut_shoulder(Bench &bench, Face face, Edge edge, std::int64_t width, std::int64_t depth)
+inline auto cut_shoulder(Bench &bench, Face face, Edge edge, Size width, Size depth)
 {
-    require_sizes({width, depth});
     const Plane plane = plane_of(bench, face);
     require(has(bench.attempt().edge(edge)), refused(GWB_WHY_NO_EDGE, edge.number()));
     const HalfEdge half = bench.face_of(plus(edge)) == face ? plus(edge) : minus(edge);
     require(bench.face_of(half) == face, impossible(Misfit::not_of_face, edge.number()));
     const auto ends = setbacks(bench, half, width);
     const Path strip = {start_of(bench, half), start_of(bench, half.twin()), ends[1], ends[0]};
-    return cut_out(bench, face, prism(strip, steps_along(face, plane.across, -depth)));
+    return cut_out(bench, face, prism(strip, steps_along(face, plane.across, -depth.length())));
 }
 
 /// Whether edges of one solid all bend outwards, where it has less than half of the room around them, or none does. Not possible: FlatEdge: the faces
@@ -255,11 +255,10 @@ inline bool all_bend_outwards(const Bench &bench, const std::vector<Edge> &edges
 }
 
 /// Edges become slopes: their faces.
-inline std::vector<Face> make_chamfers(Bench &bench, const std::vector<Edge> &edges, std::int64_t width, std::int64_t other)
+inline std::vector<Face> make_chamfers(Bench &bench, const std::vector<Edge> &edges, const std::array<Size, 2> &widths)
 {
-    require_sizes({width, other});
     const bool are_outer = all_bend_outwards(bench, edges);
-    const Tool tool = chamfer_tool(bench, edges, width, other);
+    const Tool tool = chamfer_tool(bench, edges, widths[0], widths[1]);
     const Face face = bench.face_of(plus(edges[0]));
     const Combined made = change(bench, face, tool, are_outer);
     std::vector<Face> slopes;

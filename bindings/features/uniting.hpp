@@ -41,19 +41,34 @@ inline std::vector<Match> matches(const Bench &bench, Items<Solid> solids)
 /// Glues solids along the faces that match, so that each is joined once to what hangs on the first: that is all of them then.
 inline void glue_all(Bench &bench, Items<Solid> solids)
 {
-    std::vector<Match> left = matches(bench, solids);
-    std::set<Solid> joined = {*solids.begin()};
-    const auto has_one = [&](const Match &match) { return joined.count(match.first.solid) != joined.count(match.second.solid); };
-    for (auto next = left.begin(); (next = std::find_if(left.begin(), left.end(), has_one)) != left.end(); left.erase(next)) {
-        if (joined.count(next->first.solid) == 0)
-            std::swap(next->first, next->second);
-        bench.glue(next->first.face, next->second.face);
-        joined.insert(next->second.solid);
+    const std::vector<Match> all = matches(bench, solids);
+    std::map<Solid, std::vector<std::size_t>> of; // the places of a solid's matches
+    for (std::size_t at = 0; at < all.size(); at++)
+        for (Solid solid : {all[at].first.solid, all[at].second.solid})
+            of[solid].push_back(at);
+    std::set<Solid> joined;
+    std::set<std::size_t> ready, left; // the matches of which one solid is joined; those that joined none
+    for (std::size_t at = 0; at < all.size(); at++)
+        left.insert(left.end(), at);
+    const auto join = [&](Solid solid) {
+        joined.insert(solid);
+        for (std::size_t at : of[solid])
+            if (!ready.insert(at).second)
+                ready.erase(at);
+    };
+    for (join(*solids.begin()); !ready.empty();) {
+        go_on();
+        auto [one, other] = all[*ready.begin()];
+        if (joined.count(one.solid) == 0)
+            std::swap(one, other);
+        bench.glue(one.face, other.face);
+        left.erase(*ready.begin());
+        join(other.solid);
     }
     for (Solid solid : solids)
         require(joined.count(solid) != 0, impossible(Misfit::no_match, solid.number()));
     if (!left.empty())
-        throw impossible(Misfit::glued_twice, left.front().first.face.number());
+        throw impossible(Misfit::glued_twice, all[*left.begin()].first.face.number());
 }
 
 // ---- solids united

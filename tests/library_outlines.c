@@ -1,0 +1,210 @@
+/* Outlines and sizes of features: random outlines are refused where two of their sides meet, by the first such side, as a comparison of all pairs says;
+ * one of many points takes no more than its length, however long its sides are; and sizes past all that is in range are refused as one of 4,000,000,000
+ * is. The last line counts.
+ *
+ *     library_outlines [ROUNDS]     so many hundreds of random outlines: 30 where none is said */
+#include "gwb_features.h"
+#include "gwb_names.h"
+#include <stdio.h>
+#include <stdlib.h>
+#include <time.h>
+
+enum { MOST = 20000 };
+
+static uint64_t seed = 11;
+static int64_t below(int64_t n)
+{
+    seed = seed * UINT64_C(6364136223846793005) + UINT64_C(1442695040888963407);
+    return (int64_t)(seed >> 33) % n;
+}
+
+static long passed, failed;
+static void check(bool is_so, const char *what)
+{
+    passed += is_so;
+    failed += !is_so;
+    if (!is_so)
+        printf("%s\n", what);
+}
+
+/* ---- all pairs of sides compared */
+
+static gwb_point points[MOST];
+
+static int turn(const gwb_point *a, const gwb_point *b, const gwb_point *c)
+{
+    const int64_t area = (b->x - a->x) * (c->y - a->y) - (b->y - a->y) * (c->x - a->x);
+    return (area > 0) - (area < 0);
+}
+
+static bool is_between(int64_t at, int64_t one, int64_t other) { return (at - one) * (at - other) <= 0; }
+
+static bool holds(const gwb_point *a, const gwb_point *b, const gwb_point *c)
+{
+    return turn(a, b, c) == 0 && is_between(c->x, a->x, b->x) && is_between(c->y, a->y, b->y);
+}
+
+/* Whether two sides meet, but for an end that neighbours have in common. */
+static bool meet(size_t one, size_t other, size_t n)
+{
+    const gwb_point *a = &points[one], *b = &points[(one + 1) % n], *c = &points[other], *d = &points[(other + 1) % n];
+    if (b == c)
+        return holds(c, d, a) || holds(a, b, d);
+    if (d == a)
+        return holds(a, b, c) || holds(c, d, b);
+    return holds(a, b, c) || holds(a, b, d) || holds(c, d, a) || holds(c, d, b) || (turn(a, b, c) * turn(a, b, d) < 0 && turn(c, d, a) * turn(c, d, b) < 0);
+}
+
+/* The place of the first side that meets a later one: 0 where none does. */
+static uint32_t first_crossed(size_t n)
+{
+    for (size_t one = 0; one < n; one++)
+        for (size_t other = one + 1; other < n; other++)
+            if (meet(one, other, n))
+                return (uint32_t)one + 1;
+    return 0;
+}
+
+static bool are_different(size_t n)
+{
+    for (size_t one = 0; one < n; one++)
+        for (size_t other = one + 1; other < n; other++)
+            if (points[one].x == points[other].x && points[one].y == points[other].y)
+                return false;
+    return true;
+}
+
+static int64_t area(size_t n)
+{
+    int64_t sum = 0;
+    for (size_t at = 0; at < n; at++)
+        sum += points[at].x * points[(at + 1) % n].y - points[at].y * points[(at + 1) % n].x;
+    return sum;
+}
+
+static enum gwb_kind profile(size_t n, gwb_refusal *why)
+{
+    static uint32_t sides[MOST];
+    gwb g = {0};
+    gwb_profile_made made;
+    if (!gwb_open(&g))
+        abort();
+    const enum gwb_kind kind = gwb_profile(&g, 1, points, n, &(gwb_point){0, 0, 1}, &made, sides, why);
+    gwb_close(&g);
+    return kind;
+}
+
+static void try_random(long rounds)
+{
+    long crossed = 0, made = 0;
+    for (long round = 0; round < rounds; round++) {
+        const size_t n = 3 + (size_t)below(5);
+        const int64_t size = 3 + below(6), far = below(8) == 0 ? 100000000 : 1;
+        for (size_t at = 0; at < n; at++)
+            points[at] = (gwb_point){far * below(size), far * below(size), 0};
+        if (!are_different(n) || area(n) == 0)
+            continue;
+        gwb_refusal why = {0, 0};
+        const uint32_t place = first_crossed(n);
+        const enum gwb_kind kind = profile(n, &why);
+        check(place == 0 ? kind == GWB_OK : kind == GWB_IMPOSSIBLE && why.number == GWB_MISFIT_OUTLINE_CROSSED && why.value == place, "another crossing");
+        *(place == 0 ? &made : &crossed) += 1;
+    }
+    check(rounds < 300 || (crossed > rounds / 5 && made > rounds / 20), "too few of a kind");
+}
+
+/* ---- many points */
+
+/* A saw with slanted teeth that are longer than all of it is wide: the box of each side meets that of each other one. */
+static size_t saw(int64_t teeth)
+{
+    size_t n = 0;
+    points[n++] = (gwb_point){0, -5, 0};
+    points[n++] = (gwb_point){2 * teeth, -5, 0};
+    for (int64_t at = 2 * teeth; at >= 0; at--)
+        points[n++] = at % 2 == 0 ? (gwb_point){at, 0, 0} : (gwb_point){at + 1000000, 1000000, 0};
+    return n;
+}
+
+static double time_of_saw(int64_t teeth)
+{
+    gwb_refusal why;
+    const size_t n = saw(teeth);
+    const clock_t began = clock();
+    check(profile(n, &why) == GWB_OK, "a saw");
+    return (double)(clock() - began);
+}
+
+/* Four times as many points take some four times as long; all pairs of them would take sixteen times. */
+static void try_many(void)
+{
+    time_of_saw(100);
+    check(time_of_saw(8000) < 10 * time_of_saw(2000), "a saw takes more than its length");
+}
+
+/* ---- sizes */
+
+enum { POCKET, BOSS, NOTCH, SLOT, SLOT_DEPTH, GROOVE, GROOVE_DEPTH, SHOULDER, SHOULDER_DEPTH, CHAMFER, CHAMFER_OTHER, CHAMFERS, SCALE, FEATURES };
+
+static enum gwb_kind give(gwb *g, int feature, int64_t far, int64_t size, gwb_refusal *why)
+{
+    const gwb_point square[] = {{far / 2, far / 2, far}, {far, far / 2, far}, {far, far, far}, {far / 2, far, far}}, start = {0, 0, far}, end = {far, far, far};
+    const uint32_t four[] = {1, 2, 3, 4};
+    gwb_outline_made made;
+    uint32_t sides[4], face;
+    switch (feature) {
+    case POCKET: return gwb_pocket(g, 1, square, 4, size, &made, sides, why);
+    case BOSS: return gwb_boss(g, 1, square, 4, size, &made, sides, why);
+    case NOTCH: return gwb_notch(g, 1, square, 4, size, why);
+    case SLOT: return gwb_slot(g, 1, &start, &end, size, 2, why);
+    case SLOT_DEPTH: return gwb_slot(g, 1, &start, &end, 2, size, why);
+    case GROOVE: return gwb_groove(g, 1, &start, &end, size, 2, why);
+    case GROOVE_DEPTH: return gwb_groove(g, 1, &start, &end, 2, size, why);
+    case SHOULDER: return gwb_shoulder(g, 1, 1, size, 2, why);
+    case SHOULDER_DEPTH: return gwb_shoulder(g, 1, 1, 2, size, why);
+    case CHAMFER: return gwb_chamfer(g, 1, size, 2, &face, why);
+    case CHAMFER_OTHER: return gwb_chamfer(g, 1, 2, size, &face, why);
+    case CHAMFERS: return gwb_chamfer_edges(g, four, 4, size, sides, why);
+    default: return gwb_scale(g, size, why);
+    }
+}
+
+/* What a feature of a size is told, on a block as large as this both ways from the origin. */
+static gwb_refusal told(int feature, int64_t far, int64_t size)
+{
+    gwb g = {0};
+    gwb_refusal why = {0, 0};
+    if (!gwb_open(&g))
+        abort();
+    gwb_block(&g, 1, -far, -far, -far, 2 * far, 2 * far, 2 * far);
+    const enum gwb_kind kind = give(&g, feature, far, size, &why);
+    check(kind == GWB_REFUSED || kind == GWB_IMPOSSIBLE, "a size past all that is in range isn't refused");
+    gwb_close(&g);
+    why.number += kind == GWB_REFUSED ? 1000 : 0;
+    return why;
+}
+
+static void try_sizes(void)
+{
+    const int64_t large[] = {4000000001, INT64_C(1) << 32, 8000000000000, INT64_C(1) << 43, 10000000000000, 4000000000000000, INT64_C(1) << 62, INT64_MAX};
+    const int64_t small[] = {0, -1, INT64_MIN};
+    for (int feature = 0; feature < FEATURES; feature++)
+        for (int64_t far = 10; far <= 1000000000; far *= 100000000) {
+            const gwb_refusal wanted = told(feature, far, 4000000000);
+            for (size_t at = 0; at < sizeof large / sizeof *large; at++) {
+                const gwb_refusal why = told(feature, far, large[at]);
+                check(why.number == wanted.number && why.value == wanted.value, "a size past 4,000,000,000 is refused otherwise");
+            }
+            for (size_t at = 0; at < sizeof small / sizeof *small; at++)
+                check(told(feature, far, small[at]).number == 1000 + GWB_WHY_SIZE_RANGE, "a size below 1 is in range");
+        }
+}
+
+int main(int argc, char **argv)
+{
+    try_random(100 * (argc > 1 ? strtol(argv[1], NULL, 10) : 30));
+    try_many();
+    try_sizes();
+    printf("%ld passed, %ld failed\n", passed, failed);
+    return failed != 0;
+}
