@@ -13,7 +13,7 @@
 #define CALLGRIND_DUMP_STATS_AT(name)
 #endif
 
-enum { ROUNDS = 300, MANY = 10, ROOM = 120 };
+enum { ROUNDS = 300, MANY = 10, ROOM = 160 };
 
 /* ---- calls that only read, on block 1 */
 
@@ -124,7 +124,7 @@ static size_t cell_count;
 static void add(const char *row, const struct way *way, command *call, uint32_t repeats)
 {
     if (call)
-        cells[cell_count++] = (struct cell){row, way, call, repeats, .from_last = call == way->kev, .least = 1e18};
+        cells[cell_count++] = (struct cell){row, way, call, repeats, .from_last = call == way->kef || call == way->kev, .least = 1e18};
 }
 
 /* A command of which there are many in a round, with its undo and redo; what is redone is there for the rows after it. */
@@ -138,9 +138,12 @@ static void add_undone(const char *const rows[3], const struct way *way, command
 static void add_commands(const struct way *way)
 {
     add_undone((const char *const[]){"`mev`", "`undo` of a `mev`", "`redo` of a `mev`"}, way, way->mev);
+    add_undone((const char *const[]){"`mef`", "`undo` of a `mef`", "`redo` of a `mef`"}, way, way->mef);
+    add_undone((const char *const[]){"`kef`", "`undo` of a `kef`", "`redo` of a `kef`"}, way, way->kef);
     add("`kev`", way, way->kev, 1);
     add_undone((const char *const[]){"`block`", "`undo` of a `block`", "`redo` of a `block`"}, way, way->block);
     add_undone((const char *const[]){"`split` of a block", "`undo` of a `split`", "`redo` of a `split`"}, way, way->split);
+    add_undone((const char *const[]){"`glue` of two parts", "`undo` of a `glue`", "`redo` of a `glue`"}, way, way->glue);
     add("`count` of a block", way, way->count, 1);
     add("`volume` of a block", way, way->volume, 1);
     add("`kvfs` of no solid, refused", way, way->kvfs_refused, MANY);

@@ -13,7 +13,7 @@ using Polyhedron = CGAL::Polyhedron_3<Kernel>;
 using Half = Polyhedron::Halfedge_handle;
 
 Polyhedron first, others;
-Half divided, drawn[ITEMS];
+Half divided, drawn[ITEMS], cut[ITEMS], before_drawn;
 
 // The cube of CGAL's manual: a tetrahedron, three of whose edges are split, then two facets, with an edge split between.
 Half cube(Polyhedron &blocks, double x)
@@ -47,6 +47,21 @@ bool mev(std::uint32_t i)
     return true;
 }
 
+// A triangle cut off the face in which the drawn edges lie, from where the first of them starts.
+bool mef(std::uint32_t i)
+{
+    if (i == 0)
+        before_drawn = drawn[0]->prev();
+    cut[i] = first.split_facet(before_drawn, i + 1 < ITEMS ? drawn[i + 1] : i + 1 == ITEMS ? divided : divided->next());
+    return true;
+}
+
+bool kef(std::uint32_t i)
+{
+    first.join_facet(cut[i]);
+    return true;
+}
+
 bool kev(std::uint32_t i)
 {
     first.join_vertex(drawn[i]->opposite());
@@ -66,7 +81,8 @@ void restore()
 
 } // namespace
 
-const struct way cgal_way = {"CGAL " CGAL_VERSION_STR, begin, restore, mev, kev, block, nullptr, nullptr, nullptr, nullptr, nullptr, nullptr, nullptr};
+const struct way cgal_way = {"CGAL " CGAL_VERSION_STR, begin, restore, mev, mef, kef, kev, block, nullptr, nullptr, nullptr, nullptr, nullptr, nullptr, nullptr,
+                             nullptr};
 #else
 const struct way cgal_way = {};
 #endif

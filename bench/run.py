@@ -1,10 +1,11 @@
 #!/usr/bin/env python3
-"""Runs the built program and the plain C program side by side on families of scripts, checks that they answer the same bytes, and
-tells the processor time of a line, the instructions of a line, the peak of memory, and the ratio of the times.
+"""Runs the built program and the plain C program side by side on families of scripts, checks that they answer the same bytes and as the family says, and
+tells the processor time of a line, the instructions of a line, the peak of memory, and the ratio of the times. Beside them runs the floor, which only reads
+the words as numbers and answers each line `ok`.
 
     bench/run.py [--program PROGRAM] [--sizes 10000,100000,1000000] [--only FAMILY,FAMILY] [--seconds S] [--times N] [--markdown]
 
-The two programs run by turns. The time is the best of N runs (7; fewer of those that take long), user and system together, less the best time for the
+The programs run by turns. The time is the best of N runs (7; fewer of those that take long), user and system together, less the best time for the
 lines that come before those measured (the start of the program, where there are none). The ratio is the median of those of runs next to each other, since
 a machine may be slow for some runs. A run past S seconds (20) is given up, and so are larger scripts of its family.
 
@@ -13,6 +14,7 @@ at most a twentieth of a second without it, since it takes some fifty times as l
 """
 import argparse
 import collections
+import contextlib
 import filecmp
 import math
 import os
@@ -24,7 +26,6 @@ import callgrind
 import scripts
 
 HERE = os.path.dirname(os.path.abspath(__file__))
-NAMES = ('gwb', 'C')
 ENOUGH = 2.0            # seconds of processor time after which a script isn't run again
 COUNTED = 0.05          # seconds of processor time up to which a run's instructions are counted
 
@@ -34,8 +35,17 @@ Cost = collections.namedtuple('Cost', 'seconds memory instructions turns')
 NOTHING = Cost(0, 0, 0, ())
 
 
+COMPLAINTS = (b'refused', b'fault', b'memory')
+
+
 class TooSlow(Exception):
     pass
+
+
+def complaints(answers):
+    """How many of these answers say that a line wasn't carried out."""
+    answers.seek(0)
+    return sum(line.startswith(COMPLAINTS) for line in answers)
 
 
 def run_once(program, script, out, limit):
@@ -80,25 +90,33 @@ class Bench:
         self.times = times
         self.starts = [None] * len(programs)
 
-    def best(self, text, which):
-        """The cost of the chosen programs, which run by turns and whose answers are compared; None for a program that takes too long."""
-        with tempfile.TemporaryFile() as script, tempfile.NamedTemporaryFile() as one, tempfile.NamedTemporaryFile() as two:
+    def best(self, text, refused=0):
+        """The cost of each program; None for one that takes too long. They run by turns, and the answers of the first two are compared; so many of
+        them are refusals."""
+        with tempfile.TemporaryFile() as script, contextlib.ExitStack() as stack:
             script.write(text)
             script.flush()
-            outs = (one, two)
-            runs = self.by_turns(which, script, outs)
-            if [] not in runs and len(runs) == 2 and not filecmp.cmp(one.name, two.name, shallow=False):
-                raise SystemExit('the answers differ')
-            return [self.cost(program, script, its) if its else None for program, its in zip(which, runs)]
+            outs = [stack.enter_context(tempfile.NamedTemporaryFile()) for _ in self.programs]
+            runs = self.by_turns(script, outs)
+            self.compare(runs, outs, refused)
+            return [self.cost(program, script, its) if its else None for program, its in zip(self.programs, runs)]
 
-    def by_turns(self, which, script, outs):
+    def compare(self, runs, outs, refused):
+        """Ends the bench where the answers aren't those that were to be measured."""
+        if runs[0] and runs[1] and not filecmp.cmp(outs[0].name, outs[1].name, shallow=False):
+            raise SystemExit('the answers differ')
+        found = complaints(outs[0]) if runs[0] else refused
+        if found != refused:
+            raise SystemExit('%d lines are refused, and not %d as the family says' % (found, refused))
+
+    def by_turns(self, script, outs):
         """The runs of each program, one after the other in turn; none of one that takes too long."""
-        runs = [[] for _ in which]
-        going = set(range(len(which)))
+        runs = [[] for _ in self.programs]
+        going = set(range(len(self.programs)))
         while going:
             for i in sorted(going):
                 try:
-                    runs[i].append(run_once(which[i], script, outs[i], self.limit))
+                    runs[i].append(run_once(self.programs[i], script, outs[i], self.limit))
                 except TooSlow:
                     runs[i] = []
                     going.discard(i)
@@ -112,15 +130,15 @@ class Bench:
 
     def start(self):
         if None in self.starts:
-            self.starts = self.best(b'', self.programs)
+            self.starts = self.best(b'')
         return self.starts
 
     def measure(self, family, size):
         """The cost of a line for each program, or None where it takes too long."""
         before = scripts.script(family.before(size)) if family.before else b''
         lines = scripts.script(family.lines(size))
-        whole = self.best(before + lines, self.programs)
-        rest = self.best(before, self.programs) if before else self.start() if family.before else [NOTHING] * len(whole)
+        whole = self.best(before + lines, lines.count(b'\n') if family.is_refused else 0)
+        rest = self.best(before) if before else self.start() if family.before else [NOTHING] * len(whole)
         return [of_a_line(w, r, lines.count(b'\n')) for w, r in zip(whole, rest)]
 
 
@@ -144,15 +162,15 @@ def instructions_text(count):
 def table_row(name, size, got, limit):
     cells = [name, '{:,}'.format(size)]
     cells += [time_text(g.seconds) if g else 'over %d s in all' % limit for g in got]
-    ratio = ratio_of(*got) if None not in got else None
+    ratio = ratio_of(*got[:2]) if None not in got[:2] else None
     cells.append('%.2f' % ratio if ratio else '')
     cells += [instructions_text(g.instructions) if g else '' for g in got]
     cells += [memory_text(g.memory) if g else '' for g in got]
     return cells, ratio
 
 
-HEAD = ['Family', 'Size', 'gwb, a line', 'C, a line', 'Ratio', 'gwb, instr.', 'C, instr.', 'gwb, MiB', 'C, MiB']
-WIDTHS = [15, 10, 16, 16, 7, 13, 13, 9, 9]
+HEAD = ['Family', 'Size', 'gwb, a line', 'C, a line', 'floor, a line', 'Ratio', 'gwb, instr.', 'C, instr.', 'floor, instr.', 'gwb, MiB', 'C, MiB', 'floor, MiB']
+WIDTHS = [15, 10, 16, 16, 16, 7, 13, 13, 13, 9, 9, 9]
 
 
 def show(cells, markdown):
@@ -194,7 +212,7 @@ def measure_kind(bench, names, sizes, a):
     for size, found in ratios.items():
         if found:
             mean = math.exp(sum(map(math.log, found)) / len(found))
-            show(['(mean)', '{:,}'.format(size), '', '', '%.2f' % mean, '', '', '', ''], a.markdown)
+            show(['(mean)', '{:,}'.format(size), '', '', '', '%.2f' % mean, *[''] * 6], a.markdown)
     print()
 
 
@@ -206,7 +224,7 @@ def main():
     subprocess.run(['make', '-s', '-C', HERE], check=True)
     if not callgrind.is_there():
         print('Instructions are left out: there is no valgrind.')
-    bench = Bench((a.program, os.path.join(HERE, 'plain', 'plain')), a.seconds, a.times)
+    bench = Bench((a.program, os.path.join(HERE, 'plain', 'plain'), os.path.join(HERE, 'floor')), a.seconds, a.times)
     names = a.only.split(',') if a.only else list(scripts.FAMILIES)
     sizes = [int(size) for size in a.sizes.split(',')]
     for may_grow in (False, True):

@@ -2,8 +2,8 @@
 """Families of scripts that run.py measures: scripts.py FAMILY SIZE prints one of them, scripts.py alone tells what there is.
 
 A family gives the lines that are measured and, where the model has to be made first, the lines that come before them (None where the
-start of the program is measured too, and there is one size). Families of the
-second kind are those of which the cost may grow faster than their size.
+start of the program is measured too, and there is one size). Every measured line is accepted, or every one is refused where the family says so. Families of
+the second kind are those of which the cost may grow faster than their size.
 """
 import collections
 import random
@@ -11,7 +11,7 @@ import sys
 
 TOP = 1000000           # the greatest number of a kind
 
-Family = collections.namedtuple('Family', 'what lines before most may_grow')
+Family = collections.namedtuple('Family', 'what lines before most may_grow is_refused')
 FAMILIES = {}
 
 
@@ -19,10 +19,10 @@ def nothing(n):
     return ()
 
 
-def family(name, what, before=nothing, most=TOP, may_grow=False):
+def family(name, what, before=nothing, most=TOP, may_grow=False, is_refused=False):
     """Puts a family in the table; sizes past `most` don't fit the numbers of a model."""
     def put(lines):
-        FAMILIES[name] = Family(what, lines, before, most, may_grow)
+        FAMILIES[name] = Family(what, lines, before, most, may_grow, is_refused)
         return lines
     return put
 
@@ -60,8 +60,9 @@ def row(n):
     return ((k, k * k % 1000) for k in range(n))
 
 
-def round_polygon(n):
-    return [(k, k * k % 1000003) for k in range(n)]
+def saw_polygon(n):
+    """So many points: a saw along the x axis, and one above it."""
+    return [*((k, k % 2) for k in range(n - 1)), (0, n)]
 
 
 def comb_polygon(teeth):
@@ -123,7 +124,7 @@ def in_turn(lines, n):
 
 # ---- one line after the other
 
-@family('refusals', 'a command that is refused')
+@family('refusals', 'a command that is refused', is_refused=True)
 def refusals(n):
     return ('kvfs %d' % (k % TOP + 1) for k in range(n))
 
@@ -223,22 +224,22 @@ def sliced(n):
 
 # ---- one command on a large model
 
-@family('volume', '`volume` of a prism of so many sides', before=lambda n: prism(round_polygon(n)), most=300000)
+@family('volume', '`volume` of a prism of so many sides', before=lambda n: prism(saw_polygon(n)), most=300000)
 def volume_large(n):
     return ['volume 1'] * 8
 
 
-@family('count', '`count` of a prism of so many sides', before=lambda n: prism(round_polygon(n)), most=300000)
+@family('count', '`count` of a prism of so many sides', before=lambda n: prism(saw_polygon(n)), most=300000)
 def count_large(n):
     return ['count 1'] * 8
 
 
-@family('list', '`list` of a prism of so many sides', before=lambda n: prism(round_polygon(n)), most=300000)
+@family('list', '`list` of a prism of so many sides', before=lambda n: prism(saw_polygon(n)), most=300000)
 def list_large(n):
     return ['list'] * 4
 
 
-@family('prism', 'a prism of so many sides split through all of them, and `undo`', before=lambda n: prism(round_polygon(n)), most=130000)
+@family('prism', 'a prism of so many sides split through all of them, and `undo`', before=lambda n: prism(saw_polygon(n)), most=130000)
 def prism_split(n):
     return ['split 1 0 0 1 -1 2', 'undo'] * 4
 

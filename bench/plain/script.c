@@ -68,10 +68,31 @@ static __attribute__((noinline, cold)) u64 read_digits_slowly(struct words *w, c
     return n;
 }
 
-/* The digits up to the end of the word, up to `greatest`: as many as fit in 64 bits whatever they are are tested once, behind the last. */
+/* The digits before the first of these eight bytes that is none, as a number: pairs, fours and eights are added up in three steps. */
+static inline u64 added_up(u64 x, unsigned bits)
+{
+    x <<= 64 - bits;
+    x = (x * 10 + (x >> 8)) & 0x00ff00ff00ff00ff;
+    x = (x * 100 + (x >> 16)) & 0x0000ffff0000ffff;
+    return (u32)(x * 10000 + (x >> 32));
+}
+
+/* The digits up to the end of the word, up to `greatest`: up to seven by one load of eight bytes, more one after the other. As many as fit in 64 bits
+ * whatever they are are tested once, behind the last. */
 static inline u64 read_digits(struct words *w, u64 greatest)
 {
     const unsigned char *first = w->at, *at = first;
+    u64 x;
+    memcpy(&x, at, sizeof x);
+    x ^= 0x3030303030303030;
+    u64 others = ((x + 0x7676767676767676) | x) & 0x8080808080808080;
+    unsigned bits = others ? (unsigned)__builtin_ctzll(others) & 56 : 0;
+    at += bits >> 3;
+    if (__builtin_expect(bits != 0 && (*at == ' ' || *at == '\n'), true)) {
+        w->at = at;
+        return added_up(x, bits);
+    }
+    at = first;
     u64 n = 0;
     for (; (unsigned)(*at - '0') < 10; at++)
         n = 10 * n + (*at - '0');
@@ -387,8 +408,30 @@ static void answer_list(struct words *w, const unsigned char *line)
         list_model();
 }
 
+#define WORD4(a, b, c, d) ((u32)(a) | (u32)(b) << 8 | (u32)(c) << 16 | (u32)(d) << 24)
+
+/* Whether the line begins with one of the usual names and a space or its end, by one load: then it is answered. */
+static inline bool is_usual(struct words *w, const unsigned char *line)
+{
+    u32 glance;
+    memcpy(&glance, w->at, sizeof glance);
+    const unsigned char behind = w->at[4];
+    switch (glance) {
+    case WORD4('m', 'e', 'v', ' '): w->at += 3; answer_mev(w, line); return true;
+    case WORD4('m', 'e', 'f', ' '): w->at += 3; answer_mef(w, line); return true;
+    case WORD4('k', 'e', 'v', ' '): w->at += 3; answer_short(w, line, KEV); return true;
+    case WORD4('k', 'e', 'f', ' '): w->at += 3; answer_short(w, line, KEF); return true;
+    case WORD4('k', 'v', 'f', 's'): return behind == ' ' && (w->at += 4, answer_short(w, line, KVFS), true);
+    case WORD4('u', 'n', 'd', 'o'): return behind == '\n' && (w->at += 4, answer_turn(w, line, undo, NOTHING_TO_UNDO), true);
+    case WORD4('r', 'e', 'd', 'o'): return behind == '\n' && (w->at += 4, answer_turn(w, line, redo, NOTHING_TO_REDO), true);
+    default: return false;
+    }
+}
+
 static void answer_command(struct words *w, const unsigned char *line)
 {
+    if (is_usual(w, line))
+        return;
     switch (read_name(w)) {
     case NAME4('m', 'v', 'f', 's'): answer_mvfs(w, line); break;
     case NAME4('k', 'v', 'f', 's'): answer_short(w, line, KVFS); break;
@@ -432,7 +475,7 @@ static const unsigned char *answer_line(const unsigned char *line)
 
 /* ---- the file */
 
-static unsigned char input[INPUT_SIZE + 1];
+static unsigned char input[INPUT_SIZE + 16];    /* a word is read eight bytes at a time, past the end too */
 static size_t held;             /* bytes of `input` that aren't answered yet */
 static bool skipping;           /* the line that goes on is too long, and its bytes are dropped */
 
