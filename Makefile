@@ -5,6 +5,7 @@
 #   make check                               all tests that need no proof: the last line counts
 #   make check-unproved                      the same on what `make try` builds
 #   make reference                           out/reference: what each call is for, in C and C++, Python and Rust, from the sources
+#   make dist                                out/dist: a wheel, the sources, a tarball of what is installed, a package for Debian
 #   make install PREFIX=/usr/local           DESTDIR=.. is put before every place, as for a package
 #   make uninstall PREFIX=/usr/local         takes away what was installed
 #
@@ -38,12 +39,13 @@ UNPROVED = out/gwb-unproved out/libgwb_c-unproved.a
 TRIED = ../out/unproved
 SOURCES = .ci/unproved .ci/crates.py crates.txt $(shell find crates -path '*/src/*.rt')
 
-.PHONY: help try check check-unproved reference built built-program install uninstall install-program install-companions install-pages install-library
+.PHONY: help try check check-unproved reference dist built built-program install uninstall install-program install-companions install-pages install-library
 help:
 	@echo 'make try                            builds the program and the library in some minutes, unproved'
 	@echo 'make check                          runs all tests that need no proof on what is built, proved before unproved'
 	@echo 'make check-unproved                 runs them on what make try builds'
 	@echo 'make reference                      writes each language'"'"'s reference, from its headers and docstrings'
+	@echo 'make dist                           packs what is built: a wheel, the sources, a tarball, a package for Debian'
 	@echo 'make install PREFIX=/usr/local      installs what is built, proved before unproved: the program, the library, companions, pages'
 	@echo 'make uninstall PREFIX=/usr/local    takes them away'
 	@echo '.ci/run                             proves, tests and builds everything'
@@ -84,6 +86,10 @@ reference:
 	@if command -v cargo > /dev/null; then cargo doc --quiet --offline --no-deps --manifest-path bindings/rust/Cargo.toml --target-dir $(REFERENCE)/rust \
 	    && echo '$(REFERENCE)/rust/doc/gwb/index.html'; \
 	else echo 'there is no cargo, so the reference of Rust is left out (Debian: cargo)'; fi
+
+INTO ?= out/dist
+dist: built
+	@.ci/dist $(PROGRAM) $(ARCHIVE) $(OUT) --into $(INTO)
 
 install: install-program install-companions install-pages install-library
 	@echo 'installed in $(ROOT): the program $(PROGRAM) ($(call kind,$(PROGRAM))), $(if $(HAS_LIBRARY),the library $(ARCHIVE) ($(call kind,$(ARCHIVE))),no library)'

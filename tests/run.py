@@ -61,6 +61,7 @@ def trials(program: str, archive: str) -> Iterator[Trial]:
     if archive:
         yield Trial(('tests/library.sh', archive, program), ('cc', 'c++', 'make'))
         yield Trial(('tests/install.py', program, archive), ('cc', 'make'))
+        yield Trial(('tests/dist.py', program, archive), ('cc', 'c++', 'make'))
 
 
 def outcome_of(trial: Trial) -> Outcome:
