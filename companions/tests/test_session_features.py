@@ -398,7 +398,7 @@ class Scripts(unittest.TestCase):
     def test_it_is_shown(self):
         with Workbench(library()) as bench:
             bench.block((0, 0, 0), (1, 1, 1))
-            with mock.patch('gwb.session.workbench.open_in_browser') as opened:
+            with mock.patch('webbrowser.open') as opened:
                 path = bench.show()
             self.addCleanup(path.unlink)
             opened.assert_called_once_with(path.as_uri())

@@ -1,7 +1,6 @@
 """What to say of a line that is no command, word by word: what each word should be, and where a word of other programs is to be found."""
 
 import re
-from difflib import get_close_matches
 from typing import Dict, Iterator, List
 
 from .language import COMMANDS
@@ -53,6 +52,7 @@ def _of_command(word: str) -> Iterator[str]:
     elif word.lower() in _ELSEWHERE:
         yield f'gwb has no {word.lower()}: {_ELSEWHERE[word.lower()]}'
     else:
+        from difflib import get_close_matches
         yield from (f'is {near} meant?' for near in get_close_matches(word.lower(), COMMANDS, 1))
 
 

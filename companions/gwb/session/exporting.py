@@ -1,4 +1,7 @@
-"""Names and colours of solids and faces in a session, its unit, and the files that are made of what it holds, or taken in."""
+"""Names and colours of solids and faces in a session, its unit, and the files that are made of what it holds, or taken in.
+
+Pages and forms of files are imported in the methods that need them: together they take as long to load as all the rest.
+"""
 
 import os
 from fractions import Fraction
@@ -6,17 +9,9 @@ from pathlib import Path
 from types import MappingProxyType
 from typing import Sequence, Union
 
-from ..drawing.page import page_of
 from ..errors import Unfit
 from ..formats.appearance import LONGEST_NAME, Appearance, Appearances, Said, colour_of
-from ..formats.importing import read_file
-from ..formats.mesh import mesh_of
-from ..formats.mesh_files import FORMS
-from ..formats.obj import mtl_text, obj_text
-from ..formats.polygon_files import FORMS as FORMS_IN
-from ..formats.step.write import step_text
 from ..geometry.free_numbers import renumbered
-from ..geometry.model import Model
 from ..geometry.plane_figures import Exact
 from ..geometry.touching_solids import touching_solids
 from . import arguments
@@ -71,6 +66,7 @@ class Exporting(Methods):
 
     def page(self) -> str:
         """A page in HTML to turn the model and to pick from it, as `gwb-view` makes it, with the labels."""
+        from ..drawing.page import page_of
         return page_of(self._kernel.listing(), 'gwb' if self.unit == 1 else f'gwb, unit {self.unit}', looks=self._kernel.labels())
 
     def export(self, path: arguments.Path) -> None:
@@ -79,6 +75,7 @@ class Exporting(Methods):
         is rounded to 9 places in OBJ, OFF and STL. Raises
         ValueError for another ending, Unfit where a face isn't flat and plain, nothing is held, or a coordinate is past what GLB holds, OSError where
         the file can't be written, or a .mtl is there that the .obj doesn't name. Warns where solids touch and the form doesn't keep them apart."""
+        from ..formats.writing import written
         file = Path(arguments.path('path', path))
         form = file.suffix.lower()
         if form not in ENDINGS:
@@ -90,7 +87,7 @@ class Exporting(Methods):
         if touching:
             warn('solids {} and {} touch or overlap, and {} does not keep solids apart: many programs will read one wrong body; .3mf and .step keep them '
                  'apart'.format(*touching, file.suffix))
-        file.write_bytes(self.page().encode() if form == '.html' else _written(model, Said(self._kernel.labels(), self.unit), file))
+        file.write_bytes(self.page().encode() if form == '.html' else written(model, Said(self._kernel.labels(), self.unit), file))
 
     def import_file(self, path: arguments.Path, *, form: str = '', scale: Exact = 1, rounded: bool = False, keep_triangles: bool = False,
                     repair: bool = False, within: Exact = 0, flat: bool = False) -> 'ImportedSolids':
@@ -104,7 +101,9 @@ class Exporting(Methods):
         that were moved.
         Raises OSError; NotAMesh where it is no such file; Unfit where its surfaces aren't closed, or a point isn't whole or past the range.
         Refused: NumbersSpent."""
-        kind = arguments.text('form', form) and arguments.word('form', form, FORMS_IN)
+        from ..formats.importing import read_file
+        from ..formats.polygon_files import FORMS
+        kind = arguments.text('form', form) and arguments.word('form', form, FORMS)
         size, most = arguments.factor('scale', scale) / self.unit, arguments.factor('within', within, or_zero=True)
         round_all, keep, mend, flat_alone = (arguments.flag(name, value) for name, value in (
             ('rounded', rounded), ('keep_triangles', keep_triangles), ('repair', repair), ('flat', flat)))
@@ -123,20 +122,3 @@ class Exporting(Methods):
             looks = [((kind, new[kind][number]), look._replace(name=look.name[:LONGEST_NAME])) for (kind, number), look in found.looks.items()]
             self._kernel.notes.put(*looks)
         return ImportedSolids([SolidPart(self._kernel, new['solid'][solid]) for solid in found.model.solids], moved)
-
-
-def _written(model: Model, said: Said, file: Path) -> bytes:
-    """What is to stand in a file, by the ending of its name; a .mtl beside it is written on the way."""
-    form = file.suffix.lower()
-    if form in ('.step', '.stp'):
-        return step_text(model, *said).encode()
-    mesh = mesh_of(model)
-    if form != '.obj' or not any(look.colour for look in said.looks.values()):
-        return FORMS[form[1:]](mesh, said)
-    materials = file.with_suffix('.mtl')
-    text = obj_text(mesh, said.looks, materials.name, unit=said.unit)
-    is_named = file.exists() and f'mtllib {materials.name}'.encode() in file.read_bytes().splitlines()
-    if materials.exists() and not is_named:
-        raise FileExistsError(f'{materials} is there, and is of no {file.name} that is there: the colours would be written over it')
-    materials.write_text(mtl_text(said.looks), encoding='utf-8')
-    return text.encode()

@@ -3,7 +3,6 @@
 import ctypes
 import os
 import re
-from ctypes.util import find_library
 from pathlib import Path
 from typing import Any, Callable, Iterable, Iterator, Optional, Tuple
 
@@ -35,11 +34,16 @@ def find_path() -> str:
     if top.parts[-2:] == ('share', 'gwb'):    # (`make install` puts it into PREFIX/lib, and this package into PREFIX/share/gwb)
         places.append(top.parents[1] / 'lib' / f'libgwb.so.{_MAJOR}')
     built = (str(path) for path in places if path.is_file())
-    path = named if is_library(named) else next(built, '') or find_library('gwb')
+    path = named if is_library(named) else next(built, '') or _of_system()
     if path is None:
         raise ProgramMissing('libgwb.so was not found: the environment variable GWB may name it; in a copy of the sources '
                              '`make try` builds it, unproved')
     return path
+
+
+def _of_system() -> Optional[str]:
+    from ctypes.util import find_library
+    return find_library('gwb')
 
 
 def is_library(path: str) -> bool:

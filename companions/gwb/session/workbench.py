@@ -17,9 +17,7 @@ from fractions import Fraction
 from html import escape
 from pathlib import Path
 from sys import maxsize
-from tempfile import NamedTemporaryFile
 from typing import ContextManager, Iterator, List, NoReturn, Optional, Tuple
-from webbrowser import open as open_in_browser
 
 from ..errors import CompanionError, Complaint, InDraft
 from ..formats.appearance import appearances_in, comments
@@ -28,7 +26,6 @@ from ..geometry.plane_figures import Exact
 from ..protocol.language import is_answered
 from ..protocol.listing import read_model
 from ..protocol.replies import Reply, is_listed
-from ..scripts.inversion import script_of
 from ..scripts.unit_comments import unit_in, unit_line
 from . import arguments
 from .commands import Commands
@@ -165,6 +162,8 @@ class Workbench(SolidMethods, FeatureMethods, Commands, Reading, Exporting):
 
     def show(self) -> Path:
         """Writes the page to a file of its own and opens it in the browser, where there is one: the file's path."""
+        from tempfile import NamedTemporaryFile
+        from webbrowser import open as open_in_browser
         with NamedTemporaryFile('w', prefix='gwb-', suffix='.html', encoding='utf-8', delete=False) as file:
             file.write(self.page())
         path = Path(file.name)
@@ -204,6 +203,7 @@ def _script_in(file: Path, data: bytes) -> bytes:
     if not is_listed(first):
         return data
     try:
+        from ..scripts.inversion import script_of
         return '\n'.join(script_of(read_model(data))).encode()
     except CompanionError as error:
         error.args = (f'{file}: {error}',)

@@ -4,9 +4,9 @@ The bytes are a function of the mesh, its names and its colours alone: parts are
 """
 
 from fractions import Fraction
+from html import escape
 from io import BytesIO
 from typing import Dict, Iterator, List
-from xml.sax.saxutils import quoteattr
 from zipfile import ZIP_STORED, ZipFile, ZipInfo
 
 from ..appearance import NO_APPEARANCES, PLAIN_MATERIAL, Appearances, Colour, hexadecimal, look_of
@@ -50,8 +50,8 @@ def _model_lines(mesh: Mesh, looks: Appearances, unit: Fraction) -> Iterator[str
     materials = _Materials(mesh, looks)
     yield from materials.lines()
     for place, solid in enumerate(mesh.model.solids, 1):
-        name = quoteattr(''.join(letter for letter in look_of(looks, 'solid', solid).name if letter >= ' ') or f'solid {solid}')
-        yield f'<object id="{place}" type="model" name={name}{materials.of_solid(solid)}><mesh>'
+        name = escape(''.join(letter for letter in look_of(looks, 'solid', solid).name if letter >= ' ') or f'solid {solid}')
+        yield f'<object id="{place}" type="model" name="{name}"{materials.of_solid(solid)}><mesh>'
         yield from _mesh_lines(mesh, solid, materials)
         yield '</mesh></object>'
     yield '</resources>'
