@@ -2,12 +2,12 @@
 pub use Rattle.commands.specs.Calls.{IsCall}
 pub use Rattle.commands.specs.Changes.{MayLack, made, refusal_of}
 pub use Rattle.commands.specs.Telling.{IsWhole, Settled, TakesSteps, Tells, TellsDraft, TellsSession, asked, shown, steps_in}
-pub use Rattle.commands.specs.declared.command.Call.TheVariants.{Abandon, Back, Commit, Give, Mark, Open}
-pub use Rattle.commands.specs.declared.command.Call.{Call}
-pub use Rattle.commands.specs.declared.command.Command.TheVariants.{Ask, Change, Redo, Undo}
-pub use Rattle.commands.specs.declared.command.Command.{Command}
-pub use Rattle.commands.specs.declared.command.Told.TheVariants.{Done, Memory, NoDraft, Refused}
-pub use Rattle.commands.specs.declared.command.Told.{Told}
+pub use Rattle.call_types.specs.declared.command.Call.TheVariants.{Abandon, Back, Commit, Give, Mark, Open}
+pub use Rattle.call_types.specs.declared.command.Call.{Call}
+pub use Rattle.call_types.specs.declared.command.Command.TheVariants.{Ask, Change, Redo, Undo}
+pub use Rattle.call_types.specs.declared.command.Command.{Command}
+pub use Rattle.commands.specs.declared.told.Told.TheVariants.{Done, Memory, NoDraft, Refused}
+pub use Rattle.commands.specs.declared.told.Told.{Told}
 pub use Rattle.commands.specs.declared.stage.OpenDraft.{OpenDraft}
 pub use Rattle.commands.specs.declared.stage.Stage.TheVariants.{Drafting, Session}
 pub use Rattle.commands.specs.declared.stage.Stage.{Stage}

@@ -7,8 +7,8 @@ use Rattle.sweeps.specs.Calls.{LaminasAreCalls, BlocksAreCalls, SweepsAreCalls}
 use Rattle.gluing.specs.Calls.{GluesAreCalls}
 use Rattle.plane_split.specs.Calls.{SplitsAreCalls}
 use Rattle.commands.specs.Common.{Sound}
-use Rattle.commands.specs.declared.command.Change.TheVariants as change
-use Rattle.commands.specs.declared.command.Command.TheVariants as command
+use Rattle.call_types.specs.declared.command.Change.TheVariants as change
+use Rattle.call_types.specs.declared.command.Command.TheVariants as command
 use Rattle.commands.specs.Calls.{IsCall, CommandsAreCalls}
 use Rattle.commands.proofs.Settling.{ended}
 

@@ -1,7 +1,7 @@
 -- What isn't done changes nothing.
 use Rattle.commands.proofs.Prelude.{◌≡◌, inl, inr, ap, ◌∙◌, ◌≢◌, Call, Command, Done, DraftJournal, Drafting, Journal, OpenDraft, Session, Stage, Told, Tells, TellsSession, TellsDraft}
-use Rattle.commands.specs.declared.command.Call.TheVariants as call
-use Rattle.commands.specs.declared.command.Command.TheVariants as command
+use Rattle.call_types.specs.declared.command.Call.TheVariants as call
+use Rattle.call_types.specs.declared.command.Command.TheVariants as command
 use Rattle.commands.proofs.Settling.{stays}
 
 pub session_kept : (s t : Journal) (c : Command) (a : Told) → a ≢ Done → TellsSession s c a t → t ≡ s

@@ -15,8 +15,8 @@ use Rattle.convex_laws.proofs.Bends.{blocks_are_convex}
 use Rattle.convex_laws.proofs.Others.{block_keeps_strictly}
 use Rattle.convex_laws.proofs.Strict.{splits_keep_strictly_convex}
 use Rattle.commands.specs.Common.{Model, Sound}
-use Rattle.commands.specs.declared.command.Change.TheVariants as change
-use Rattle.commands.specs.declared.command.Command.TheVariants as command
+use Rattle.call_types.specs.declared.command.Change.TheVariants as change
+use Rattle.call_types.specs.declared.command.Command.TheVariants as command
 use Rattle.commands.specs.declared.known.Known.{Known}
 use Rattle.commands.specs.declared.known.Known.TheVariants as known
 use Rattle.commands.specs.Known.{IsKnown, MakesKnown}

@@ -11,7 +11,7 @@ use Rattle.gluing.specs.glue_checks.Conditions as gluing
 use Rattle.split_checks.specs.begin_checks.Conditions as splitting
 use Rattle.plane_split.specs.Machine.{plane_with}
 use Rattle.commands.specs.Common.{Change, Model, Refusal}
-use Rattle.commands.specs.declared.command.Change.TheVariants as change
+use Rattle.call_types.specs.declared.command.Change.TheVariants as change
 
 -- the first of its conditions that is false
 abbrev pub refusal_of : Model → Change → Option Refusal

@@ -4,7 +4,7 @@ use Rattle.euler_operators.specs.Common.{solid_of}
 use Rattle.gluing.specs.Flat.{IsClosedFlat}
 use Rattle.convex_laws.specs.Convex.{IsStrictlyConvex}
 use Rattle.commands.specs.Common.{Change, Journal, Model, held}
-use Rattle.commands.specs.declared.command.Change.TheVariants as change
+use Rattle.call_types.specs.declared.command.Change.TheVariants as change
 use Rattle.commands.specs.declared.known.Known.{Known}
 use Rattle.commands.specs.declared.known.Known.TheVariants as known
 

@@ -2,11 +2,11 @@
 use Rattle.std.specs.Prelude.{◌≡◌, ◌⊎◌, ℕ, length, Option, Some, None, Result, Ok, Err}
 use Rattle.solid_measure.specs.Measure.{answer, face_refusal, solid_refusal, plane_of, is_flat, six_volume, counts}
 use Rattle.commands.specs.Common.{Call, Change, Command, Done, DraftJournal, Drafting, Failure, InDraft, IsConsistent, IsFurther, IsMark, Journal, Memory, Model, NoDraft, OpenDraft, Question, Refusal, Refused, Session, Sound, Stage, Told, accepted, after_commit, after_redo, after_steps, after_undo, ahead, back_at, depth, held, new_draft, record_of, recorded, redo_refusal, undo_refusal}
-use Rattle.commands.specs.declared.command.Call.TheVariants as call
-use Rattle.commands.specs.declared.command.Command.TheVariants as command
+use Rattle.call_types.specs.declared.command.Call.TheVariants as call
+use Rattle.call_types.specs.declared.command.Command.TheVariants as command
 use Rattle.undo_journal.specs.declared.session.Failure.TheVariants as failure
-use Rattle.commands.specs.declared.command.Question.TheVariants as question
-use Rattle.commands.specs.declared.command.Told.TheVariants as told
+use Rattle.call_types.specs.declared.command.Question.TheVariants as question
+use Rattle.commands.specs.declared.told.Told.TheVariants as told
 use Rattle.commands.specs.Changes.{refusal_of, made, operators_of, MayLack}
 
 -- the answer to a change that ended with this result

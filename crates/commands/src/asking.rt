@@ -3,7 +3,8 @@ ghost use Rattle.std.specs.Prelude.{◌≡◌};
 ghost use Rattle.euler_conditions.specs.Ready.{IsReady};
 ghost use Rattle.commands.specs.Telling.{asked};
 
-use crate::command::{Question, Told};
+use crate::told::Told;
+use call_types::Question;
 use euler_conditions::Arena;
 use solid_measure::{counts, is_flat, plane, six_volume};
 

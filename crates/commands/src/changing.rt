@@ -4,7 +4,7 @@ ghost use Rattle.undo_journal.specs.Machine.{held};
 ghost use Rattle.gluing.specs.Flat.{IsClosedFlat};
 ghost use Rattle.commands.specs.Telling.{TellsSession, told_of};
 
-use crate::command::{Change, Command};
+use call_types::{Change, Command};
 use euler_operators::{Op, Point};
 use gluing::glue_with_flat;
 use plane_split::split_with_flat;

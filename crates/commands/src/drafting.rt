@@ -1,7 +1,7 @@
 //! A change as steps of a draft.
 ghost use Rattle.commands.specs.Telling.{TellsDraft, told_of};
 
-use crate::command::{Change, Command};
+use call_types::{Change, Command};
 use euler_operators::{Op, Point};
 use gluing::glue_in;
 use plane_split::split_in;

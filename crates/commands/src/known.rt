@@ -9,7 +9,7 @@ ghost use Rattle.commands.specs.Known.{IsKnown, MakesKnown};
 ghost use Rattle.commands.specs.Telling.{TellsSession, told_of};
 
 use crate::changing::{act_on_session, change_session};
-use crate::command::{Change, Command};
+use call_types::{Change, Command};
 use euler_conditions::Arena;
 use euler_operators::{Kind, Op, Refusal, is_number};
 use std::alloc::Global;

@@ -1,7 +1,7 @@
 #![tactic(auto)]
 //! Commands: the one way in which an operator, a larger command, a question, undo, redo and a draft reach a session.
 //!
-//! `command` defines commands and their answers. `changing` makes a change one command of a session, and `drafting` makes it steps of a
+//! Commands and calls are defined in `call_types`, and their answers in `told`. `changing` makes a change one command of a session, and `drafting` makes it steps of a
 //! draft; `asking` answers a question. `known` holds a session and what it knows of one of its solids; `stage` holds that or a draft of its next
 //! command, and `making` makes calls of any kind on it.
 //!
@@ -18,19 +18,18 @@
 
 mod asking;
 mod changing;
-mod command;
 mod drafting;
 mod known;
 mod laws;
 mod making;
-mod points;
 mod stage;
+mod told;
 
 pub use asking::ask;
-pub use command::{Call, Change, Command, Question, Told, outcome};
+pub use call_types::{Call, Change, Command, Points, Question};
 pub use drafting::change_in;
 pub use known::KnownSession;
 pub use laws::{commands_are_calls, larger_commands_take_steps};
 pub use making::{act, change, give, give_in, make, moved};
-pub use points::Points;
 pub use stage::{OpenDraft, Stage};
+pub use told::{Told, outcome};

@@ -3,10 +3,11 @@ ghost use Rattle.std.specs.Prelude.{◌≡◌};
 ghost use Rattle.commands.specs.Telling.{Tells, TellsSession, TellsDraft, IsWhole, told_of, told_of_move};
 
 use crate::asking::ask;
-use crate::command::{Call, Change, Command, Told, outcome};
 use crate::drafting::{act_on_draft, change_in};
 use crate::known::KnownSession;
 use crate::stage::{OpenDraft, Stage};
+use crate::told::{Told, outcome};
+use call_types::{Call, Change, Command};
 use euler_operators::{Op, Refusal};
 use std::alloc::Global;
 use undo_journal::{Draft, Failure};

@@ -1,7 +1,7 @@
 -- Machines from which lines are answered alike.
 use Rattle.script_laws.proofs.Prelude.{◌≡◌, ◌≢◌, inr, ℕ, Bool, true, false, cond, List, [], ◌∷◌, ◌++◌, codes, Option, Some, None, Result, Ok, Err, refl, sym, ap, subst, ◌∙◌, arith, true≢false, Refusal, Model, Machine, held, undo_refusal, undo, request_of, lines_of, words, Request, Fault, listing, done, answer_text, moved, obeyed, answered, answer_of, machine_after, output_from, Answer, Reply as Told, Listing, EndsLine, ended, oks, Adds, UndoAndRedoCanBeLeftOut, UndoneLinesCanBeLeftOut}
 use Rattle.script_reader.specs.Newline as newline
-use Rattle.commands.specs.declared.command.Command.TheVariants as command
+use Rattle.call_types.specs.declared.command.Command.TheVariants as command
 use Rattle.script_reader.specs.declared.command.Request.TheVariants as request
 use Rattle.solid_listing.specs.declared.reply.Reply.TheVariants as reply
 use Rattle.script_laws.proofs.Behind.{after, reached, reached_append, adds_from, from_adds, alike, lines_append, ends_append, ends_line}

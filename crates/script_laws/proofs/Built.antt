@@ -2,10 +2,10 @@
 use Rattle.script_laws.proofs.Prelude.{◌≡◌, ◌⊎◌, inl, inr, ℕ, Bool, true, false, List, [], ◌∷◌, Option, Some, None, Result, Ok, Err, ℤ, pos, int_lt, refl, sym, ap, subst, ◌∙◌, AllByRecursion, Model, Has, is_number, Refusal, Why, NumberRange, NoSolid, Machine, start, held, undo, undo_refusal, redo, redo_refusal, block, block_refusal, plane_with, split, split_refusal, block_made, BuiltHaveVolume, IsBuilt, redone, solid_split, started, undone, answer, face_refusal, solid_refusal, plane_of, is_flat, six_volume, counts, Change, Question, value_or_refusal, request_of, lines_of, over, Request, Fault, reply_text, AsksFor, asked_for, answer_when, answer_text, moved, given, obeyed, answered, answer_of, machine_after, Answer, Reply as Says, IsBlockOrSplit, OnlyBlocksAndSplits, BlocksAndSplitsHaveVolume}
 use Rattle.euler_operators.specs.Table as table
 use Rattle.euler_operators.specs.Refusal as why
-use Rattle.commands.specs.declared.command.Change.TheVariants as change
-use Rattle.commands.specs.declared.command.Question.TheVariants as question
-use Rattle.commands.specs.declared.command.Command.TheVariants as command
-use Rattle.commands.specs.declared.command.Told.TheVariants as told
+use Rattle.call_types.specs.declared.command.Change.TheVariants as change
+use Rattle.call_types.specs.declared.command.Question.TheVariants as question
+use Rattle.call_types.specs.declared.command.Command.TheVariants as command
+use Rattle.commands.specs.declared.told.Told.TheVariants as told
 use Rattle.script_reader.specs.declared.command.Request.TheVariants as request
 use Rattle.solid_listing.specs.declared.reply.Reply.TheVariants as reply
 use Rattle.script_laws.proofs.Behind.{after, reached}

@@ -1,7 +1,7 @@
 -- What isn't answered `ok` leaves the machine as it was.
 use Rattle.script_laws.proofs.Prelude.{◌≡◌, ◌⊎◌, inl, inr, ℕ, false, List, [], ◌∷◌, ◌++◌, codes, Option, Some, None, Result, Ok, Err, refl, sym, ap, ◌∙◌, append-nil, Refusal, Machine, request_of, lines_of, Command, Request, Fault, first_line, reply_text, done, answer_text, moved, given, obeyed, answered, answer_of, machine_after, output_from, Answer, EndsLine, ended, AnswersStay, OthersCanBeLeftOut}
 use Rattle.script_reader.specs.Newline as newline
-use Rattle.commands.specs.declared.command.Command.TheVariants as command
+use Rattle.call_types.specs.declared.command.Command.TheVariants as command
 use Rattle.script_reader.specs.declared.command.Request.TheVariants as request
 use Rattle.solid_listing.specs.declared.reply.Reply.TheVariants as reply
 use Rattle.script_laws.proofs.Behind.{after, ends_append, ends_line, reached, reached_append, from_adds, adds_from, alike}

@@ -10,10 +10,10 @@ use Rattle.gluing.specs.Machine.{glue, glue_refusal}
 use Rattle.gluing.specs.Measures.{GluedSolid}
 use Rattle.plane_split.specs.SplitModels.{PartsAreHeld, HeldShareVolumes}
 use Rattle.command_laws.specs.Solids.{BlocksAreThere, GluesJoinSolids, SweepsKeepSolids, SweptAreThere}
-use Rattle.commands.specs.declared.command.Change.TheVariants as change
-use Rattle.commands.specs.declared.command.Question.TheVariants as question
-use Rattle.commands.specs.declared.command.Command.TheVariants as command
-use Rattle.commands.specs.declared.command.Told.TheVariants as told
+use Rattle.call_types.specs.declared.command.Change.TheVariants as change
+use Rattle.call_types.specs.declared.command.Question.TheVariants as question
+use Rattle.call_types.specs.declared.command.Command.TheVariants as command
+use Rattle.commands.specs.declared.told.Told.TheVariants as told
 use Rattle.script_reader.specs.declared.command.Request.TheVariants as request
 use Rattle.solid_listing.specs.declared.reply.Reply.TheVariants as reply
 use Rattle.script_laws.specs.Laws.{Spells}

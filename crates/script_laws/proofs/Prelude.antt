@@ -1,9 +1,9 @@
 -- What the proofs here take from elsewhere, passed on from one place. Declares nothing.
 pub use Rattle.commands.specs.Telling.{TellsSession, asked, value_or_refusal}
-pub use Rattle.commands.specs.declared.command.Change.{Change}
-pub use Rattle.commands.specs.declared.command.Command.{Command}
-pub use Rattle.commands.specs.declared.command.Question.{Question}
-pub use Rattle.commands.specs.declared.command.Told.{Told}
+pub use Rattle.call_types.specs.declared.command.Change.{Change}
+pub use Rattle.call_types.specs.declared.command.Command.{Command}
+pub use Rattle.call_types.specs.declared.command.Question.{Question}
+pub use Rattle.commands.specs.declared.told.Told.{Told}
 pub use Rattle.convex_laws.specs.Convex.{BuiltHaveVolume, IsBuilt, block_made, redone, solid_split, started, undone}
 pub use Rattle.euler_operators.specs.Common.{Edge, Face, Has, Kind, Loop, LoopContent, Model, Plane, Point, Solid, Sound, Vertex, cycle, direction, dot, is_number, lone, rings_of}
 unfoldable pub use Rattle.euler_operators.specs.Common.{after, arc, canonical, code, conditions, content, edge_of, effect, empty_model, face_of, first_false, half, has_rings, holds, is_first, loop_of, mate, mev_at, mev_lone, mvfs, outer, point_of, rest, rotate_to, solid_of, tail}

@@ -1,7 +1,7 @@
 -- Which lines spell undo, and which redo.
 use Rattle.script_laws.proofs.Prelude.{◌≡◌, ◌≢◌, inl, inr, ℕ, List, [], ◌∷◌, codes, Ok, ap, ◌∙◌, words, kinds_of, build, word_of, request_of, Spells, WordsSpell, Request, line_ok}
 use Rattle.script_reader.specs.Places.{Word}
-use Rattle.commands.specs.declared.command.Command.TheVariants as command
+use Rattle.call_types.specs.declared.command.Command.TheVariants as command
 use Rattle.script_reader.specs.declared.command.Request.TheVariants.{Give}
 use Rattle.script_reader.specs.declared.name.Name.{Name}
 use Rattle.script_reader.specs.declared.name.Name.TheVariants as name

@@ -2,9 +2,9 @@
 use Rattle.script_laws.proofs.Prelude.{◌≡◌, ◌≢◌, ◌⊎◌, inl, inr, ℕ, false, List, [], ◌∷◌, ◌++◌, codes, Option, Some, None, Result, Ok, Err, refl, sym, ap, subst, ◌∙◌, append-nil, false≢true, AllByRecursion, Model, Refusal, Machine, held, answer, face_refusal, solid_refusal, plane_of, is_flat, six_volume, counts, request_of, lines_of, within_limit, Lacks, Journal, new_journal, over, Command, Change, Question, Told, asked, value_or_refusal, TellsSession, Request, Fault, reply_text, answer_when, Gives, Obeys, Answers, Judges, answer_text, one_line, asked_for, answer_of, machine_after, Answer, Reply as Says, Summary, judges_so, AsksForChange, EndsLine, ended, Tells, RunsTell, BrokenRunsTell, FailedRunsTell}
 use Rattle.script_reader.specs.Lined.{IsLined}
 use Rattle.undo_journal.proofs.Journals.{same_machine}
-use Rattle.commands.specs.declared.command.Command.TheVariants as command
-use Rattle.commands.specs.declared.command.Question.TheVariants as question
-use Rattle.commands.specs.declared.command.Told.TheVariants as told
+use Rattle.call_types.specs.declared.command.Command.TheVariants as command
+use Rattle.call_types.specs.declared.command.Question.TheVariants as question
+use Rattle.commands.specs.declared.told.Told.TheVariants as told
 use Rattle.commands.proofs.Kept.{session_kept}
 use Rattle.script_reader.specs.declared.command.Request.TheVariants as request
 use Rattle.script_reader.proofs.LinedLaws.{lines_are_lined}

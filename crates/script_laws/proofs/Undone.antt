@@ -1,8 +1,8 @@
 -- Undo and redo in a script.
 use Rattle.script_laws.proofs.Prelude.{◌≡◌, ◌≢◌, ℕ, zero, suc, ◌+◌, Bool, true, false, cond, nat_eq, List, [], ◌∷◌, ◌++◌, codes, length, Option, Some, None, Result, Ok, Err, refl, sym, ap, ◌∙◌, arith, append-nil, append_assoc, nat_tests, AllByRecursion, Refusal, Model, Machine, start, held, undo, undo_refusal, redo, redo_refusal, answer, face_refusal, solid_refusal, plane_of, is_flat, six_volume, counts, arguments, request_of, lines_of, words, Question, Told, asked, value_or_refusal, Request, Fault, listing, done, answer_when, answer_text, moved, obeyed, answered, answer_of, machine_after, output_from, Answer, answers, EndsLine, times, HasNo, oks, Adds}
-use Rattle.commands.specs.declared.command.Question.TheVariants as question
-use Rattle.commands.specs.declared.command.Command.TheVariants as command
-use Rattle.commands.specs.declared.command.Told.TheVariants as told
+use Rattle.call_types.specs.declared.command.Question.TheVariants as question
+use Rattle.call_types.specs.declared.command.Command.TheVariants as command
+use Rattle.commands.specs.declared.told.Told.TheVariants as told
 use Rattle.script_reader.specs.declared.command.Request.TheVariants as request
 use Rattle.solid_listing.proofs.EmptyModels.{empty-listing}
 use Rattle.script_laws.proofs.Behind.{after, reached, adds_from}

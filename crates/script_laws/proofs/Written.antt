@@ -2,9 +2,9 @@
 use Rattle.script_laws.proofs.Prelude.{◌≡◌, inl, inr, ℕ, suc, ◌*◌, ◌^◌, ◌<◌, ◌≤◌, List, [], ◌∷◌, ◌++◌, map, codes, length, length-append, ℤ, pos, negsuc, neg_ℤ, Ok, refl, sym, ap, arith, decimal, decimal_is_IsNumeral, decimal_nonempty, length-decimal-le, length_signed_le, signed_decimal, AllByRecursion, AllDigits, request_of, HasNoGap, IsAtGap, IsParted, SaysNumber, SaysInteger, IsAscii, WordsSpell, words, Request, ok_line, Lacks-append, spaced, IsWritten, BlockLinesSpell, SplitLinesSpell, VolumeLinesSpell}
 use Rattle.std.proofs.lemmas.Str.Parse.{digit_from_value}
 use Rattle.script_reader.specs.Newline as newline
-use Rattle.commands.specs.declared.command.Change.TheVariants as change
-use Rattle.commands.specs.declared.command.Question.TheVariants as question
-use Rattle.commands.specs.declared.command.Command.TheVariants as command
+use Rattle.call_types.specs.declared.command.Change.TheVariants as change
+use Rattle.call_types.specs.declared.command.Question.TheVariants as question
+use Rattle.call_types.specs.declared.command.Command.TheVariants as command
 use Rattle.script_reader.specs.declared.command.Request.TheVariants as request
 use Rattle.script_reader.specs.declared.name.Name.TheVariants as name
 use Rattle.script_reader.proofs.PartLaws.{parted_words}

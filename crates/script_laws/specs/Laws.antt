@@ -7,10 +7,10 @@ use Rattle.euler_operators.specs.Refusal as why
 use Rattle.euler_operators.specs.declared.Why.{Why}
 use Rattle.euler_operators.specs.declared.Why.TheVariants.{NoSolid}
 use Rattle.euler_operators.specs.Common.{Plane, Point, dot, direction}
-use Rattle.commands.specs.declared.command.Change.TheVariants as change
-use Rattle.commands.specs.declared.command.Question.TheVariants as question
-use Rattle.commands.specs.declared.command.Command.{Command}
-use Rattle.commands.specs.declared.command.Command.TheVariants.{Ask, Change}
+use Rattle.call_types.specs.declared.command.Change.TheVariants as change
+use Rattle.call_types.specs.declared.command.Question.TheVariants as question
+use Rattle.call_types.specs.declared.command.Command.{Command}
+use Rattle.call_types.specs.declared.command.Command.TheVariants.{Ask, Change}
 use Rattle.solid_listing.specs.Lines.{spaced}
 use Rattle.solid_listing.specs.Replies.{reply_text}
 use Rattle.solid_listing.specs.declared.reply.Reply.{Reply}

@@ -4,9 +4,9 @@ use Rattle.std.specs.Io.KnownBytes.{Consumes, Appends, IsAtEnd}
 use Rattle.std.specs.List.{AllByRecursion}
 use Rattle.script_reader.specs.Lines.{lines_of}
 use Rattle.script_reader.specs.Words.{words}
-use Rattle.commands.specs.declared.command.Change.{Change}
-use Rattle.commands.specs.declared.command.Change.TheVariants as change
-use Rattle.commands.specs.declared.command.Command.TheVariants as command
+use Rattle.call_types.specs.declared.command.Change.{Change}
+use Rattle.call_types.specs.declared.command.Change.TheVariants as change
+use Rattle.call_types.specs.declared.command.Command.TheVariants as command
 use Rattle.script_running.specs.Laws.{AsksFor}
 use Rattle.script_running.specs.Output.{output_of}
 use Rattle.script_running.specs.declared.script_judging.judging.Summary.{Summary}

@@ -1,8 +1,8 @@
 -- The points of a line, and the changes that take them.
 use Rattle.std.specs.Prelude.{ℕ, List, [], Result, Ok, Err}
 use Rattle.euler_operators.specs.Common.{Point}
-use Rattle.commands.specs.declared.command.Change.{Change}
-use Rattle.commands.specs.declared.command.Change.TheVariants as change
+use Rattle.call_types.specs.declared.command.Change.{Change}
+use Rattle.call_types.specs.declared.command.Change.TheVariants as change
 use Rattle.script_reader.specs.Words.{words}
 use Rattle.script_reader.specs.Places.{Word, points_of}
 use Rattle.script_reader.specs.declared.command.Fault.{Fault}

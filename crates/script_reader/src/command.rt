@@ -3,7 +3,7 @@ ghost use Rattle.std.specs.Prelude.{◌≡◌};
 ghost use Rattle.script_reader.specs.Fault.{code_of};
 
 use super::polygon::{Outline, Polygon};
-use commands::Command;
+use call_types::Command;
 
 /// What a line of a script asks for. Numbers may be outside their ranges; they are tested when the command is carried out.
 #[derive(Drop)]

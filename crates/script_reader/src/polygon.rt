@@ -4,7 +4,7 @@ ghost use Rattle.std.specs.Prelude.{◌≡◌};
 use super::command::Fault;
 use super::places::points;
 use arrayvec::ArrayVec;
-use commands::{Change, Points};
+use call_types::{Change, Points};
 use euler_operators::Point;
 use std::marker::Model;
 

@@ -8,7 +8,7 @@ use super::name::Name;
 use super::operators::operator;
 use super::places::Words;
 use super::polygon::{Outline, Polygon};
-use commands::{Change, Command, Question};
+use call_types::{Change, Command, Question};
 
 #[tactic(auto, unfolding(crate::specs::Grammar::arguments))]
 fn lamina<'a>(words: &mut Words<'a>) -> Result<Request<'a>, Fault>

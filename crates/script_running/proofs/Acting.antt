@@ -1,6 +1,6 @@
 -- The one session or draft of a console, and what a call does to it.
 use Rattle.script_running.proofs.Prelude.{◌≡◌, ◌∙◌, Bool, true, false, Option, Some, refl, sym, ap, subst, false≢true, Tells, asked, shown, Command, Question, Told, Stage, Console, Makes, UnlessLacking, answer_after, is_draft}
-use Rattle.commands.specs.declared.command.Call.{Call}
+use Rattle.call_types.specs.declared.command.Call.{Call}
 use Rattle.commands.specs.declared.stage.OpenDraft.{OpenDraft}
 use Rattle.euler_operators.specs.Common.{Model}
 use Rattle.undo_journal.specs.Journal.{Journal}

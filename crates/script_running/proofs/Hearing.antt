@@ -1,6 +1,6 @@
 -- What a line that was heard comes to.
 use Rattle.script_running.proofs.Prelude.{◌≡◌, inl, inr, ℕ, Bool, false, List, codes, length, Result, Ok, Err, refl, sym, ap, subst, nat_lt, cases_Bool, Command, words, Fault, Request, arguments, Console, Makes, UnlessLacking, is_draft, Spoken, gives, tells, read, spoken, said_of, lacks_said, Says, Hears}
-use Rattle.commands.specs.declared.command.Call.{Call}
+use Rattle.call_types.specs.declared.command.Call.{Call}
 use Rattle.script_reader.specs.Grammar.{is_ascii, request_of_words}
 use Rattle.script_reader.proofs.AsciiWords.{words_tell}
 

@@ -1,6 +1,6 @@
 -- What a session is told of a call is what a script's line is answered that asks for it.
 use Rattle.script_running.proofs.Prelude.{◌≡◌, ◌∙◌, Bool, true, false, ℕ, List, Option, Some, None, Ok, Err, refl, sym, ap, subst, Result, Command, Question, Told, Stage, Fault, Request, answer, counts, face_refusal, is_flat, plane_of, six_volume, solid_refusal, request_of, Console, Answers, Gives, Judges, answer_when, Makes, UnlessLacking, answer_after, Hears, LinesAreJudged, Says, Spoken, gives, lacks_said, read, spoken, tells}
-use Rattle.commands.specs.declared.command.Call.{Call}
+use Rattle.call_types.specs.declared.command.Call.{Call}
 use Rattle.commands.specs.Telling.{Settled, TellsSession, value_or_refusal}
 use Rattle.euler_operators.specs.declared.Refusal.{Refusal}
 use Rattle.undo_journal.specs.Journal.{Journal}

@@ -1,8 +1,8 @@
 -- Lines that are answered without `memory` are answered by their output.
 use Rattle.script_running.proofs.Prelude.{◌≡◌, inl, inr, ℕ, Bool, true, false, List, [], ◌∷◌, ◌++◌, refl, sym, ap, subst, ◌∙◌, arith, Option, Some, None, Ok, Err, ◌⊎◌, Result, if◌then◌else◌, append-nil, false≢true, Answer, Ask, Change, Command, Fault, Journal, LeavesRecord, Machine, Model, Question, Redo, Refusal, Request, Settled, Summary, TellsSession, Told, Undo, accepted, after_redo, after_undo, over, request_of, held, made, operators_of, record_of, recorded, value_or_refusal, same_machine, answer, face_refusal, solid_refusal, plane_of, is_flat, six_volume, counts, done, answer_when, Gives, Obeys, Answers, Judges, answer_text, one_line, counted, stops, Outs, moved, given, obeyed, answered, answer_of, machine_after, output_from, summary_from}
 use Rattle.script_running.specs.Common.{Says, asked}
-use Rattle.commands.specs.declared.command.Question.TheVariants as question
-use Rattle.commands.specs.declared.command.Told.TheVariants as told
+use Rattle.call_types.specs.declared.command.Question.TheVariants as question
+use Rattle.commands.specs.declared.told.Told.TheVariants as told
 use Rattle.script_reader.specs.declared.command.Request.TheVariants as request
 use Rattle.solid_listing.specs.declared.reply.Reply.TheVariants as reply
 

@@ -2,11 +2,11 @@
 pub use Rattle.commands.specs.Calls.{IsCall}
 pub use Rattle.commands.specs.Changes.{made, operators_of, refusal_of}
 pub use Rattle.commands.specs.Telling.{LeavesRecord, Settled, TellsSession, asked, told_of, told_of_move, value_or_refusal}
-pub use Rattle.commands.specs.declared.command.Call.TheVariants.{Give}
-pub use Rattle.commands.specs.declared.command.Command.TheVariants.{Ask, Change, Redo, Undo}
-pub use Rattle.commands.specs.declared.command.Command.{Command}
-pub use Rattle.commands.specs.declared.command.Question.{Question}
-pub use Rattle.commands.specs.declared.command.Told.{Told}
+pub use Rattle.call_types.specs.declared.command.Call.TheVariants.{Give}
+pub use Rattle.call_types.specs.declared.command.Command.TheVariants.{Ask, Change, Redo, Undo}
+pub use Rattle.call_types.specs.declared.command.Command.{Command}
+pub use Rattle.call_types.specs.declared.command.Question.{Question}
+pub use Rattle.commands.specs.declared.told.Told.{Told}
 pub use Rattle.commands.specs.declared.stage.Stage.TheVariants.{Drafting, Session}
 pub use Rattle.commands.specs.declared.stage.Stage.{Stage}
 pub use Rattle.euler_operators.specs.Common.{Model, Sound}

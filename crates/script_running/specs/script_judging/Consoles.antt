@@ -1,7 +1,8 @@
 -- What a call does to a console: a session, or a draft of its next command, with the answer to the last command.
 use Rattle.std.specs.Prelude.{◌≡◌, Bool, true, false, not, Option, Some, None}
 use Rattle.commands.specs.Telling.{Tells, asked, shown}
-use Rattle.commands.specs.declared.command.{Call.Call, Change.Change, Command.Command, Question.Question, Told.Told}
+use Rattle.call_types.specs.declared.command.{Call.Call, Change.Change, Command.Command, Question.Question}
+use Rattle.commands.specs.declared.told.Told.{Told}
 use Rattle.commands.specs.declared.stage.Stage.{Stage}
 use Rattle.euler_operators.specs.declared.Op.{Op}
 use Rattle.undo_journal.specs.Journal.{new_journal}

@@ -1,6 +1,6 @@
 -- What a line does to a console: it is a call, or it has an answer of its own.
 use Rattle.std.specs.Prelude.{◌≡◌, ℕ, Bool, false, cond, List, Option, Some, Result, Ok, Err}
-use Rattle.commands.specs.declared.command.{Call.Call, Change.Change, Command.Command}
+use Rattle.call_types.specs.declared.command.{Call.Call, Change.Change, Command.Command}
 use Rattle.commands.specs.declared.stage.Stage.{Stage}
 use Rattle.script_reader.specs.Grammar.{is_ascii, request_of}
 use Rattle.script_reader.specs.Polygon.{over}

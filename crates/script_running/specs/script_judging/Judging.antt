@@ -3,7 +3,7 @@ use Rattle.std.specs.Prelude.{◌≡◌, ℕ, ◌+◌, ℤ, pos, List, [], ◌�
 use Rattle.script_running.specs.Common.{Answer, Change, Command, Fault, Journal, Listing, Machine, Refusal, Says, Request, Silent, Summary, TellsSession, Told, over, request_of, held, listing, reply_text}
 use Rattle.euler_operators.specs.Refusal as refusal
 use Rattle.solid_measure.specs.declared.solid_counts.Tally.{Tally}
-use Rattle.commands.specs.declared.command.Told.TheVariants as told
+use Rattle.commands.specs.declared.told.Told.TheVariants as told
 use Rattle.script_reader.specs.declared.command.Request.TheVariants as request
 use Rattle.script_reader.specs.Fault as fault
 use Rattle.solid_listing.specs.declared.reply.Reply.TheVariants as reply

@@ -1,6 +1,7 @@
 -- The definitions of the crates below that are cited here, and the types of this crate, passed on from one place. Declares nothing.
 pub use Rattle.commands.specs.Telling.{Tells, asked, redos, shown, steps_in, told_of, undos}
-pub use Rattle.commands.specs.declared.command.{Call.Call, Change.Change, Command.Command, Question.Question, Told.Told}
+pub use Rattle.call_types.specs.declared.command.{Call.Call, Change.Change, Command.Command, Question.Question}
+pub use Rattle.commands.specs.declared.told.Told.{Told}
 pub use Rattle.commands.specs.declared.stage.Stage.{Stage}
 pub use Rattle.euler_conditions.specs.Store.{IsNextFace, IsNextNumber, IsNextRing, Store, empty_store}
 pub use Rattle.euler_operators.specs.Common.{Content, Corner, HalfEdge, IsIn, IsRotation, Kind, LoopContent, LoopRow, Model, Plane, Point, Solid, Sound, cycle, cycle_of, has, has_half, items_of, lone, minus, no_loop, plus}

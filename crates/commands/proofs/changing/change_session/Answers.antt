@@ -1,6 +1,6 @@
 use Rattle.commands.proofs.Prelude.{List, subst, Point, TellsSession, told_of}
-use Rattle.commands.specs.declared.command.Change.TheVariants as change
-use Rattle.commands.specs.declared.command.Command.TheVariants as command
+use Rattle.call_types.specs.declared.command.Change.TheVariants as change
+use Rattle.call_types.specs.declared.command.Command.TheVariants as command
 use Rattle.commands.proofs.Settling.{settled, settled_exactly}
 use Rattle.commands.proofs.changing.change_session.Goals as goal
 

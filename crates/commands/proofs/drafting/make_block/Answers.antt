@@ -1,6 +1,6 @@
 use Rattle.commands.proofs.Prelude.{w64, to_z-of_z, on_ok_weaker, at_sizes, TellsDraft, told_of}
-use Rattle.commands.specs.declared.command.Change.TheVariants as change
-use Rattle.commands.specs.declared.command.Command.TheVariants as command
+use Rattle.call_types.specs.declared.command.Change.TheVariants as change
+use Rattle.call_types.specs.declared.command.Command.TheVariants as command
 use Rattle.commands.proofs.Settling.{settled_exactly}
 use Rattle.commands.proofs.drafting.make_block.Goals as goal
 

@@ -1,7 +1,7 @@
 use Rattle.commands.proofs.Prelude.{refl, sym, subst, Drafting, OpenDraft, Session, Stage, Tells, told_of}
-use Rattle.commands.specs.declared.command.Call.TheVariants as call
-use Rattle.commands.specs.declared.command.Change.TheVariants as change
-use Rattle.commands.specs.declared.command.Command.TheVariants as command
+use Rattle.call_types.specs.declared.command.Call.TheVariants as call
+use Rattle.call_types.specs.declared.command.Change.TheVariants as change
+use Rattle.call_types.specs.declared.command.Command.TheVariants as command
 use Rattle.commands.proofs.making.act.Goals as goal
 
 pub returns-in-Session : goal.returns-in-Session

@@ -3,9 +3,9 @@ use Rattle.session_slots.specs.declared.slot.Slot.{Slot}
 use Rattle.session_slots.specs.Answered.{status_of}
 use Rattle.session_slots.specs.Opening.{is_staged}
 use Rattle.session_slots.specs.Slots.{Slot_does}
-use Rattle.commands.specs.declared.command.Change.TheVariants as change
-use Rattle.commands.specs.declared.command.Command.TheVariants as command
-use Rattle.commands.specs.declared.command.Call.TheVariants as call
+use Rattle.call_types.specs.declared.command.Change.TheVariants as change
+use Rattle.call_types.specs.declared.command.Command.TheVariants as command
+use Rattle.call_types.specs.declared.command.Call.TheVariants as call
 use Rattle.gwb_c.proofs.Staying.{stays}
 use Rattle.gwb_c.specs.Handle.{none}
 use Rattle.gwb_c.proofs.Turning.{goes_on}

@@ -1,5 +1,5 @@
 use Rattle.script_running.proofs.Prelude.{◌∙◌, ap, asked, Command, Told, answer_after}
-use Rattle.commands.specs.declared.command.Call.{Call}
+use Rattle.call_types.specs.declared.command.Call.{Call}
 use Rattle.script_running.proofs.Acting.{makes_so, answered}
 use Rattle.script_running.proofs.script_judging.calls.ask.Goals as goal
 

@@ -1,6 +1,6 @@
 use Rattle.std.proofs.Common.{◌∙◌, refl, sym}
-use Rattle.commands.specs.declared.command.Call.{Call}
-use Rattle.commands.specs.declared.command.Command.{Command}
+use Rattle.call_types.specs.declared.command.Call.{Call}
+use Rattle.call_types.specs.declared.command.Command.{Command}
 use Rattle.script_running.proofs.Acting.{makes_so}
 use Rattle.script_running.proofs.script_judging.calls.change.Goals as goal
 

@@ -1,6 +1,6 @@
 use Rattle.script_running.proofs.Prelude.{sym, subst, Makes}
-use Rattle.commands.specs.declared.command.Call.{Call}
-use Rattle.commands.specs.declared.command.Command.{Command}
+use Rattle.call_types.specs.declared.command.Call.{Call}
+use Rattle.call_types.specs.declared.command.Command.{Command}
 use Rattle.script_running.proofs.Acting.{led_so, undone, redone}
 use Rattle.script_running.proofs.script_judging.calls.give.Goals as goal
 

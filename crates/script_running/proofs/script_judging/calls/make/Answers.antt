@@ -1,5 +1,5 @@
 use Rattle.script_running.proofs.Prelude.{sym, subst, Makes}
-use Rattle.commands.specs.declared.command.Call.{Call}
+use Rattle.call_types.specs.declared.command.Call.{Call}
 use Rattle.script_running.proofs.script_judging.calls.make.Goals as goal
 
 pub returns-in-Give : goal.returns-in-Give

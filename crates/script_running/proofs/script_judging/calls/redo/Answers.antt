@@ -1,5 +1,5 @@
 use Rattle.script_running.proofs.Prelude.{◌∙◌, Some, refl, ap, Command, Stage, settled_move, told_of_move, is_draft}
-use Rattle.commands.specs.declared.command.Call.{Call}
+use Rattle.call_types.specs.declared.command.Call.{Call}
 use Rattle.script_running.proofs.Acting.{done_there, makes_so}
 use Rattle.script_running.proofs.script_judging.calls.redo.Goals as goal
 

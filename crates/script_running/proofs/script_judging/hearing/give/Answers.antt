@@ -1,5 +1,5 @@
 use Rattle.script_running.proofs.Prelude.{sym, subst, UnlessLacking, Says, gives, lacks_said}
-use Rattle.commands.specs.declared.command.Command.{Command}
+use Rattle.call_types.specs.declared.command.Command.{Command}
 use Rattle.script_running.proofs.script_judging.hearing.give.Goals as goal
 
 pub returns-in-Undo : goal.returns-in-Undo
