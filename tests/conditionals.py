@@ -10,7 +10,8 @@ from typing import Iterator
 
 from counts import TOP, command_line, told
 
-OWNING_NOTHING = ('Axes', 'Failure', 'Place', 'Point', 'ScaledPoint', 'Side', 'Span', 'Strip', 'Wide', 'gwb_near_plane')
+OWNING_NOTHING = ('Along', 'Axes', 'Failure', 'Place', 'Point', 'ScaledPoint', 'Side', 'Span', 'Spot', 'Strip', 'Vector', 'Wide', 'array',
+                  'gwb_near_plane')
 
 
 def complaints() -> Iterator[str]:

@@ -150,6 +150,9 @@ built 'features are built' library_features.cpp "${CXX:-c++}" -std=c++17 -Wold-s
 counted 'solids killed, copied and moved' "$dir/built/library_features"
 built 'machining is built' library_machining.cpp "${CXX:-c++}" -std=c++17 -Wold-style-cast -Wshadow
 counted 'features and cuts as in Python, and beside unit cubes' "$dir/built/library_machining"
+built 'Booleans are built' library_booleans.cpp "${CXX:-c++}" -std=c++17 -O1 -Wold-style-cast -Wshadow
+counted 'Booleans beside unit cubes, and each refusal' "$dir/built/library_booleans"
+sed -n 's/^\([^:]*: [0-9]*\)$/  \1/p' "$dir/log"
 built 'refused memory of features is built' library_features_refused.c "${CC:-cc}" -std=gnu11 -O2
 counted 'each allocation of features refused' "$dir/alone/library_features_refused" 7
 built 'files of other forms are built' library_export.cpp "${CXX:-c++}" -std=c++17 -Wold-style-cast -Wshadow
@@ -158,9 +161,15 @@ if echo '#include <CGAL/version.h>' | "${CXX:-c++}" -E -x c++ - > /dev/null 2>&1
     tried 'the graph of CGAL is built' "${CXX:-c++}" -std=c++17 -O1 -Wall -Wextra -Werror -Wold-style-cast -Wshadow -Ibindings/include \
         -o "$dir/built/library_cgal" tests/library_cgal.cpp "$dir/built/libgwb.a" -lgmp -lmpfr
     counted 'the graph of CGAL' "$dir/built/library_cgal"
+    tried 'Booleans beside Nef polyhedra are built' "${CXX:-c++}" -std=c++17 -O1 -Wall -Wextra -Werror -Wold-style-cast -Wshadow -Ibindings/include \
+        -o "$dir/built/library_booleans_nef" tests/library_booleans_nef.cpp "$dir/built/libgwb.a" -lgmp -lmpfr
+    counted 'Booleans beside Nef polyhedra' "$dir/built/library_booleans_nef"
+    grep ' operations:' "$dir/log"
 else
-    echo 'skipped: the graph of CGAL: there is no CGAL'
-    skipped=$((skipped + 1))
+    for name in 'the graph of CGAL' 'Booleans beside Nef polyhedra'; do
+        echo "skipped: $name: there is no CGAL"
+        skipped=$((skipped + 1))
+    done
 fi
 built 'one program in C is built' library_same_c.c "${CC:-cc}" -std=gnu11 -O2
 built 'one program in C++ is built' library_same_cpp.cpp "${CXX:-c++}" -std=c++17 -Wold-style-cast -Wshadow
@@ -212,7 +221,7 @@ if has cargo 'cargo check where there is no archive' 'cargo doc where there is n
         --manifest-path bindings/rust/Cargo.toml
 fi
 # (each is a program that was built above)
-in_cpp='library_cpp library_results library_history library_features library_machining library_record library_watch library_outlines library_heap library_load library_triangles'
+in_cpp='library_cpp library_results library_history library_features library_machining library_booleans library_record library_watch library_outlines library_heap library_load library_triangles'
 threads='library_threads library_sharing library_pages'
 if has valgrind 'valgrind over the example in C' $in_cpp $threads; then
     tried 'valgrind over the example in C' valgrind -q --error-exitcode=9 --leak-check=full --show-leak-kinds=all "$dir/alone/block_c"
@@ -241,7 +250,7 @@ if "${CC:-cc}" $sanitizers -o "$dir/empty" "$dir/empty.c" 2> "$dir/err" && "$dir
     for name in library_features_refused library_record library_watch library_outlines library_heap library_load library_triangles library_threads library_pages library_worked; do
         sanitized "$name.c" "${CC:-cc}" -std=gnu11
     done
-    for name in library_cpp library_history library_features library_machining library_sharing; do
+    for name in library_cpp library_history library_features library_machining library_booleans library_sharing; do
         sanitized "$name.cpp" "${CXX:-c++}" -std=c++17
     done
     sanitized library_results.cpp "${CXX:-c++}" -std=c++17 -fno-exceptions

@@ -2,7 +2,8 @@
  * model, the draft and the depth are as they were; given again the feature is made; nothing stays allocated when the session is closed. The last
  * line counts.
  *
- *     library_features_refused [EVERY]     of the allocations each, or each EVERYth where one is said, and a fifth of these with all after it */
+ *     library_features_refused [EVERY]     of the allocations each, or each EVERYth where one is said, and a fifth of these with all after it; where EVERY
+ *                                          is above 10, a fifth of these of what takes long: Booleans */
 #include "gwb_features.h"
 #include <stdio.h>
 #include <stdlib.h>
@@ -143,6 +144,27 @@ static enum gwb_kind unite(gwb *g)
     static const uint32_t both[] = {1, 3};
     return gwb_union(g, both, 2, &why);
 }
+/* (of tetrahedra, which are small: each is tried thousands of times) */
+static enum gwb_kind corner_at(gwb *g, uint32_t solid, int64_t at, int64_t size)
+{
+    const gwb_point points[] = {{at, at, at}, {at + size, at, at}, {at, at + size, at}, {at, at, at + size}};
+    static const uint32_t corners[] = {0, 2, 1, 0, 1, 3, 1, 2, 3, 0, 3, 2}, sizes[] = {3, 3, 3, 3};
+    gwb_polyhedron_made made;
+    return gwb_polyhedron(g, solid, points, 4, corners, sizes, 4, &made, &why);
+}
+static const uint32_t crossing[] = {21, 22}, beside[] = {1, 3};
+static enum gwb_kind two_that_cross(gwb *g) { return corner_at(g, 21, 30, 6) == GWB_OK ? corner_at(g, 22, 31, 6) : GWB_NO_CALL; }
+static enum gwb_kind two_apart(gwb *g)
+{
+    const bool are_made = corner_at(g, 21, 30, 6) == GWB_OK && corner_at(g, 22, 40, 6) == GWB_OK;
+    return are_made ? gwb_union(g, crossing, 2, &why) : GWB_NO_CALL;
+}
+static enum gwb_kind two_glued(gwb *g) { return gwb_glue_all(g, beside, 2, &why); }
+static enum gwb_kind unite_crossing(gwb *g) { return gwb_union(g, crossing, 2, &why); }
+static enum gwb_kind subtract(gwb *g) { return gwb_subtract(g, crossing[0], &crossing[1], 1, &why); }
+static enum gwb_kind intersect(gwb *g) { return gwb_intersect(g, crossing, 2, &why); }
+static enum gwb_kind separate(gwb *g) { return gwb_separate(g, crossing[0], &why); }
+static enum gwb_kind join_faces(gwb *g) { return gwb_join_faces(g, beside[0], &why); }
 static enum gwb_kind advice(gwb *g)
 {
     gwb_advice *found = NULL;
@@ -163,14 +185,18 @@ static enum gwb_kind compare(gwb *g)
 static const struct feature {
     const char *name;
     enum gwb_kind (*make)(gwb *g);
-} features[] = {{"pocket", pocket},     {"boss", boss},   {"hole", hole},         {"ring", ring},       {"notch", notch},
-                {"slot", slot},         {"groove", groove}, {"shoulder", shoulder}, {"chamfer", chamfer}, {"copy", copy},
-                {"move", move},         {"kill", kill_one}, {"profile", make_profile}, {"pattern", pattern}, {"around", around}, {"chamfers", chamfers},
-                 {"polyhedron", polyhedron},
-                 {"scale", scale},       {"split", split}, {"advice", advice},     {"image", image},     {"glue_all", glue_all},
-                 {"drill", drill},       {"find_faces", find_faces}, {"find_edges", find_edges}, {"cut", cut},         {"trim", trim},
-                 {"trim by split", trim_by_split}, {"union", unite}, {"renumber", renumber}, {"undo", undo}, {"redo", redo}, {"line", line},
-                 {"compare", compare}};
+    enum gwb_kind (*prepare)(gwb *g); /* what it is made of, where that isn't there for all */
+} features[] = {
+    {"pocket", pocket, NULL}, {"boss", boss, NULL}, {"hole", hole, NULL}, {"ring", ring, NULL}, {"notch", notch, NULL}, {"slot", slot, NULL},
+    {"groove", groove, NULL}, {"shoulder", shoulder, NULL}, {"chamfer", chamfer, NULL}, {"copy", copy, NULL}, {"move", move, NULL},
+    {"kill", kill_one, NULL}, {"profile", make_profile, NULL}, {"pattern", pattern, NULL}, {"around", around, NULL}, {"chamfers", chamfers, NULL},
+    {"polyhedron", polyhedron, NULL}, {"scale", scale, NULL}, {"split", split, NULL}, {"advice", advice, NULL}, {"image", image, NULL},
+    {"glue_all", glue_all, NULL}, {"drill", drill, NULL}, {"find_faces", find_faces, NULL}, {"find_edges", find_edges, NULL}, {"cut", cut, NULL},
+    {"trim", trim, NULL}, {"trim by split", trim_by_split, NULL}, {"union", unite, NULL},
+    {"union of two that cross", unite_crossing, two_that_cross}, {"subtract", subtract, two_that_cross}, {"intersect", intersect, two_that_cross},
+    {"separate", separate, two_apart}, {"join_faces", join_faces, two_glued}, {"renumber", renumber, NULL}, {"undo", undo, NULL},
+    {"redo", redo, NULL}, {"line", line, NULL}, {"compare", compare, NULL}
+};
 
 /* ---- what must be as it was */
 
@@ -199,7 +225,7 @@ static bool is_same(const gwb *g, const struct seen *before)
  * or not. */
 enum { KNOWN = 1, IN_DRAFT = 2, RECORDED = 4, WATCHED = 8, WAYS = 16 };
 
-static void begin(gwb *g, int way)
+static void begin(gwb *g, const struct feature *feature, int way)
 {
     if (!gwb_open_in(g, &refusing))
         abort();
@@ -208,6 +234,8 @@ static void begin(gwb *g, int way)
     gwb_block(g, 1, 0, 0, 0, 8, 8, 8);
     gwb_block(g, 3, -8, 0, 0, 8, 8, 8);
     if (gwb_profile(g, 4, stepped, 6, &back, &profile, numbers, &why) != GWB_OK)
+        abort();
+    if (feature->prepare != NULL && feature->prepare(g) != GWB_OK)
         abort();
     if (way & KNOWN && (gwb_pocket(g, 1, corner, 3, 1, &outline, numbers, &why) != GWB_OK || gwb_undo(g) != GWB_OK))
         abort();
@@ -234,7 +262,7 @@ static bool try_refused(const struct feature *feature, int way, long nth)
 {
     static struct seen before;
     gwb g = {0};
-    begin(&g, way);
+    begin(&g, feature, way);
     look(&g, &before);
     was_refused = false;
     until_refused = nth;
@@ -257,8 +285,9 @@ int main(int argc, char **argv)
     const long every = argc > 1 ? strtol(argv[1], NULL, 10) : 1;
     for (size_t at = 0; at < sizeof features / sizeof features[0]; at++)
         for (int way = 0; way < 2 * WAYS; way++) {
+            const long step = features[at].prepare != NULL && every > 10 ? 5 * every : every;
             refuses_on = way >= WAYS;
-            for (long nth = 0; try_refused(&features[at], way % WAYS, nth); nth += refuses_on ? 5 * every : every)
+            for (long nth = 0; try_refused(&features[at], way % WAYS, nth); nth += refuses_on ? 5 * step : step)
                 ;
         }
     printf("%ld passed, %ld failed\n", passed, failed);

@@ -192,7 +192,7 @@ private:
             Draft draft = bench_.draft();
             const Point at = given.point();
             const Solid block = bench_.block(at, given.point());
-            const Result<Merged> made = unite(attempt_, {solid_, block});
+            const Result<Merger> made = unite(attempt_, {solid_, block});
             if (made)
                 draft.commit();
             return gives(made);
@@ -476,18 +476,6 @@ private:
         return static_cast<bool>(caps);
     }
 
-    [[nodiscard]] bool has_neighbour(const Cube &cube) const
-    {
-        for (std::size_t axis = 0; axis < 3; axis++)
-            for (int step : {-1, 1}) {
-                Cube beside = cube;
-                beside[axis] += step;
-                if (filled_.count(beside) != 0)
-                    return true;
-            }
-        return false;
-    }
-
     // Puts a block beside it or into it, and makes one of both.
     bool made_union()
     {
@@ -502,12 +490,10 @@ private:
                 for (std::int64_t z = low[2]; z < low[2] + size[2]; z++)
                     cubes.insert({x, y, z});
         const Solid other = bench_.block({low[0], low[1], low[2]}, {size[0], size[1], size[2]});
-        const bool touches = std::any_of(cubes.begin(), cubes.end(), [&](const Cube &cube) { return has_neighbour(cube); });
-        const Result<Merged> made = unite(attempt_, {solid_, other});
-        if (are(cubes, false))
-            check(made ? touches : made.error().is(touches ? Misfit::overlap : Misfit::no_contact), "a block that touches it is added");
+        const Result<Merger> made = unite(attempt_, {solid_, other});
+        check(made || made.error().is(Misfit::meets), "a block is added, wherever it lies, unless both touch in edges or vertices alone");
         if (made)
-            put(cubes, true, "a union");
+            filled_.insert(cubes.begin(), cubes.end());
         else
             bench_.undo();
         return static_cast<bool>(made);
@@ -567,20 +553,22 @@ static void try_cuts()
     check(cut(attempt, step, level).error().is(GWB_WHY_PLANE_MISSES) && cut(attempt, Solid(9), level).error().is(GWB_WHY_NO_SOLID), "nothing to cut");
     check(cut(attempt, step, {2, 0, 0, -3}).error().is(GWB_WHY_NOT_LATTICE) && trim(attempt, step, {0, 0, 0, 1}).error().is(GWB_WHY_PLANE_RANGE), "no plane");
     check(cut(attempt, step, {1, 0, 0, -3}, parts.above).error().is(GWB_WHY_SOLID_TAKEN), "a number in use");
-    const Merged merged = unite(bench, {step, parts.above});
+    const Merged merged = unite(bench, {step, parts.above}).merged;
     check(!merged.empty() && bench.count(step).faces == 8 && narrow(bench.six_volumes(step)) == 6 * 384, "one solid again");
     for (const auto &[face, part] : merged)
         check(bench.face(part).solid == step, "a face that another one went into");
     check(trim(bench, step, level).size() == 1 && narrow(bench.six_volumes(step)) == 6 * 256 && bench.depth() == 4, "a step that is trimmed");
     const Solid far = bench.block({40, 0, 0}, {2, 2, 2}), within = bench.block({1, 1, 4}, {2, 2, 1}), across = bench.block({7, 7, 3}, {2, 2, 2});
-    check(unite(attempt, {step, far}).error().value == far.number() && unite(attempt, {step, within, far}).error().is(Misfit::no_contact), "too far off");
-    check(unite(attempt, {step, across}).error().is(Misfit::no_contact) && unite(attempt, {within, Solid(99)}).error().is(GWB_WHY_NO_SOLID), "none that touches");
+    check(unite(attempt, {within, Solid(99)}).error().is(GWB_WHY_NO_SOLID), "none that is there");
     check(unite(attempt, {step}).error().problem == Problem::no_call && !unite(attempt, {step, step}) && bench.depth() == 7, "no two solids");
-    unite(bench, {step, within});
+    check(Solid(unite(bench, {step, within})) == step, "the first one stays");
     check(narrow(bench.six_volumes(step)) == 6 * 260 && bench.count(step).rings == 1, "a block on it");
+    unite(bench, {step, far, across});
+    check(narrow(bench.six_volumes(step)) == 6 * 275, "one that lies apart, and one that crosses it");
+    check(separate(bench, step).size() == 2 && narrow(bench.six_volumes(step)) == 6 * 267 && bench.depth() == 10, "what lies apart becomes a solid");
     Workbench beside;
     const Solid low = beside.block({0, 0, 0}, {4, 4, 4});
-    const Merged into = unite(beside, {low, beside.block({4, 0, 0}, {4, 4, 4}), beside.block({0, 0, 4}, {8, 4, 4})});
+    const Merged into = unite(beside, {low, beside.block({4, 0, 0}, {4, 4, 4}), beside.block({0, 0, 4}, {8, 4, 4})}).merged;
     check(into.size() == 12 && beside.count(low).faces == 6, "what is left of the faces of three blocks");
     for (const auto &[face, part] : into)
         check(static_cast<bool>(beside.attempt().face(part)), "two tops that became one, of which nothing is left, went into nothing");

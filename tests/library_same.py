@@ -26,6 +26,15 @@ PARTS, LINES = 150, 11
 # A part before the random ones: a groove over the floor of a drilled hole takes corners away at the mouth of the hole, which is far from it.
 FIRST: List[Tuple[str, List[int]]] = [
     ('part', []), ('block', [1, 2, 3, 1, 10, 7, 5]), ('drill', [2, 5, 6, 1, 1, 8, 2]), ('groove', [7, 4, 6, 3, 6, 6, 3, 2, 2])]
+# Then Booleans of solids that cross, lie apart and within each other; components; and seams, which gluing leaves. (Of what has none of them separate and
+# join_faces are no commands in Python.)
+for at in (1, 2, 3):
+    FIRST += [('part', []), *(('block', [number, *low, *size]) for number, low, size in (
+                  (5, (0, 0, 0), (9, 9, 9)), (2, (at, at, at), (9, 2, 2)), (3, (7, -1, 7), (4, at, 4)), (4, (20, 0, 0), (at, 4, 4)), (8, (1, 1, -1), (at, 4, 20)))),
+              ('subtract', [5, 2, 8]), ('union', [3, 5, 4]), ('separate', [3]), ('block', [9, -1, 0, 0, 8, 8, 3 + at]), ('intersect', [9, 3]), ('undo', []), ('redo', []),
+              ('intersect', [9, 4]), ('intersect', [9, 77]), ('subtract', [9, 77]), ('separate', [77]), ('join_faces', [77]),
+              ('part', []), ('block', [1, 0, 0, 0, 4, 4, at]), ('block', [2, 4, 0, 0, 4, 4, at]), ('glue_all', [1, 2]), ('join_faces', [1]), ('undo', []),
+              ('draft', []), ('join_faces', [1]), ('commit', [])]
 Point = Tuple[int, int, int]
 # How often each word has to be accepted, so that it is tried.
 LEAST = 3
@@ -190,6 +199,9 @@ _CALLS: Dict[str, Call] = {
     'split': lambda s, n, w: [number for made in [s.bench.split(n(), _four(w), above=n())] for number in s.counted(made.lower_caps, made.upper_caps)],
     'cut': lambda s, n, w: [number for made in [s.bench.cut(n(), _four(w), above=n())] for number in s.counted(made.lower_caps, made.upper_caps)],
     'trim': lambda s, n, w: s.counted(s.bench.trim(n(), _four(w))), 'union': lambda s, n, w: _nothing(s.bench.union(list(w))),
+    'subtract': lambda s, n, w: _nothing(s.bench.subtract(n(), list(w))), 'intersect': lambda s, n, w: _nothing(s.bench.intersect(list(w))),
+    'separate': lambda s, n, w: [number for solid in [n()] for number in s.counted([one for part in s.bench.separate(solid) for one in (solid, part)])],
+    'join_faces': lambda s, n, w: _nothing(s.bench.join_faces(n())),
     'off_lattice': lambda s, n, w: [number for said in [s.bench.off_lattice(n(), _four(w))] for number in (len(said.crossings), said.factor)],
     'faces': lambda s, n, w: s.faces(n(), n(), list(w)), 'edges': lambda s, n, w: s.edges(n(), n(), list(w))}
 
@@ -311,7 +323,7 @@ class Author:
     def _of_solids(self) -> Tuple[str, List[int]]:
         solid, solids = self._any_solid(), self._solids()
         word = self._random.choice(['copy', 'copy', 'move', 'kill', 'kill', 'pattern', 'around', 'scale', 'glue_all', 'split', 'split', 'renumber',
-                                    'polyhedron', 'new', 'beside', 'union', 'union', 'cut', 'cut', 'trim'])
+                                    'polyhedron', 'new', 'beside', 'union', 'union', 'subtract', 'subtract', 'intersect', 'cut', 'cut', 'trim'])
         if word == 'beside':
             return self._beside(self._random.choice(solids))
         if word == 'around':
@@ -326,9 +338,9 @@ class Author:
             return word, [self._new(), 4, 3, *(self._below(9) for _ in range(12)), *places]
         if word == 'scale':
             return word, [self._random.choice([1, 2, 3, 100_000_000])]
-        if word == 'glue_all' or (word == 'union' and len(solids) > 1):
+        if word == 'glue_all' or (word in ('union', 'subtract', 'intersect') and len(solids) > 1):
             return word, self._random.sample(solids, self._random.randint(1 if word == 'glue_all' else 2, len(solids)))
-        if word in ('union', 'trim'):
+        if word in ('union', 'subtract', 'intersect', 'trim'):
             return 'trim', [solid, *self._plane()]
         if word in ('split', 'cut'):
             return word, [solid, *self._plane(), self._new()]
@@ -337,11 +349,11 @@ class Author:
         return word, [solid, *given[word]()]
 
     def _beside(self, solid: int) -> Tuple[str, List[int]]:
-        """A block where the solid ends in x, which touches it there."""
+        """A block where the solid ends in x, which touches it there, or reaches into it."""
         points = [vertex.point for vertex in self._session.bench.vertices(solid=solid)]
         end = max(point[0] for point in points)
         low = [min(point[axis] for point in points if point[0] == end) for axis in (1, 2)]
-        return 'block', [self._new(), end, *low, *(2 + self._below(9) for _ in range(3))]
+        return 'block', [self._new(), end - self._below(3), *low, *(2 + self._below(9) for _ in range(3))]
 
     def _plane(self) -> List[int]:
         across = self._random.choice([[1, 0, 0], [0, 1, 0], [0, 0, 1], [1, 1, 0], [2, 0, 0], [0, 3, 0], [1, 2, 3]])

@@ -321,6 +321,10 @@ static bool is_of_solid(const char *word, uint32_t solid)
             put(made, count - 1);
     } else if (strcmp(word, "polyhedron") == 0) {
         polyhedron(solid);
+    } else if (strcmp(word, "separate") == 0) {
+        put_lists(gwb_separate(&g, solid, &why), GWB_MADE_SOLIDS, GWB_MADE_SOLIDS);
+    } else if (strcmp(word, "join_faces") == 0) {
+        is_well(gwb_join_faces(&g, solid, &why));
     } else {
         return false;
     }
@@ -348,6 +352,14 @@ static void join(enum gwb_kind (*call)(gwb *, const uint32_t *, size_t, gwb_refu
     while (at < given)
         others[n++] = name();
     is_well(call(&g, others, n, &why));
+}
+
+static void subtract(uint32_t solid)
+{
+    size_t n = 0;
+    while (at < given)
+        others[n++] = name();
+    is_well(gwb_subtract(&g, solid, others, n, &why));
 }
 
 static void chamfer_edges(void)
@@ -385,6 +397,8 @@ static bool is_of_session(const char *word)
         join(gwb_glue_all);
     } else if (strcmp(word, "union") == 0) {
         join(gwb_union);
+    } else if (strcmp(word, "intersect") == 0) {
+        join(gwb_intersect);
     } else if (strcmp(word, "chamfer_edges") == 0) {
         chamfer_edges();
     } else if (strcmp(word, "faces") == 0) {
@@ -410,6 +424,8 @@ static void give(const char *word)
         make_profile(of);
     else if (strcmp(word, "ring") == 0)
         ring(of);
+    else if (strcmp(word, "subtract") == 0)
+        subtract(of);
     else if (strcmp(word, "drill") == 0)
         drill(of);
     else if (strcmp(word, "shoulder") == 0)

@@ -88,6 +88,7 @@ private:
             {"copy", &Given::copy},         {"move", &Given::move},       {"pattern", &Given::pattern},   {"scale", &Given::scale},
             {"glue_all", &Given::glue_all}, {"split", &Given::split},     {"off_lattice", &Given::off_lattice}, {"cut", &Given::cut},
             {"trim", &Given::trim},         {"union", &Given::unite},
+            {"subtract", &Given::subtract}, {"intersect", &Given::intersect}, {"separate", &Given::separate}, {"join_faces", &Given::join_faces},
             {"faces", &Given::faces},       {"edges", &Given::edges},     {"renumber", &Given::renumber},
             {"polyhedron", &Given::polyhedron},     {"pattern_around", &Given::pattern_around}, {"chamfer_edges", &Given::chamfer_edges}};
         return all;
@@ -337,6 +338,29 @@ private:
     void unite(Words &words)
     {
         is_well(gwb_session::unite(*attempt_, words.names<Solid>()));
+    }
+    void subtract(Words &words)
+    {
+        const auto solid = words.name<Solid>();
+        is_well(gwb_session::subtract(*attempt_, solid, words.names<Solid>()));
+    }
+    void intersect(Words &words)
+    {
+        is_well(gwb_session::intersect(*attempt_, words.names<Solid>()));
+    }
+    void separate(Words &words)
+    {
+        const auto solid = words.name<Solid>();
+        const Result<std::vector<Solid>> made = gwb_session::separate(*attempt_, solid);
+        if (!is_well(made))
+            return;
+        std::cout << ' ' << 2 * made->size();
+        for (Solid part : *made)
+            std::cout << ' ' << solid.number() << ' ' << part.number();
+    }
+    void join_faces(Words &words)
+    {
+        is_well(gwb_session::join_faces(*attempt_, words.name<Solid>()));
     }
     static void put_split(const Result<Split> &made)
     {

@@ -185,6 +185,23 @@ macro_rules! made {
                 let solids: Vec<Solid> = words.0.by_ref().map(|number| Solid(number as u32)).collect();
                 bench.union(&solids).map(|_| String::new())
             }
+            "intersect" => {
+                let solids: Vec<Solid> = words.0.by_ref().map(|number| Solid(number as u32)).collect();
+                bench.intersect(&solids).map(|_| String::new())
+            }
+            "subtract" => {
+                let solid = words.name();
+                let tools: Vec<Solid> = words.0.by_ref().map(|number| Solid(number as u32)).collect();
+                bench.subtract(solid, &tools).map(|_| String::new())
+            }
+            "separate" => {
+                let solid: Solid = words.name();
+                bench.separate(solid).map(|parts| {
+                    let pairs: String = parts.iter().map(|&part| told(&[solid, part])).collect();
+                    format!(" {}{pairs}", 2 * parts.len())
+                })
+            }
+            "join_faces" => bench.join_faces(words.name()).map(|_| String::new()),
             "split" | "cut" => {
                 let (solid, plane, above) = (words.name(), words.plane(), words.name::<Solid>());
                 let made = if $word == "cut" { bench.cut(solid, plane, above) } else { bench.split_solid(solid, plane, above) };

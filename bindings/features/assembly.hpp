@@ -110,7 +110,8 @@ inline void make_anew(Bench &bench, const Model &model)
 /// Faces of a solid, what of them was there by places, and the rest of the solid as a region that lies at their open edges.
 class Held {
 public:
-    Held(const Bench &bench, Model parts) : model(std::move(parts)), bench_(bench)
+    /// Where a vertex of two edges isn't to stay, edges that go straight on there become one.
+    Held(const Bench &bench, Model parts, bool keeps_vertices = true) : model(std::move(parts)), bench_(bench), keeps_vertices_(keeps_vertices)
     {
         for (const auto &[vertex, at] : model.vertices)
             vertices_at[at].push_back(vertex);
@@ -134,7 +135,8 @@ public:
         const std::vector<Vertex> *here = look_up(vertices_at, point);
         return here != nullptr && any(*here, [&](Vertex vertex) {
             const auto halves = bench_.around(vertex);
-            return any(halves, [&](HalfEdge half) { return !is_held(half) && !is_held(half.twin()); }) || std::distance(halves.begin(), halves.end()) == 2;
+            return any(halves, [&](HalfEdge half) { return !is_held(half) && !is_held(half.twin()); }) ||
+                   (keeps_vertices_ && std::distance(halves.begin(), halves.end()) == 2);
         });
     }
 
@@ -166,6 +168,7 @@ private:
     }
 
     const Bench &bench_;
+    bool keeps_vertices_;
 };
 
 // ---- a closed surface of regions

@@ -232,20 +232,19 @@ inline bool touch_anew(std::initializer_list<const Model *> before, std::initial
     return !found.empty();
 }
 
-/// A part of a solid with sheets added, which may be the faces of another solid. Not possible: OffLattice; NothingLeft; what `check` says; what the caller says
-/// where they make no faces, or where what comes of them meets or touches itself as nothing did before, or sheets pass through each other.
-template <class Check>
-Combined combined(const Bench &bench, const Model &part, const std::vector<Sheet> &added, const Model &other, AllNames &names, const Failure &why, Check check)
+/// A part of a solid with what is laid on its faces, which may be the faces of another solid. Not possible: NothingLeft; what `lay` and `check` say; what
+/// the caller says where what comes of them meets or touches itself near a box as nothing did before.
+template <class Lay, class Check>
+Combined combined(const Bench &bench, const Model &part, const Box &box, const Model &other, AllNames &names, const Failure &why, Lay lay, Check check)
 {
     const std::vector<Sheet> sheets = sheets_of(part);
-    Result<std::vector<Sheet>> regions = tried([&] { return overlaid(sheets, added); });
-    require(has(regions), regions.error().is(Misfit::off_lattice) ? regions.error() : why);
-    if (regions->empty() && all(bench.faces(part.solid), [&](Face face) { return part.faces.count(face) != 0; }))
+    const std::vector<Sheet> regions = lay(sheets);
+    if (regions.empty() && all(bench.faces(part.solid), [&](Face face) { return part.faces.count(face) != 0; }))
         throw impossible(Misfit::nothing_left, part.solid.number());
     const Held held(bench, part.with(Model(), other));
-    Combined found = Assembly(held, *regions, names).made(part.solid, why);
+    Combined found = Assembly(held, regions, names).made(part.solid, why);
     check(found, sheets);
-    require(!touch_anew({&part, &other}, {&found.model}, box_of(added)) && !comes_into(sheets, added), why);
+    require(!touch_anew({&part, &other}, {&found.model}, box), why);
     return found;
 }
 
@@ -307,17 +306,17 @@ inline std::set<Loop> wanted_besides(const Bench &bench, const Part &part, const
     return found;
 }
 
-/// Makes what comes of the faces of a solid near sheets that are added: by operators on those that differ, without the loops elsewhere, else with the
+/// Makes what comes of the faces of a solid near a box: by operators on those that differ, without the loops elsewhere, else with the
 /// wanted ones; where that can't be, all of the solid is made anew. The solid whose faces are added, where they are any's, is taken away.
-template <class Check>
-Combined make_near(Bench &bench, Solid solid, const std::vector<Sheet> &added, const Model &other, const Failure &why, Check check)
+template <class Lay, class Check>
+Combined make_near(Bench &bench, Solid solid, const Box &box, const Model &other, const Failure &why, Lay lay, Check check)
 {
     Surroundings &known = Surroundings::of(bench);
     for (std::set<Loop> wanted, more;; wanted.merge(more)) {
         const Surface &surface = known.surface(bench, solid);
-        const Part part = part_near(bench, surface, solid, box_of(added), wanted);
+        const Part part = part_near(bench, surface, solid, box, wanted);
         AllNames names(bench);
-        Combined found = combined(bench, part.model, added, other, names, why, check);
+        Combined found = combined(bench, part.model, box, other, names, why, lay, check);
         const auto operators = found.beyond.empty() ? operators_for(bench, surface, part, found, names) : std::nullopt;
         if (!operators && !(more = wanted_besides(bench, part, found)).empty())
             continue;

@@ -2,6 +2,8 @@
 #pragma GCC visibility push(default)
 #include "gwb_features.h"
 #pragma GCC visibility pop
+#include "booleans.hpp"
+#include "components.hpp"
 #include "cuts.hpp"
 #include "drilling.hpp"
 #include "models.hpp"
@@ -151,6 +153,19 @@ bool are_different(const std::uint32_t *numbers, std::size_t n)
     return std::adjacent_find(rising.begin(), rising.end()) == rising.end();
 }
 
+/// What comes of several solids, of a first one and others where that is given.
+gwb_kind combined(booleans::Operation operation, gwb *g, std::optional<std::uint32_t> first, const std::uint32_t *others, std::size_t n, gwb_refusal *why)
+{
+    const bool is_call = are_different(others, n) && (first ? n >= 1 && std::find(others, others + n, *first) == others + n : n >= 2);
+    return made_if(is_call, g, why, [&](Bench &bench, Lists &lists) {
+        std::vector<Solid> solids;
+        if (first)
+            solids.emplace_back(*first);
+        std::transform(others, others + n, std::back_inserter(solids), [](std::uint32_t number) { return Solid(number); });
+        booleans::tell(booleans::combine(bench, operation, std::move(solids)), lists[GWB_MADE_INTO]);
+    });
+}
+
 // ---- what is found
 
 gwb_wide wide(exact::Wide number) { return {static_cast<std::int64_t>(number >> 64), static_cast<std::uint64_t>(number)}; }
@@ -290,9 +305,30 @@ gwb_kind gwb_trim(gwb *g, uint32_t solid, const gwb_cut_plane *plane, gwb_refusa
 
 gwb_kind gwb_union(gwb *g, const uint32_t *solids, size_t n, gwb_refusal *why)
 {
-    return made_if(n >= 2 && are_different(solids, n), g, why, [&](Bench &bench, Lists &lists) {
-        uniting::tell(uniting::unite(bench, std::vector<Solid>(solids, solids + n)), lists[GWB_MADE_INTO]);
+    return combined(booleans::Operation::unite, g, std::nullopt, solids, n, why);
+}
+
+gwb_kind gwb_subtract(gwb *g, uint32_t solid, const uint32_t *tools, size_t n, gwb_refusal *why)
+{
+    return combined(booleans::Operation::subtract, g, solid, tools, n, why);
+}
+
+gwb_kind gwb_intersect(gwb *g, const uint32_t *solids, size_t n, gwb_refusal *why)
+{
+    return combined(booleans::Operation::intersect, g, std::nullopt, solids, n, why);
+}
+
+gwb_kind gwb_separate(gwb *g, uint32_t solid, gwb_refusal *why)
+{
+    return made(g, why, [&](Bench &bench, Lists &lists) {
+        for (Solid part : components::separate(bench, Solid(solid)))
+            lists[GWB_MADE_SOLIDS].insert(lists[GWB_MADE_SOLIDS].end(), {solid, part.number()});
     });
+}
+
+gwb_kind gwb_join_faces(gwb *g, uint32_t solid, gwb_refusal *why)
+{
+    return made(g, why, [&](Bench &bench, Lists &lists) { booleans::tell(booleans::join_faces(bench, Solid(solid)), lists[GWB_MADE_INTO]); });
 }
 
 gwb_kind gwb_profile(gwb *g, uint32_t solid, const gwb_point *points, size_t n, const gwb_point *along, gwb_profile_made *out, uint32_t *sides,

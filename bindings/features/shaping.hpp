@@ -202,8 +202,14 @@ inline Combined change(Bench &bench, Face face, const Tool &tool, bool is_cut)
         const Combined made = Assembly(nothing, *added, names).made(solid, meets);
         require(Findings(made.model, box_of(*added)).found.empty(), meets);
     }
-    return make_near(bench, solid, *added, Model(), meets, [&](const Combined &found, const std::vector<Sheet> &) {
+    const auto lay = [&](const std::vector<Sheet> &sheets) {
+        Result<std::vector<Sheet>> regions = tried([&] { return overlaid(sheets, *added); });
+        require(has(regions), regions.error().is(Misfit::off_lattice) ? regions.error() : meets);
+        return *regions;
+    };
+    return make_near(bench, solid, box_of(*added), Model(), meets, lay, [&](const Combined &found, const std::vector<Sheet> &sheets) {
         require(found.marked(0, tool[lids].size()).empty(), impossible(Misfit::outline_outside, face.number()));
+        require(!comes_into(sheets, *added), meets);
     });
 }
 

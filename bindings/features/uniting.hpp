@@ -1,13 +1,10 @@
-/// @file uniting.hpp Solids that touch in faces made one: glued along those that match, or united. Then the faces of each further one are added to those of
-/// the first that lie near, and what comes of these is made. Faces of one plane beside each other become one, and so do edges that go on straight.
+/// @file uniting.hpp Solids that touch in faces made one: glued along those that match.
 #pragma once
-#include "combining.hpp"
+#include "machining.hpp"
 
 namespace gwb_session::uniting {
 
-using namespace combining;
-
-// ---- solids glued
+using namespace machining;
 
 /// A face of a solid.
 struct Owned {
@@ -69,83 +66,6 @@ inline void glue_all(Bench &bench, Items<Solid> solids)
         require(joined.count(solid) != 0, impossible(Misfit::no_match, solid.number()));
     if (!left.empty())
         throw impossible(Misfit::glued_twice, all[*left.begin()].first.face.number());
-}
-
-// ---- solids united
-
-/// Faces that there are, and those of all solids as they were that went into them.
-using Sources = std::map<Face, std::set<Face>>;
-
-inline void follow(const Bench &bench, const Combined &combined, Sources &sources)
-{
-    Sources now;
-    for (const Sheet &region : combined.regions)
-        for (Face owner : region.owners) {
-            const std::set<Face> &known = sources.try_emplace(owner, std::set<Face>{owner}).first->second;
-            now[region.face].insert(known.begin(), known.end());
-        }
-    for (const auto &[face, known] : std::exchange(sources, now))
-        if (has(bench.attempt().face(face))) // what isn't there went into others, or nothing is left of it
-            sources.emplace(face, known);
-}
-
-/// Writes down each of those that became part of another one, or several, with what it went into.
-inline void tell(const Sources &sources, std::vector<std::uint32_t> &list)
-{
-    std::map<Face, std::set<Face>> into;
-    for (const auto &[part, known] : sources)
-        for (Face face : known)
-            into[face].insert(part);
-    for (const auto &[face, parts] : into)
-        for (Face part : parts)
-            if (part != face || parts.size() > 1 || sources.at(part).size() > 1)
-                list.insert(list.end(), {face.number(), part.number()});
-}
-
-/// A measure of areas, by which regions of one plane that look one way add up.
-inline Wide size_of(const std::vector<Sheet> &regions)
-{
-    Wide size = 0;
-    for (const Sheet &region : regions)
-        size += length_along_axes(area_of(region.sides));
-    return size;
-}
-
-/// Adds a solid to another one, which it touches. Not possible: NoContact: it doesn't; Overlap.
-inline Combined add(Bench &bench, Solid solid, Solid gone)
-{
-    const Model other = Model::whole(bench, gone);
-    std::vector<Sheet> added = sheets_of(other);
-    for (Sheet &sheet : added)
-        sheet.marks = {0};
-    return make_near(bench, solid, added, other, impossible(Misfit::overlap, solid.number()), [&](const Combined &found, const std::vector<Sheet> &sheets) {
-        require(size_of(found.regions) != size_of(sheets) + size_of(added), impossible(Misfit::no_contact, gone.number()));
-    });
-}
-
-/// Adds the first of some solids that touches another one to it, and takes it out. Not possible: NoContact: none does.
-inline Combined add_first(Bench &bench, Solid solid, std::vector<Solid> &others)
-{
-    for (auto other = others.begin(); other != others.end(); ++other)
-        if (Result<Combined> made = tried([&] { return add(bench, solid, *other); })) {
-            others.erase(other);
-            return std::move(*made);
-        } else if (!made.error().is(Misfit::no_contact)) {
-            throw made.error();
-        }
-    throw impossible(Misfit::no_contact, others.front().number());
-}
-
-/// Makes one solid of several, with the number of the first: its faces.
-inline Sources unite(Bench &bench, const std::vector<Solid> &solids)
-{
-    for (Solid solid : solids)
-        require_solid(bench, solid);
-    std::vector<Solid> left(solids.begin() + 1, solids.end());
-    Sources sources;
-    while (!left.empty())
-        follow(bench, add_first(bench, solids[0], left), sources);
-    return sources;
 }
 
 } // namespace gwb_session::uniting

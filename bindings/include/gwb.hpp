@@ -193,8 +193,8 @@ enum class Misfit : std::uint32_t {
     along_plane,         ///< the vector lies in the plane of the points
     outline_outside,     ///< the outline crosses or touches the boundary of face X, or doesn't lie inside
     outline_around_ring, ///< a ring of face X lies inside the outline
-    off_lattice,         ///< a point or a vector at face X would not be whole
-    meets,               ///< what is made at face X would meet or touch the solid elsewhere
+    off_lattice,         ///< a point or a vector at face X would not be whole; of a Boolean: all must be X times as large, or more where X is 0
+    meets,               ///< what is made at face X would meet or touch the solid elsewhere; of a cut or a Boolean: solid X would touch itself
     no_opposite,         ///< there is no face behind the outline in face X
     not_parallel,        ///< face X, behind the outline, isn't parallel
     not_of_face,         ///< edge X is none of the face
@@ -203,8 +203,8 @@ enum class Misfit : std::uint32_t {
     no_match,            ///< no face of solid X matches one of those that are joined
     glued_twice,         ///< face X matches another one besides, which it would touch after the gluing
     not_across,          ///< face X doesn't lie across an axis
-    no_contact,          ///< solid X touches the others in no face
-    overlap,             ///< solid X has room in common with another one, or their union would touch itself
+    no_contact,          ///< no longer said: solids may lie apart in a union
+    overlap,             ///< no longer said: solids may have room in common in a union
     no_corner,           ///< the slopes of edges that end at vertex X don't meet in one point, or more than three edges end there
     not_alike,           ///< edge X is of another solid than the first, or bends the other way
     not_closed,          ///< a side of the X-th face hasn't one side, of one face, that runs the other way

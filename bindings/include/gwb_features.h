@@ -25,8 +25,8 @@ enum gwb_misfit {
     GWB_MISFIT_ALONG_PLANE,         /**< the vector lies in the plane of the points */
     GWB_MISFIT_OUTLINE_OUTSIDE,     /**< the outline crosses or touches the boundary of face X, or doesn't lie inside */
     GWB_MISFIT_OUTLINE_AROUND_RING, /**< a ring of face X lies inside the outline */
-    GWB_MISFIT_OFF_LATTICE,         /**< a point or a vector at face X would not be whole */
-    GWB_MISFIT_MEETS,               /**< what is made at face X would meet or touch the solid elsewhere; of a cut: solid X would touch itself */
+    GWB_MISFIT_OFF_LATTICE,         /**< a point or a vector at face X would not be whole; of a Boolean: all must be X times as large, or more where X is 0 */
+    GWB_MISFIT_MEETS,               /**< what is made at face X would meet or touch the solid elsewhere; of a cut or a Boolean: solid X would touch itself */
     GWB_MISFIT_NO_OPPOSITE,         /**< there is no face behind the outline in face X */
     GWB_MISFIT_NOT_PARALLEL,        /**< face X, behind the outline, isn't parallel */
     GWB_MISFIT_NOT_OF_FACE,         /**< edge X is none of the face */
@@ -35,8 +35,8 @@ enum gwb_misfit {
     GWB_MISFIT_NO_MATCH,            /**< no face of solid X matches one of those that are joined */
     GWB_MISFIT_GLUED_TWICE,         /**< face X matches another one besides, which it would touch after the gluing */
     GWB_MISFIT_NOT_ACROSS,          /**< face X doesn't lie across an axis */
-    GWB_MISFIT_NO_CONTACT,          /**< solid X touches the others in no face */
-    GWB_MISFIT_OVERLAP,             /**< solid X has room in common with another one, or their union would touch itself */
+    GWB_MISFIT_NO_CONTACT,          /**< no longer said: solids may lie apart in a union */
+    GWB_MISFIT_OVERLAP,             /**< no longer said: solids may have room in common in a union */
     GWB_MISFIT_NO_CORNER,           /**< the slopes of edges that end at vertex X don't meet in one point, or more than three edges end there */
     GWB_MISFIT_NOT_ALIKE,           /**< edge X is of another solid than the first, or bends the other way */
     GWB_MISFIT_NOT_CLOSED           /**< a side of the X-th face hasn't one side, of one face, that runs the other way */
@@ -64,9 +64,9 @@ enum gwb_list {
     /* Of a split, cut or trim: the faces that close both parts. */
     GWB_MADE_LOWER_CAPS = 7, /**< of the part below the plane, which keeps its number */
     GWB_MADE_UPPER_CAPS = 8, /**< of the part above it */
-    /* Of a union. */
+    /* Of a Boolean, or of faces joined. */
     GWB_MADE_INTO = 9,   /**< faces that became one with others, or several, each with one that it went into, one after the other */
-    GWB_MADE_SOLIDS = 10 /**< of new numbers: each solid and what it is now, one after the other */
+    GWB_MADE_SOLIDS = 10 /**< of new numbers: each solid and what it is now, one after the other; of components: the solid and each that it became, alike */
 };
 
 /** Writes a list of what the last feature of the session made, as far as there is room. A reader, between features.
@@ -113,10 +113,29 @@ enum gwb_kind gwb_split_solid(gwb *g, uint32_t solid, const gwb_cut_plane *plane
 enum gwb_kind gwb_cut(gwb *g, uint32_t solid, const gwb_cut_plane *plane, uint32_t above, gwb_refusal *why);
 /** The same, and what lies above the plane goes. Lists: the lower caps. */
 enum gwb_kind gwb_trim(gwb *g, uint32_t solid, const gwb_cut_plane *plane, gwb_refusal *why);
-/** The `n` solids, which touch in faces and have no room in common, become the first. Faces of one plane beside each other become one, and so do
- * edges that go on straight. Lists: GWB_MADE_INTO. Refused: NoSolid; NotFlat. Not possible: NO_CONTACT; OVERLAP; OFF_LATTICE: edges of two solids
- * cross between whole coordinates. GWB_NO_CALL where a number stands twice, or `n` is below 2. */
+/* Booleans: exact, of solids with flat faces, which may cross, touch, lie apart or within each other; of any shape: with holes, rings, cavities, several
+ * components. Faces of one plane beside each other that come of two solids become one, and so do edges that go on straight. What falls apart stays one
+ * solid. What is kept has its numbers; of faces that become one the least has it, of the first solid before others. Lists: GWB_MADE_INTO.
+ *
+ * Refused: NoSolid; NotFlat, with the face. Not possible: OFF_LATTICE: a corner of what is made wouldn't be whole; X is the least factor by which all must be
+ * scaled, or 0 where it passes 2^32 - 1. MEETS: what is made, or one of them where they meet, would touch itself; X is the first solid. NOTHING_LEFT, with the
+ * first solid. Of more than two solids two at a time are combined, and two that can't be wait until others were: a set is refused where the last two or
+ * more can't be, and X is of the first two of these. */
+
+/** The first of the `n` solids becomes all of them together; the others go. GWB_NO_CALL where a number stands twice, or `n` is below 2. */
 enum gwb_kind gwb_union(gwb *g, const uint32_t *solids, size_t n, gwb_refusal *why);
+/** The solid becomes what is left of it without the `n` tools, which go. GWB_NO_CALL where a number stands twice, or `n` is 0. */
+enum gwb_kind gwb_subtract(gwb *g, uint32_t solid, const uint32_t *tools, size_t n, gwb_refusal *why);
+/** The first of the `n` solids becomes what all have in common; the others go. GWB_NO_CALL as of a union. */
+enum gwb_kind gwb_intersect(gwb *g, const uint32_t *solids, size_t n, gwb_refusal *why);
+
+/** Each connected component of a solid becomes a solid, with the cavities that it holds: that of the least face keeps the number, the others get free ones, by
+ * their least faces, above all in use as long as there are any. Faces, edges and vertices keep theirs. Lists: GWB_MADE_SOLIDS. Refused: NoSolid; NotFlat;
+ * NumbersSpent. */
+enum gwb_kind gwb_separate(gwb *g, uint32_t solid, gwb_refusal *why);
+/** Faces of one plane beside each other in a solid become one, edges with one face on both sides go, and edges that go on straight become one. Lists:
+ * GWB_MADE_INTO. Refused: NoSolid; NotFlat. Not possible: MEETS, with the solid, where it touches itself so that no outlines come of it. */
+enum gwb_kind gwb_join_faces(gwb *g, uint32_t solid, gwb_refusal *why);
 
 typedef struct gwb_profile_made {
     uint32_t far, base; /**< the face that was moved, and the one that stayed */

@@ -81,6 +81,19 @@ Answer<Policy, Split> split(Commands<Policy> &bench, const char *command, Call c
     return bench.feature(command, call, made, solid.number(), &plane, upper.number());
 }
 
+/// What comes of solids, of which this one stays.
+template <class Policy, class Call, class... All>
+Answer<Policy, Merger> combine(Commands<Policy> &bench, const char *command, Call call, Solid solid, All... arguments)
+{
+    const auto made = [&] {
+        Merger found{solid, {}};
+        for (const auto &[face, into] : pairs(bench.handle(), GWB_MADE_INTO))
+            found.merged.emplace_back(face, into);
+        return found;
+    };
+    return bench.feature(command, call, made, arguments...);
+}
+
 template <class T> const T *pointer(const std::optional<T> &value) { return value ? &*value : nullptr; }
 
 /// What a query finds, which is asked for twice.
@@ -221,19 +234,42 @@ template <class Policy> Answer<Policy, std::vector<Face>> trim(Commands<Policy> 
     return bench.feature("trim", gwb_trim, [&] { return features::faces(bench.handle(), GWB_MADE_LOWER_CAPS); }, solid.number(), &plane);
 }
 
-/// Faces that became one with others, or several, each with one that it went into.
-using Merged = std::vector<std::pair<Face, Face>>;
-
-/// The solids, which touch in faces, become the first (`union` is a word of C++). NoCall where one stands twice, or there are fewer than two.
-template <class Policy> Answer<Policy, Merged> unite(Commands<Policy> &bench, Items<Solid> solids)
+/// The solids, which may cross, touch or lie apart, become the first (`union` is a word of C++). NoCall where one stands twice, or there are fewer than two.
+template <class Policy> Answer<Policy, Merger> unite(Commands<Policy> &bench, Items<Solid> solids)
 {
-    const auto made = [&] {
-        Merged merged;
-        for (const auto &[face, into] : features::pairs(bench.handle(), GWB_MADE_INTO))
-            merged.emplace_back(face, into);
-        return merged;
+    const Solid first = solids.size() != 0 ? *solids.begin() : Solid();
+    return features::combine(bench, "union", gwb_union, first, features::numbers(solids).data(), solids.size());
+}
+
+/// The solid becomes what is left of it without the tools, which go. NoCall where one stands twice, or there are none.
+template <class Policy> Answer<Policy, Merger> subtract(Commands<Policy> &bench, Solid solid, Items<Solid> tools)
+{
+    return features::combine(bench, "subtract", gwb_subtract, solid, solid.number(), features::numbers(tools).data(), tools.size());
+}
+
+/// The first of the solids becomes what all have in common. NoCall where one stands twice, or there are fewer than two.
+template <class Policy> Answer<Policy, Merger> intersect(Commands<Policy> &bench, Items<Solid> solids)
+{
+    const Solid first = solids.size() != 0 ? *solids.begin() : Solid();
+    return features::combine(bench, "intersect", gwb_intersect, first, features::numbers(solids).data(), solids.size());
+}
+
+/// Faces of one plane beside each other in a solid become one, and so do edges that go on straight.
+template <class Policy> Answer<Policy, Merger> join_faces(Commands<Policy> &bench, Solid solid)
+{
+    return features::combine(bench, "join_faces", gwb_join_faces, solid, solid.number());
+}
+
+/// Each connected component of a solid becomes a solid: all of them, by their least faces; the first keeps the number.
+template <class Policy> Answer<Policy, std::vector<Solid>> separate(Commands<Policy> &bench, Solid solid)
+{
+    const auto parts = [&] {
+        std::vector<Solid> found;
+        for (const auto &pair : features::pairs(bench.handle(), GWB_MADE_SOLIDS))
+            found.emplace_back(pair[1]);
+        return found;
     };
-    return bench.feature("union", gwb_union, made, features::numbers(solids).data(), solids.size());
+    return bench.feature("separate", gwb_separate, parts, solid.number());
 }
 
 /// A new solid: the outline through the points, moved along the vector.

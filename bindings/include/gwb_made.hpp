@@ -91,6 +91,15 @@ struct Notch {
     std::vector<Face> floor, walls;
 };
 
+/// Faces that became one with others, or several, each with one that it went into.
+using Merged = std::vector<std::pair<Face, Face>>;
+/// What unite, subtract, intersect and join_faces make: the solid that stays, and what became of faces.
+struct Merger {
+    Solid solid;
+    Merged merged;
+    operator Solid() const { return solid; }
+};
+
 /// What split_solid and cut make: the solid above the plane, and the faces that close both parts.
 struct Split {
     Solid above;

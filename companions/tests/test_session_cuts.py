@@ -211,23 +211,25 @@ class Unions(Stepwise):
             self.one_step(lambda: self.bench.union([made.below, made.above]))
             self.assertEqual((self.bench.count(1), self.volume(1)), (count, volume))
 
+    def test_solids_that_cross_or_lie_apart(self):
+        solids = self.blocks(((0, 0, 0), (4, 4, 4)), ((5, 0, 0), (4, 4, 4)), ((2, 2, 2), (4, 4, 4)), ((0, 0, 0), (2, 2, 2)))
+        self.assertEqual(self.one_step(lambda: self.bench.union(solids)), solids[0])
+        self.assertEqual(self.volume(1), 64 + 64 + 64 - 8 - 1 * 2 * 2)
+
     def test_what_can_not_be_one(self):
-        solids = self.blocks(((0, 0, 0), (4, 4, 4)), ((5, 0, 0), (4, 4, 4)), ((2, 2, 2), (4, 4, 4)), ((4, 4, 0), (2, 2, 2)), ((0, 0, 0), (2, 2, 2)))
-        self.refuse('NoContact', lambda: self.bench.union(solids[:2]))
-        self.refuse('Overlap', lambda: self.bench.union([1, 5]))
-        for other in (3, 4):
-            self.assertEqual(self.refuse('NoContact', lambda: self.bench.union([1, other])).value, other)
+        self.blocks(((0, 0, 0), (4, 4, 4)), ((4, 4, 0), (2, 2, 2)))
+        self.assertEqual(self.refuse('Meets', lambda: self.bench.union([1, 2])).value, 1)
         self.refuse('NoSolid', lambda: self.bench.union([1, 9]))
         bent = self.bench.lamina([(0, 0, 0), (4, 0, 0), (4, 4, 1), (0, 4, 0)]).solid
         self.refuse('NotFlat', lambda: self.bench.cut(bent, (1, 0, 0, -2)))
-        self.refuse('NoContact', lambda: self.bench.union([bent, 2]))
+        self.refuse('NotFlat', lambda: self.bench.union([bent, 2]))
 
     def test_a_union_that_is_refused_half_way(self):
-        self.blocks(((0, 0, 0), (4, 4, 4)), ((4, 0, 0), (4, 4, 4)), ((9, 0, 0), (4, 4, 4)))
-        self.refuse('NoContact', lambda: self.bench.union([1, 2, 3]))
+        self.blocks(((0, 0, 0), (4, 4, 4)), ((4, 0, 0), (4, 4, 4)), ((8, 4, 4), (4, 4, 4)))
+        self.refuse('Meets', lambda: self.bench.union([1, 2, 3]))
         with self.bench.draft():
-            self.refuse('NoContact', lambda: self.bench.union([1, 2, 3]))
-            self.refuse('NoContact', lambda: self.bench.union([1, 3]))
+            self.refuse('Meets', lambda: self.bench.union([1, 2, 3]))
+            self.refuse('Meets', lambda: self.bench.union([2, 3]))
             self.bench.union([1, 2])
         self.assertEqual(self.bench.solids().numbers, (1, 3))
 

@@ -92,6 +92,9 @@ values! {
     Profile [] { solid: Solid, far: Face, base: Face, sides: Vec<Face> }
     /// What [`polyhedron`](Operators::polyhedron) makes: the first of its vertices and of its faces, which the others follow one by one.
     Polyhedron [Copy] { solid: Solid, first_vertex: Vertex, first_face: Face }
+    /// What [`union`](Operators::union), [`subtract`](Operators::subtract), [`intersect`](Operators::intersect) and [`join_faces`](Operators::join_faces)
+    /// make: the solid that stays, and faces that became one with others, or several, each with one that it went into.
+    Merger [] { solid: Solid, merged: Vec<(Face, Face)> }
     /// What [`ring`](Operators::ring) makes: the face inside, the ring around it, and for each point the edge to the next, and the vertex there.
     Ring [] { face: Face, of_loop: Loop, edges: Vec<Edge>, vertices: Vec<Vertex> }
     /// What [`pocket`](Operators::pocket) and [`boss`](Operators::boss) make: the floor or top, the ring in the face, and for each point the side.
@@ -240,6 +243,10 @@ impl Operators {
         Notch { floor: self.made(List::Floor, Face), walls: self.made(List::Walls, Face) }
     }
 
+    fn merger(&self, solid: Solid) -> Merger {
+        Merger { solid, merged: self.made_pairs(List::Into, Face) }
+    }
+
     fn made_split(&self, above: Solid) -> Split {
         Split { above, lower_caps: self.made(List::LowerCaps, Face), upper_caps: self.made(List::UpperCaps, Face) }
     }
@@ -309,9 +316,23 @@ features! {
     }
     /// What lies above the plane goes: the faces that close what is left.
     trim(this, solid: Solid, plane: [i64; 4]) -> Vec<Face> { gwb_sys::gwb_trim(solid.0, &plane) => this.made(List::LowerCaps, Face) }
-    /// The solids, which touch in faces, become the first: faces that became one with others, or several, each with one that it went into.
-    union(this, solids: &[Solid]) -> Vec<(Face, Face)> {
-        gwb_sys::gwb_union(solids.as_ptr().cast(), solids.len()) => this.made_pairs(List::Into, Face)
+    /// The solids, which may cross, touch or lie apart, become the first.
+    union(this, solids: &[Solid]) -> Merger {
+        gwb_sys::gwb_union(solids.as_ptr().cast(), solids.len()) => this.merger(solids[0])
+    }
+    /// The solid becomes what is left of it without the tools, which go.
+    subtract(this, solid: Solid, tools: &[Solid]) -> Merger {
+        gwb_sys::gwb_subtract(solid.0, tools.as_ptr().cast(), tools.len()) => this.merger(solid)
+    }
+    /// The first of the solids becomes what all have in common.
+    intersect(this, solids: &[Solid]) -> Merger {
+        gwb_sys::gwb_intersect(solids.as_ptr().cast(), solids.len()) => this.merger(solids[0])
+    }
+    /// Faces of one plane beside each other in a solid become one, and so do edges that go on straight.
+    join_faces(this, solid: Solid) -> Merger { gwb_sys::gwb_join_faces(solid.0) => this.merger(solid) }
+    /// Each connected component of a solid becomes a solid: all of them, by their least faces; the first keeps the number.
+    separate(this, solid: Solid) -> Vec<Solid> {
+        gwb_sys::gwb_separate(solid.0) => this.made_pairs::<_, Vec<_>>(List::Solids, Solid).into_iter().map(|(_, part)| part).collect()
     }
     /// A new solid: the outline through the points, moved along the vector.
     profile(this, solid: impl Into<Option<Solid>>, points: &[impl Copy + Into<Point>], along: impl Into<Point>) -> Profile {

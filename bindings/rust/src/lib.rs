@@ -46,7 +46,7 @@ mod session;
 pub use draft::{Draft, Mark};
 pub use error::{Error, Misfit};
 pub use exporting::ExportError;
-pub use features::{circle, Circle, Copied, Hole, Motion, Notch, Parts, Pocket, Polyhedron, Profile, Renumbered, Ring, Split};
+pub use features::{circle, Circle, Copied, Hole, Merger, Motion, Notch, Parts, Pocket, Polyhedron, Profile, Renumbered, Ring, Split};
 pub use gwb_sys::Heap;
 pub use history::{Change, Changes, ChangesOf, Noted, Notes, Turn};
 pub use ids::{lone, minus, plus, Corner, Edge, Face, HalfEdge, Id, Loop, Solid, Vertex};

@@ -1,5 +1,5 @@
 //! Solids from outside: killed, copied, moved, turned and mirrored.
-use gwb::{ExportError, lone, minus, plus, Error, Face, Misfit, Motion, Point, Refusal, Session, Solid};
+use gwb::{ExportError, lone, minus, plus, Error, Face, Merger, Misfit, Motion, Point, Refusal, Session, Solid};
 
 type Corners = Vec<Point>;
 
@@ -250,12 +250,20 @@ fn a_step_is_cut_and_united() {
     let parts = session.cut(step, [0, 0, 1, -4], None).unwrap();
     assert_eq!((session.six_volumes(step), session.six_volumes(parts.above)), (Ok(6 * 256), Ok(6 * 128)));
     assert_eq!((parts.lower_caps.len(), parts.upper_caps.len(), session.depth()), (1, 1, 2));
-    let merged = session.union(&[step, parts.above]).unwrap();
+    let merged = session.union(&[step, parts.above]).unwrap().merged;
     assert!(!merged.is_empty() && merged.iter().all(|&(face, part)| session.face(part).is_some() || face == part));
     assert_eq!((session.six_volumes(step), session.count(step).map(|count| count.faces)), (Ok(6 * 384), Ok(8)));
     assert_eq!(session.trim(step, [0, 0, 1, -4]).map(|caps| caps.len()), Ok(1));
     assert_eq!((session.six_volumes(step), session.depth()), (Ok(6 * 256), 4));
     let far = session.block(None, [50, 0, 0], [1, 1, 1]).unwrap();
-    assert_eq!(session.union(&[step, far]), Err(Error::Impossible { misfit: Misfit::NoContact, value: far.0 }));
+    assert_eq!(session.union(&[step, far]), Ok(Merger { solid: step, merged: vec![] }));
+    assert_eq!(session.separate(step).map(|solids| (solids.len(), solids[0])), Ok((2, step)));
+    let tool = session.block(None, [1, 1, -1], [2, 2, 9]).unwrap();
+    assert_eq!(session.subtract(step, &[tool]).map(|made| made.solid), Ok(step));
+    assert_eq!(session.six_volumes(step), Ok(6 * (256 - 16)));
+    let across = session.block(None, [0, 0, 0], [4, 4, 9]).unwrap();
+    assert_eq!(session.intersect(&[step, across]).map(|made| made.solid), Ok(step));
+    assert_eq!((session.six_volumes(step), session.join_faces(step).map(|made| made.merged)), (Ok(6 * 48), Ok(vec![])));
+    assert_eq!(session.subtract(step, &[]), Err(Error::NoCall));
     assert_eq!((session.union(&[step]), session.union(&[step, step])), (Err(Error::NoCall), Err(Error::NoCall)));
 }

@@ -44,7 +44,8 @@ _OUTLINE, _MADE, _STRIP = [WORD, _ROWS, SIZE], [_PAIR, _WORDS], [WORD, _POINT, _
 _FEATURES: Dict[str, List[Any]] = {
     'kill_solid': [WORD], 'copy_solid': [WORD, _MOTION, _WORDS], 'move_solid': [WORD, _MOTION], 'pattern': [WORD, WORD, _POINT, _WORDS],
     'pattern_around': [WORD] * 4 + [_POINT, _WORDS], 'chamfer_edges': [_WORDS, SIZE, LENGTH, _WORDS], 'load': [_TEXT, SIZE], 'scale': [LENGTH],
-    'renumber': [], 'glue_all': [_WORDS, SIZE], 'union': [_WORDS, SIZE], 'profile': [*_OUTLINE, _POINT, *_MADE],
+    'separate': [WORD], 'join_faces': [WORD], 'subtract': [WORD, _WORDS, SIZE], **dict.fromkeys(('glue_all', 'union', 'intersect'), [_WORDS, SIZE]),
+    'renumber': [], 'profile': [*_OUTLINE, _POINT, *_MADE],
     'polyhedron': [*_OUTLINE, _WORDS, _WORDS, SIZE, _PAIR], 'ring': [*_OUTLINE, *_MADE, _WORDS], 'pocket': [*_OUTLINE, LENGTH, *_MADE],
     'boss': [*_OUTLINE, LENGTH, *_MADE], 'hole': [*_OUTLINE, *_MADE], 'drill': [WORD, _POINT, LENGTH, WORD, LENGTH, *_MADE, _POINT],
     'notch': [*_OUTLINE, LENGTH], 'slot': _STRIP, 'groove': _STRIP, 'shoulder': [WORD, WORD, LENGTH, LENGTH], 'chamfer': [WORD, LENGTH, LENGTH, _WORDS],

@@ -27,8 +27,8 @@ _PATIENCE = 1.0
 # Of a larger model it isn't told what would do in the place of a refused command: that may take long.
 _MOST_EDGES = 20_000
 # The commands and features after which numbers may be free that were in use.
-_FREEING = ('kvfs', 'kev', 'kef', 'kemr', 'mekr', 'kfmrh', 'glue', 'undo', 'redo', 'kill_solid', 'renumber', 'cut', 'trim', 'union', 'glue_all', 'notch',
-            'slot', 'groove', 'shoulder', 'chamfer', 'chamfer_edges')
+_FREEING = ('kvfs', 'kev', 'kef', 'kemr', 'mekr', 'kfmrh', 'glue', 'undo', 'redo', 'kill_solid', 'renumber', 'cut', 'trim', 'union', 'subtract',
+            'intersect', 'separate', 'join_faces', 'glue_all', 'notch', 'slot', 'groove', 'shoulder', 'chamfer', 'chamfer_edges')
 _CUTS = ('cut', 'trim')
 # What misfits say, and conditions that say something else of a feature than of a command.
 _TEXTS = {
@@ -41,8 +41,8 @@ _TEXTS = {
     'NotOfFace': 'edge {} is none of the face', 'FlatEdge': 'the faces of edge {} lie in one plane',
     'NotAcross': "face {} doesn't lie across an axis", 'NothingLeft': 'nothing of solid {} would be left',
     'NoMatch': 'no face of solid {} matches one of those that are joined',
-    'GluedTwice': 'face {} matches another one too, which it would touch after the gluing', 'NoContact': 'solid {} touches the others in no face',
-    'Overlap': 'solid {} has room in common with another one, or their union would touch itself', 'PointRange': 'a point would lie past 1,000,000,000',
+    'GluedTwice': 'face {} matches another one too, which it would touch after the gluing', 'NoContact': 'no longer said: solids may lie apart in a union',
+    'Overlap': 'no longer said: solids may have room in common in a union', 'PointRange': 'a point would lie past 1,000,000,000',
     'NoCorner': "the slopes of edges that end at vertex {} don't meet in one point, or more than three edges end there",
     'NotAlike': 'edge {} is of another solid than the first, or bends the other way',
     'NotClosed': "a side of face {} hasn't one side, of one face, that runs the other way",

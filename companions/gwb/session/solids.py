@@ -188,14 +188,47 @@ class SolidMethods(Methods):
         return self.cut(solid, plane, keep='below', scale=scale).lower_caps
 
     def union(self, solids: Sequence[arguments.Solid]) -> int:
-        """The solids, which touch in faces and have no room in common, become one: the number of the first of them. Faces of one plane
-        beside each other become one, and so do the edges that go on straight.
+        """The solids, which may cross, touch or lie apart, become one: the number of the first of them. Faces of one plane beside each other
+        become one, and so do the edges that go on straight.
 
-        Refused: NoSolid, NotFlat; NoContact: a solid touches the others in no face; Overlap: two have room in common, or the union
-        would touch itself; OffLattice: edges of two solids cross between whole coordinates."""
+        Refused: NoSolid, NotFlat; OffLattice, with the least factor by which all must be scaled, or 0 where that passes 2^32 - 1; Meets: what is made would
+        touch itself. Of more than two solids two at a time are combined, and two that can't be wait until others were."""
         numbers = self._different('solids', solids, 'solid', 2)
+        return self._combined('union', numbers[0], words(numbers), len(numbers))
+
+    def subtract(self, solid: arguments.Solid, tools: Sequence[arguments.Solid]) -> int:
+        """The solid becomes what is left of it without the tools, which go: its number. What falls apart stays one solid. Refused: as `union`, and
+        NothingLeft."""
+        number, gone = self._number('solid', solid), self._different('tools', tools, 'solid', 1)
+        if number in gone:
+            raise ValueError(f'tools: the solid {number} itself is one of them')
+        return self._combined('subtract', number, number, words(gone), len(gone))
+
+    def intersect(self, solids: Sequence[arguments.Solid]) -> int:
+        """The first of the solids becomes what all have in common, and the others go: its number. Refused: as `subtract`."""
+        numbers = self._different('solids', solids, 'solid', 2)
+        return self._combined('intersect', numbers[0], words(numbers), len(numbers))
+
+    def join_faces(self, solid: arguments.Solid) -> int:
+        """Faces of one plane beside each other in a solid become one, and so do edges that go on straight: its number. Refused: NoSolid, NotFlat; Meets:
+        the solid touches itself so that no outlines come of it."""
+        number = self._number('solid', solid)
+        return self._combined('join_faces', number, number)
+
+    def separate(self, solid: arguments.Solid) -> Numbers:
+        """Each connected component of a solid becomes a solid, with the cavities that it holds: all of them, by their least faces, of which the first keeps
+        the number, and all have its label. Refused: NoSolid, NotFlat, NumbersSpent."""
+        number = self._number('solid', solid)
         with Block(self._kernel, False):
-            self._kernel.give('union', words(numbers), len(numbers))
+            self._kernel.give('separate', number)
+            pairs = self._kernel.pairs(SOLIDS)
+            self._label_alike('solid', [pair for pair in pairs if pair[0] != pair[1]])
+        return tuple(part for _, part in pairs)
+
+    def _combined(self, word: str, number: int, *given: Any) -> int:
+        """What comes of solids, of which this one stays, whose faces have the labels of what went into them."""
+        with Block(self._kernel, False):
+            self._kernel.give(word, *given)
             merged: Dict[int, List[int]] = {}
             for face, part in self._kernel.pairs(INTO):
                 merged.setdefault(part, []).insert(0 if face == part else len(merged[part]), face)
@@ -203,7 +236,7 @@ class SolidMethods(Methods):
                 if len({self._kernel.notes.labels.get(('face', face)) for face in faces}) > 1:
                     warn('faces {} become one, which keeps the label of face {}'.format(' and '.join(map(str, faces)), faces[0]))
                 self._label_alike('face', [(faces[0], part)])
-        return numbers[0]
+        return number
 
     def _copied(self, number: int, change: Change) -> Copy:
         """A copy of the solid in another place, with its labels. Refused: NoSolid, PointRange, OffLattice, NumbersSpent."""

@@ -389,6 +389,10 @@ extern "C" {
     pub fn gwb_cut(g: *mut Gwb, solid: u32, plane: *const CutPlane, above: u32, why: *mut Refusal) -> u32;
     pub fn gwb_trim(g: *mut Gwb, solid: u32, plane: *const CutPlane, why: *mut Refusal) -> u32;
     pub fn gwb_union(g: *mut Gwb, solids: *const u32, n: usize, why: *mut Refusal) -> u32;
+    pub fn gwb_subtract(g: *mut Gwb, solid: u32, tools: *const u32, n: usize, why: *mut Refusal) -> u32;
+    pub fn gwb_intersect(g: *mut Gwb, solids: *const u32, n: usize, why: *mut Refusal) -> u32;
+    pub fn gwb_separate(g: *mut Gwb, solid: u32, why: *mut Refusal) -> u32;
+    pub fn gwb_join_faces(g: *mut Gwb, solid: u32, why: *mut Refusal) -> u32;
     pub fn gwb_off_lattice(g: *const Gwb, solid: u32, plane: *const CutPlane, most: usize, advice: *mut *mut Advice, why: *mut Refusal) -> u32;
     pub fn gwb_advice_free(advice: *mut Advice);
     pub fn gwb_advice_factor(advice: *const Advice) -> Wide;

@@ -1,0 +1,153 @@
+#include "outlines.hpp"
+
+namespace gwb_session::outlines {
+
+namespace {
+
+using Owners = std::array<Number, 2>;
+
+/// The least common multiple of scales: the greatest value stands for all that are larger.
+class Factor {
+public:
+    void take(Wide scale)
+    {
+        const Wide step = scale / greatest_divisor(value_, scale);
+        value_ = step > greatest / value_ ? greatest : value_ * step;
+    }
+    void require_one() const
+    {
+        require(value_ == 1, impossible(Misfit::off_lattice, value_ <= UINT32_MAX ? static_cast<std::uint32_t>(value_) : 0));
+    }
+
+private:
+    static constexpr Wide greatest = Wide{1} << 62;
+    Wide value_ = 1;
+};
+
+/// What bounds all faces of one name, as sides between whole points. A point that isn't whole is passed over where one side goes straight on there.
+class Outline {
+public:
+    Outline(const Operands &all, const std::vector<const Bound *> &bounds) : all_(all), bounds_(bounds)
+    {
+        for (const Bound *bound : bounds) {
+            if (!all.points.is_whole(bound->from))
+                between_[bound->from].out.push_back(bound);
+            if (!all.points.is_whole(bound->to))
+                between_[bound->to].in.push_back(bound);
+        }
+    }
+
+    void raise(Factor &factor) const
+    {
+        for (const auto &[point, ends] : between_)
+            if (!ends.go_on_straight())
+                factor.take(all_.points.at(point).scale);
+    }
+
+    void put_regions(std::vector<Sheet> &found, const Failure &why)
+    {
+        for (const Bound *bound : bounds_)
+            if (between_.count(bound->from) == 0)
+                put_side(*bound);
+        const Bound &first = *bounds_[0];
+        const Plane &plane = all_.sheet(first.owner).plane;
+        if (is_as_it_was()) {
+            found.push_back(all_.sheet(first.owner));
+            return;
+        }
+        const Plane seen = first.is_turned ? plane.turned() : plane;
+        for (const std::vector<Cycle> &cycles : regions_of(sides_, seen.across, why))
+            found.push_back({Shape(seen, cycles), owners_of(cycles), {}});
+    }
+
+private:
+    struct Ends {
+        std::vector<const Bound *> in, out;
+        [[nodiscard]] bool go_on_straight() const { return in.size() == 1 && out.size() == 1 && reduced(in[0]->way) == reduced(out[0]->way); }
+    };
+
+    /// The side that a piece is the first part of.
+    void put_side(const Bound &first)
+    {
+        const Bound *last = &first;
+        HalfEdge half = first.half;
+        Owners owners = first.owners;
+        while (between_.count(last->to) != 0) {
+            last = between_.at(last->to).out[0];
+            half = half != HalfEdge() ? half : last->half;
+            for (std::size_t solid : {0, 1})
+                owners[solid] = owners[solid] != none ? owners[solid] : last->owners[solid];
+        }
+        sides_.push_back({all_.points.at(first.from).at, all_.points.at(last->to).at, half});
+        owners_[{sides_.back().start, sides_.back().end}] = owners;
+    }
+
+    /// Whether this is all of a face that stays.
+    [[nodiscard]] bool is_as_it_was() const
+    {
+        const Bound &first = *bounds_[0];
+        const std::vector<Side> &before = all_.sheet(first.owner).sides;
+        if (first.is_turned || sides_.size() != before.size() || !all(bounds_, [&](const Bound *bound) { return bound->owner == first.owner; }))
+            return false;
+        const std::set<Side> now(sides_.begin(), sides_.end());
+        return all(before, [&](const Side &side) { return now.count(side) != 0; });
+    }
+
+    /// The faces that cycles are parts of, rising.
+    [[nodiscard]] std::vector<Face> owners_of(const std::vector<Cycle> &cycles) const
+    {
+        std::set<Number> found;
+        for (const Side &side : joined(cycles)) {
+            const Owners &owners = owners_.at({side.start, side.end});
+            std::copy_if(owners.begin(), owners.end(), std::inserter(found, found.end()), [](Number owner) { return owner != none; });
+        }
+        return mapped(found, [&](Number face) { return all_.sheet(face).owners[0]; });
+    }
+
+    const Operands &all_;
+    const std::vector<const Bound *> &bounds_;
+    std::map<Number, Ends> between_; ///< points that aren't whole
+    std::vector<Side> sides_;
+    std::map<std::pair<Vector, Vector>, Owners> owners_; ///< of sides
+};
+
+/// The bounds of faces by the least face that each is a part of, where faces on both sides of seams became one.
+std::map<Number, std::vector<const Bound *>> by_names(const Operands &all, const Bounds &bounds, Joins joins)
+{
+    JoinedSets<Number> names;
+    for (const auto &[left, right] : bounds.seams)
+        if (joins == Joins::all || all.faces[left.owner].solid != all.faces[right.owner].solid) {
+            const auto [one, other] = std::minmax({names.name(left.owner), names.name(right.owner)});
+            names.join(one, other);
+        }
+    std::map<Number, std::vector<const Bound *>> found;
+    for (const Bound &bound : bounds.kept)
+        found[names.name(bound.owner)].push_back(&bound);
+    for (const auto &[left, right] : bounds.seams)
+        if (names.name(left.owner) != names.name(right.owner))
+            for (const Bound *bound : {&left, &right})
+                found[names.name(bound->owner)].push_back(bound);
+    return found;
+}
+
+} // namespace
+
+std::vector<Sheet> regions(const Operands &all, const Bounds &bounds, Joins joins, const Failure &why)
+{
+    const auto named = by_names(all, bounds, joins);
+    std::vector<Outline> outlines;
+    Factor factor;
+    for (const auto &[name, sides] : named) {
+        go_on();
+        outlines.emplace_back(all, sides).raise(factor);
+    }
+    factor.require_one();
+    std::vector<Sheet> found;
+    for (Outline &outline : outlines) {
+        go_on();
+        outline.put_regions(found, why);
+    }
+    return found;
+}
+
+} // namespace gwb_session::outlines

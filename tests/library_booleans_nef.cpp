@@ -1,0 +1,469 @@
+// Tries the Booleans of gwb_features.h beside CGAL's Nef polyhedra, on random solids in chains: blocks, L, U and T shapes, convex prisms, upright and slanted, with
+// holes and pockets, pyramids and tetrahedra, whose planes and edges often coincide. Of what is made the volume, vertices, edges, faces, rings, shells and
+// each point are compared; of what isn't whether it would be off the lattice, with which least factor, touch itself, or be nothing. The last line counts;
+// the one before it counts the outcomes, each of which has to be seen 20 times where no seeds are given.
+//
+//     library_booleans_nef [FIRST COUNT]     so many chains of three operations from this seed on: 170 from 1 on where none are given
+extern "C" {
+#include "gwb.h"
+#include "gwb_features.h"
+}
+#include <CGAL/Exact_predicates_exact_constructions_kernel.h>
+#include <CGAL/Nef_polyhedron_3.h>
+#include <CGAL/Surface_mesh.h>
+#include <algorithm>
+#include <array>
+#include <iostream>
+#include <map>
+#include <random>
+#include <set>
+#include <sstream>
+#include <string>
+#include <vector>
+
+using Kernel = CGAL::Exact_predicates_exact_constructions_kernel;
+using Nef = CGAL::Nef_polyhedron_3<Kernel>;
+using Mesh = CGAL::Surface_mesh<Kernel::Point_3>;
+using Exact = std::decay_t<decltype(CGAL::exact(std::declval<Kernel::FT>()))>;
+using Integer = CGAL::Fraction_traits<Exact>::Denominator_type;
+using Place = std::array<Exact, 3>;
+
+static int passed = 0, failed = 0;
+
+static void check(bool holds, const std::string &what)
+{
+    (holds ? passed : failed)++;
+    if (!holds)
+        std::cout << what << '\n';
+}
+
+// ---- random solids
+
+class Random {
+public:
+    explicit Random(std::uint64_t seed) : engine_(seed) {}
+    std::int64_t to(std::int64_t low, std::int64_t high) { return low + static_cast<std::int64_t>(engine_() % static_cast<std::uint64_t>(high - low + 1)); }
+    bool one_in(int n) { return to(1, n) == 1; }
+
+private:
+    std::mt19937_64 engine_;
+};
+
+using Flat = std::array<std::int64_t, 2>;
+
+static std::int64_t turn(const Flat &a, const Flat &b, const Flat &c) { return (b[0] - a[0]) * (c[1] - b[1]) - (b[1] - a[1]) * (c[0] - b[0]); }
+
+// An outline without the points on which it goes straight on.
+static std::vector<Flat> without_straight(std::vector<Flat> outline)
+{
+    for (std::size_t at = 0; at < outline.size() && outline.size() >= 3;) {
+        const std::size_t n = outline.size();
+        const bool is_straight = turn(outline[(at + n - 1) % n], outline[at], outline[(at + 1) % n]) == 0;
+        if (is_straight)
+            outline.erase(outline.begin() + static_cast<std::ptrdiff_t>(at));
+        at = is_straight ? 0 : at + 1;
+    }
+    return outline;
+}
+
+static std::vector<Flat> hull(std::vector<Flat> points)
+{
+    std::sort(points.begin(), points.end());
+    std::vector<Flat> found;
+    for (int half = 0; half < 2; half++) {
+        const std::size_t first = found.size();
+        for (const Flat &point : points) {
+            while (found.size() >= first + 2 && turn(found[found.size() - 2], found.back(), point) <= 0)
+                found.pop_back();
+            found.push_back(point);
+        }
+        found.pop_back();
+        std::reverse(points.begin(), points.end());
+    }
+    return found;
+}
+
+// A simple outline near the square from 0 to n.
+static std::vector<Flat> outline(Random &random, std::int64_t n)
+{
+    const std::int64_t a = random.to(1, n), b = random.to(1, n), c = random.to(1, std::max<std::int64_t>(1, a - 1)),
+                       d = random.to(1, std::max<std::int64_t>(1, b - 1)), s = random.to(1, 2), m = 2 * s + random.to(0, 3);
+    std::vector<Flat> points;
+    switch (random.to(0, 8)) {
+    case 0:
+    case 1: return {{0, 0}, {a, 0}, {a, b}, {0, b}};
+    case 2: return {{0, 0}, {a + 1, 0}, {a + 1, d}, {c, d}, {c, b + 1}, {0, b + 1}};
+    case 3: return {{0, 0}, {a + 2, 0}, {a + 2, b + 1}, {a + 1, b + 1}, {a + 1, d}, {c, d}, {c, b + 1}, {0, b + 1}};
+    case 4: return {{0, 0}, {a, 0}, {0, b}};
+    case 5: return {{s, 0}, {m, 0}, {m + s, s}, {m + s, m}, {m, m + s}, {s, m + s}, {0, m}, {0, s}};
+    case 6: return {{0, 0}, {a + 1, 0}, {a + 1, 2}, {a, 2}, {a, b + 2}, {1, b + 2}, {1, 2}, {0, 2}};
+    case 7: return {{a, 0}, {2 * a, b}, {a, 2 * b}, {0, b}};
+    default:
+        for (int at = 0; at < 6; at++)
+            points.push_back({random.to(0, n), random.to(0, n)});
+        points = hull(points);
+        return points.size() < 3 ? std::vector<Flat>{{0, 0}, {n, 0}, {n, n}, {0, n}} : points;
+    }
+}
+
+// Makes solids of about 0 to n, times a factor, round a base.
+class Maker {
+public:
+    Maker(gwb *g, Random &random, std::int64_t n, std::int64_t factor, const std::array<std::int64_t, 3> &base)
+        : g_(g), random_(random), n_(n), factor_(factor), base_(base)
+    {
+    }
+
+    void make(std::uint32_t solid)
+    {
+        bool is_made = false;
+        while (!is_made) {
+            axis_ = static_cast<std::size_t>(random_.to(0, 2));
+            at_ = {random_.to(0, n_), random_.to(0, n_), random_.to(0, n_)};
+            const std::vector<Flat> path = without_straight(outline(random_, n_));
+            is_made = random_.to(0, 4) == 0 ? pyramid(solid, path) : prism(solid, path);
+        }
+    }
+
+private:
+    [[nodiscard]] gwb_point point(std::int64_t u, std::int64_t v, std::int64_t w) const
+    {
+        std::array<std::int64_t, 3> found{};
+        found[axis_] = w, found[(axis_ + 1) % 3] = u, found[(axis_ + 2) % 3] = v;
+        for (std::size_t axis = 0; axis < 3; axis++)
+            found[axis] = base_[axis] + (found[axis] + at_[axis]) * factor_;
+        return {found[0], found[1], found[2]};
+    }
+
+    // (of a convex base alone, since others might cross themselves)
+    bool pyramid(std::uint32_t solid, const std::vector<Flat> &path)
+    {
+        const std::size_t n = path.size();
+        for (std::size_t at = 0; at < n; at++)
+            if (turn(path[at], path[(at + 1) % n], path[(at + 2) % n]) <= 0)
+                return false;
+        std::vector<gwb_point> points;
+        for (const Flat &corner : path)
+            points.push_back(point(corner[0], corner[1], 0));
+        points.push_back(point(random_.to(-1, n_ + 1), random_.to(-1, n_ + 1), random_.to(1, n_)));
+        const auto top = static_cast<std::uint32_t>(n);
+        std::vector<std::uint32_t> corners, sizes = {top};
+        for (std::uint32_t at = top; at-- > 0;)
+            corners.push_back(at);
+        for (std::uint32_t at = 0; at < top; at++) {
+            corners.insert(corners.end(), {at, (at + 1) % top, top});
+            sizes.push_back(3);
+        }
+        gwb_polyhedron_made made;
+        gwb_refusal why{};
+        return gwb_polyhedron(g_, solid, points.data(), points.size(), corners.data(), sizes.data(), sizes.size(), &made, &why) == GWB_OK;
+    }
+
+    bool prism(std::uint32_t solid, const std::vector<Flat> &path)
+    {
+        std::vector<gwb_point> points;
+        for (const Flat &corner : path)
+            points.push_back(point(corner[0], corner[1], 0));
+        const std::int64_t height = random_.to(1, n_);
+        const bool is_slanted = random_.one_in(8);
+        const gwb_point zero = point(0, 0, 0), top = point(is_slanted ? random_.to(-2, 2) : 0, is_slanted ? random_.to(-2, 2) : 0, height);
+        const gwb_point along = {top.x - zero.x, top.y - zero.y, top.z - zero.z};
+        gwb_profile_made made;
+        gwb_refusal why{};
+        std::vector<std::uint32_t> sides(points.size());
+        if (gwb_profile(g_, solid, points.data(), points.size(), &along, &made, sides.data(), &why) != GWB_OK)
+            return false;
+        if (!is_slanted && random_.one_in(2))
+            sink(made.far, height);
+        return true;
+    }
+
+    // A hole or a pocket, where there is room.
+    void sink(std::uint32_t face, std::int64_t height)
+    {
+        const bool is_pocket = height > 1 && random_.one_in(3);
+        gwb_kind done = GWB_IMPOSSIBLE;
+        for (int tries = 0; tries < 6 && done != GWB_OK; tries++) {
+            const std::int64_t u = random_.to(0, n_), v = random_.to(0, n_), width = random_.to(1, 2), length = random_.to(1, 2);
+            const std::array<gwb_point, 4> points = {point(u, v, height), point(u + width, v, height), point(u + width, v + length, height),
+                                                     point(u, v + length, height)};
+            std::array<std::uint32_t, 4> walls{};
+            gwb_outline_made made;
+            gwb_refusal why{};
+            done = is_pocket ? gwb_pocket(g_, face, points.data(), 4, random_.to(1, height - 1) * factor_, &made, walls.data(), &why)
+                             : gwb_hole(g_, face, points.data(), 4, &made, walls.data(), &why);
+        }
+    }
+
+    gwb *g_;
+    Random &random_;
+    std::int64_t n_, factor_;
+    std::array<std::int64_t, 3> base_, at_{};
+    std::size_t axis_ = 0;
+};
+
+// ---- what there is of a solid
+
+struct Told {
+    std::size_t vertices = 0, edges = 0, faces = 0, rings = 0, shells = 0;
+    Exact six_volume = 0;
+    std::set<Place> points = {};
+    bool operator==(const Told &other) const
+    {
+        return vertices == other.vertices && edges == other.edges && faces == other.faces && rings == other.rings && shells == other.shells &&
+               six_volume == other.six_volume && points == other.points;
+    }
+};
+
+static std::string text(const Told &told)
+{
+    std::ostringstream found;
+    found << "V " << told.vertices << " E " << told.edges << " F " << told.faces << " rings " << told.rings << " shells " << told.shells << " six volumes "
+          << told.six_volume;
+    return found.str();
+}
+
+static Place place_of(const Kernel::Point_3 &point) { return {CGAL::exact(point.x()), CGAL::exact(point.y()), CGAL::exact(point.z())}; }
+static Exact exact(std::int64_t number)
+{
+    std::stringstream digits;
+    digits << number;
+    Exact found;
+    digits >> found;
+    return found;
+}
+
+// The cycles round a facet, and what it adds to six times the volume.
+static std::size_t cycles_of(const Nef::Halffacet_const_handle &facet, Exact &six_volume)
+{
+    std::size_t cycles = 0;
+    for (auto cycle = facet->facet_cycles_begin(); cycle != facet->facet_cycles_end(); ++cycle) {
+        if (!cycle.is_shalfedge())
+            continue;
+        cycles++;
+        const Nef::SHalfedge_const_handle first(cycle);
+        Place area = {0, 0, 0};
+        Nef::SHalfedge_const_handle at = first;
+        do {
+            const Place p = place_of(at->source()->source()->point()), q = place_of(at->next()->source()->source()->point());
+            for (std::size_t axis = 0; axis < 3; axis++)
+                area[axis] += p[(axis + 1) % 3] * q[(axis + 2) % 3] - p[(axis + 2) % 3] * q[(axis + 1) % 3];
+            at = at->next();
+        } while (at != first);
+        const Place base = place_of(first->source()->source()->point());
+        for (std::size_t axis = 0; axis < 3; axis++)
+            six_volume += area[axis] * base[axis];
+    }
+    return cycles;
+}
+
+static Told told(const Nef &nef)
+{
+    Told found{nef.number_of_vertices(), nef.number_of_edges(), nef.number_of_facets()};
+    for (auto vertex = nef.vertices_begin(); vertex != nef.vertices_end(); ++vertex)
+        found.points.insert(place_of(vertex->point()));
+    for (auto facet = nef.halffacets_begin(); facet != nef.halffacets_end(); ++facet)
+        if (facet->incident_volume()->mark())
+            found.rings += cycles_of(facet, found.six_volume) - 1;
+    if (found.six_volume < 0)
+        found.six_volume = -found.six_volume;
+    for (auto volume = nef.volumes_begin(); volume != nef.volumes_end(); ++volume)
+        if (volume->mark())
+            found.shells += static_cast<std::size_t>(std::distance(volume->shells_begin(), volume->shells_end()));
+    return found;
+}
+
+// The least number by which all points must be multiplied to be whole.
+static Integer factor_of(const Told &told)
+{
+    Integer found = 1;
+    for (const Place &point : told.points)
+        for (const Exact &part : point) {
+            CGAL::Fraction_traits<Exact>::Numerator_type numerator;
+            Integer denominator;
+            CGAL::Fraction_traits<Exact>::Decompose()(part, numerator, denominator);
+            found = found / CGAL::gcd(found, denominator) * denominator;
+        }
+    return found;
+}
+
+static Told told(const gwb *g, std::uint32_t solid)
+{
+    std::vector<gwb_half_edge_row> rows(gwb_read_half_edges(g, solid, nullptr, 0));
+    gwb_read_half_edges(g, solid, rows.data(), rows.size());
+    std::map<std::uint32_t, std::uint32_t> above, first;
+    const auto name = [&](std::uint32_t vertex) {
+        while (above.at(vertex) != vertex)
+            vertex = above.at(vertex);
+        return vertex;
+    };
+    std::set<std::uint32_t> loops;
+    for (const gwb_half_edge_row &row : rows) {
+        loops.insert(row.loop);
+        const std::uint32_t other = first.try_emplace(row.face, row.start).first->second;
+        above.try_emplace(row.start, row.start);
+        above[name(row.start)] = name(other);
+    }
+    Told found{above.size(), rows.size() / 2, first.size(), loops.size() - first.size()};
+    for (const auto &[vertex, up] : above) {
+        gwb_point point;
+        gwb_vertex(g, vertex, &point);
+        found.points.insert({exact(point.x), exact(point.y), exact(point.z)});
+        found.shells += up == vertex ? 1 : 0;
+    }
+    gwb_wide six;
+    gwb_refusal why{};
+    gwb_read_volume(g, solid, &six, &why);
+    constexpr std::int64_t half = std::int64_t{1} << 32;
+    found.six_volume = (exact(six.high) * exact(half) + exact(static_cast<std::int64_t>(six.low >> 32))) * exact(half) +
+                       exact(static_cast<std::int64_t>(six.low & 0xffffffffU));
+    return found;
+}
+
+static Nef nef_of(const gwb *g, std::uint32_t solid)
+{
+    std::vector<gwb_triangle_row> rows(gwb_read_triangles(g, solid, nullptr, 0));
+    gwb_read_triangles(g, solid, rows.data(), rows.size());
+    Mesh mesh;
+    std::map<std::uint32_t, Mesh::Vertex_index> vertices;
+    for (const gwb_triangle_row &row : rows) {
+        std::vector<Mesh::Vertex_index> corners;
+        for (std::uint32_t corner : row.corners) {
+            const auto [found, is_new] = vertices.try_emplace(corner);
+            if (is_new) {
+                gwb_point point;
+                gwb_vertex(g, corner, &point);
+                found->second = mesh.add_vertex({static_cast<double>(point.x), static_cast<double>(point.y), static_cast<double>(point.z)});
+            }
+            corners.push_back(found->second);
+        }
+        mesh.add_face(corners);
+    }
+    return Nef(mesh);
+}
+
+static std::string listing(const gwb *g)
+{
+    std::string text(gwb_read_listing(g, nullptr, 0), ' ');
+    gwb_read_listing(g, text.data(), text.size());
+    return text;
+}
+
+// ---- both
+
+enum class Operation { unite, subtract, intersect };
+
+static Nef combined(const Nef &one, const Nef &other, Operation operation)
+{
+    switch (operation) {
+    case Operation::unite: return one.join(other).regularization();
+    case Operation::subtract: return one.difference(other).regularization();
+    default: return one.intersection(other).regularization();
+    }
+}
+
+static gwb_kind combined(gwb *g, Operation operation, gwb_refusal *why)
+{
+    const std::array<std::uint32_t, 2> both = {1, 2};
+    switch (operation) {
+    case Operation::unite: return gwb_union(g, both.data(), both.size(), why);
+    case Operation::subtract: return gwb_subtract(g, 1, &both[1], 1, why);
+    default: return gwb_intersect(g, both.data(), both.size(), why);
+    }
+}
+
+class Chain {
+public:
+    Chain(std::uint64_t seed, std::map<std::string, int> &outcomes) : seed_(seed), random_(seed), outcomes_(outcomes)
+    {
+        if (!gwb_open(&g_))
+            std::abort();
+    }
+    Chain(const Chain &) = delete;
+    Chain &operator=(const Chain &) = delete;
+    ~Chain() { gwb_close(&g_); }
+
+    void run()
+    {
+        constexpr std::array<std::int64_t, 8> factors = {1, 1, 2, 12, 60, 2'520, 27'720, 10'000'000};
+        const std::int64_t n = random_.to(2, 6), factor = factors[static_cast<std::size_t>(random_.to(0, 7))];
+        std::array<std::int64_t, 3> base{};
+        if (random_.one_in(3))
+            for (std::int64_t &part : base)
+                part = random_.to(-100'000'000, 100'000'000);
+        Maker maker(&g_, random_, n, factor, base);
+        maker.make(1);
+        held_ = nef_of(&g_, 1);
+        for (int step = 0; step < 3; step++) {
+            maker.make(2);
+            take(static_cast<Operation>(random_.to(0, 2)));
+        }
+    }
+
+private:
+    void take(Operation operation)
+    {
+        const std::string before = listing(&g_);
+        const Nef made = combined(held_, nef_of(&g_, 2), operation);
+        gwb_refusal why{};
+        const gwb_kind kind = combined(&g_, operation, &why);
+        const Told wanted = told(made);
+        const std::string name = kind == GWB_OK ? "made" : kind == GWB_IMPOSSIBLE ? gwb_misfit_name(why.number) : gwb_kind_text(kind);
+        outcomes_[name]++;
+        check(is_right(kind, why, made, wanted),
+              "seed " + std::to_string(seed_) + ": " + name + " " + std::to_string(why.value) + " in place of " + text(wanted) + "; of\n" + before);
+        if (kind == GWB_OK) {
+            undo_and_redo(before);
+            held_ = made;
+        } else {
+            check(listing(&g_) == before, "what is refused changes nothing");
+            gwb_kill_solid(&g_, 2, &why);
+        }
+    }
+
+    [[nodiscard]] bool is_right(gwb_kind kind, const gwb_refusal &why, const Nef &made, const Told &wanted) const
+    {
+        const Integer factor = factor_of(wanted);
+        if (kind == GWB_OK)
+            return made.is_simple() && factor == 1 && told(&g_, 1) == wanted;
+        if (kind != GWB_IMPOSSIBLE)
+            return false;
+        switch (why.number) {
+        case GWB_MISFIT_NOTHING_LEFT: return wanted.vertices == 0 && why.value == 1;
+        case GWB_MISFIT_MEETS: return !made.is_simple() && why.value == 1;
+        case GWB_MISFIT_OFF_LATTICE: return factor != 1 && (why.value != 0 ? factor == Integer(why.value) : factor > Integer(UINT32_MAX));
+        default: return false;
+        }
+    }
+
+    void undo_and_redo(const std::string &before)
+    {
+        const std::string after = listing(&g_);
+        gwb_undo(&g_);
+        check(listing(&g_) == before, "it is undone");
+        gwb_redo(&g_);
+        check(listing(&g_) == after, "and redone");
+    }
+
+    std::uint64_t seed_;
+    Random random_;
+    std::map<std::string, int> &outcomes_;
+    gwb g_ = {};
+    Nef held_;
+};
+
+int main(int argc, char **argv)
+{
+    const bool has_seeds = argc == 3;
+    const std::uint64_t first = has_seeds ? std::stoull(argv[1]) : 1, count = has_seeds ? std::stoull(argv[2]) : 170;
+    std::map<std::string, int> outcomes;
+    for (std::uint64_t seed = first; seed < first + count; seed++)
+        Chain(seed, outcomes).run();
+    for (const char *name : {"made", "OffLattice", "Meets", "NothingLeft"})
+        check(has_seeds || outcomes[name] >= 20, std::string(name) + " is seen too seldom");
+    std::cout << 3 * count << " operations:";
+    for (const auto &[name, times] : outcomes)
+        std::cout << ' ' << name << ' ' << times;
+    std::cout << '\n' << passed << " passed, " << failed << " failed\n";
+    return failed != 0;
+}
