@@ -41,9 +41,10 @@ def model_of_parts(parts: Sequence[Part], scale: Exact, rounded: bool, keep_tria
     """The model with a solid for each part, for the parts of one named solid together, or for each outer shell where the file doesn't
     say which shells are a solid."""
     work = _Work(Grid(scale, rounded, within), scale, keep_triangles, repair)
-    held = [(part, surface) for part, surface in ((part, work.surface(number, part)) for number, part in enumerate(parts, 1))
-            if surface is not None]
-    model = model_of_surfaces([surface for _, surface in held])
+    found = [(part, surface) for part, surface in ((part, work.surface(number, part)) for number, part in enumerate(parts, 1))
+             if surface is not None]
+    model, held = model_of_surfaces([surface for _, surface in found]), [(part, surface.origins) for part, surface in found]
+    del found    # (the sides of surfaces are as large as the model)
     stage('looking for shells')
     shells, measured = {solid: model.shells(solid) for solid in model.solids}, _Measured(model)
     work.name_unfit(measured.unfit)
@@ -220,10 +221,10 @@ def _with_solids(model: Model, groups: Sequence[_Solid]) -> Model:
     return sorted_model(range(1, len(groups) + 1), faces, model.loops, model.edges, model.vertices)
 
 
-def _looks(held: Sequence[Tuple[Part, Surface]], groups: Sequence[_Solid], model: Model) -> Dict[Thing, Appearance]:
+def _looks(held: Sequence[Tuple[Part, Sequence[Sequence[int]]]], groups: Sequence[_Solid], model: Model) -> Dict[Thing, Appearance]:
     """The names and colours of solids and of faces by their numbers."""
     plain = Appearance()
-    origins = dict(zip(model.faces, ((part, origins) for part, surface in held for origins in surface.origins)))
+    origins = dict(zip(model.faces, ((part, origins) for part, of_faces in held for origins in of_faces)))
     looks: Dict[Thing, Appearance] = {}
     for solid, group in enumerate(groups, 1):
         part = held[group.part][0]

@@ -1,10 +1,10 @@
 """Closed surfaces of polygons as models: faces of one plane joined, edges paired, vertices numbered."""
 
-from itertools import chain, count, islice
+from itertools import accumulate, chain
 from typing import Dict, Hashable, List, NamedTuple, Sequence, Tuple
 
 from ..errors import Unfit
-from ..geometry.free_numbers import LARGEST, from_least, sorted_model
+from ..geometry.free_numbers import LARGEST, from_least
 from ..geometry.joined_sets import JoinedSets
 from ..geometry.measures import area_vector
 from ..geometry.model import Face, Loop, Model
@@ -18,7 +18,7 @@ class Surface(NamedTuple):
     """Faces of cycles of sides, the outline first; for each the places of the polygons that it comes from. And for each side its vertex."""
 
     sides: Sides
-    faces: List[Cycles]
+    faces: List[Sequence[Sequence[int]]]
     origins: List[Tuple[int, ...]]
     vertex: List[int]
 
@@ -30,8 +30,8 @@ class Surface(NamedTuple):
 def surface_of(soup: Soup) -> Surface:
     """The soup as a closed surface. Raises Unfit, with the place, where it isn't closed."""
     sides = Sides(soup)
-    numbers = count()
-    faces = [[list(islice(numbers, len(cycle))) for cycle in face] for face in soup.faces]
+    first = chain((0,), accumulate(len(cycle) for face in soup.faces for cycle in face))
+    faces: List[Sequence[Sequence[int]]] = [[range(at, at + len(cycle)) for cycle, at in zip(face, first)] for face in soup.faces]
     return Surface(sides, faces, [(origin,) for origin in soup.origins], sides.vertices())
 
 
@@ -50,7 +50,7 @@ def with_joined_faces(surface: Surface, tags: Sequence[Hashable], drop_arealess:
     found = surface._replace(faces=[], origins=[])
     for held in members.values():
         looks = next((directions[place] for place in held if directions[place] != ZERO), ZERO)
-        faces = _joined(surface, held, looks, regions) if len(held) > 1 else []
+        faces: Sequence[Sequence[Sequence[int]]] = _joined(surface, held, looks, regions) if len(held) > 1 else []
         found.faces.extend(faces or [surface.faces[place] for place in held])
         origins = [surface.origins[place] for place in held]
         found.origins.extend([tuple(chain.from_iterable(origins))] if faces else origins)
@@ -176,4 +176,4 @@ class _Builder:
             raise Unfit(f'there are {len(self._edges):,} edges, and {LARGEST:,} numbers')
         for vertex, point in self._vertices.items():
             require_in_range(vertex, point)
-        return sorted_model(range(1, solids + 1), self._faces, self._loops, self._edges, self._vertices)
+        return Model(tuple(range(1, solids + 1)), self._faces, self._loops, self._edges, self._vertices)
