@@ -43,7 +43,18 @@ fn run_opened<F: Inlet<W> + Drop, W: Outlet>(
     }
 }
 
-/// Runs the script that was chosen. If no file is named, `opening` is handed back.
+/// How the run ended. What was not used of what `serve` was given is handed back.
+#[derive(Drop)]
+pub struct Outcome<R, O> {
+    /// What was counted, or why the program ends before its script is answered.
+    pub ended: Result<Summary, Trouble>,
+    /// What opens FILE, if no file is named or the words give no choice.
+    pub opening: Option<O>,
+    /// Standard input, from which nothing was read, if a file is named or the words give no choice.
+    pub input: Option<R>,
+}
+
+/// Runs the script that was chosen. If no file is named, `opening` is handed back, and else `input`.
 fn follow<R: Inlet<W> + Drop, F: Inlet<W> + Drop, O: FnOnce(&str) -> Option<F> + Drop, W: Outlet>(
     alloc: Global,
     choice: &Choice,
@@ -51,29 +62,38 @@ fn follow<R: Inlet<W> + Drop, F: Inlet<W> + Drop, O: FnOnce(&str) -> Option<F> +
     opening: O,
     console: &mut Console,
     writer: &mut W,
-) -> (Result<Summary, Trouble>, Option<O>)
+) -> Outcome<R, O>
     requires callable { O.IsAlwaysCallable opening }
     requires start { IsNew console.old }
-    ensures runs { RunsFile opening (FnOnceReturnsAt O.FnOnce opening) F.remaining (R.remaining input) (W.contents writer.old) (W.contents writer.new) choice.now.stop result (option_map string_bytes choice.now.file) }
-    ensures reached { AllHandedOn (W.reached writer.new) (W.contents writer.new) result.0 }
+    ensures runs { RunsFile input opening (FnOnceReturnsAt O.FnOnce opening) F.remaining (R.remaining input) (W.contents writer.old) (W.contents writer.new) choice.now.stop result (option_map string_bytes choice.now.file) }
+    ensures reached { AllHandedOn (W.reached writer.new) (W.contents writer.new) result.ended }
 {
     match &choice.file {
         Some(name) => {
             let opened = opening(name.as_str());
             let ended = run_opened(alloc, opened, console, writer, choice.stop);
-            (ended, None)
+            Outcome {
+                ended,
+                opening: None,
+                input: Some(input),
+            }
         }
         None => {
             let ended = answer(alloc, input, console, writer, choice.stop);
-            (ended, Some(opening))
+            Outcome {
+                ended,
+                opening: Some(opening),
+                input: None,
+            }
         }
     }
 }
 
 /// Runs the script that the words of a command line choose; the first word is the program's name. If the words name FILE, the script is that file,
 /// opened by `opening`; else it is `input`. With `--stop` the run ends after the first reply that begins with `refused`, `fault` or `memory`.
-/// `opening` can be called once. It is handed back if it was not called: if the words name no FILE, and if they give no choice. The script is
-/// answered in the console given, whose new session is then the caller's to keep or to free.
+/// `opening` can be called once. It is handed back if it was not called: if the words name no FILE, and if they give no choice. `input` is handed
+/// back as it was given if it isn't the script. The script is answered in the console given, whose new session is then the caller's to keep or to
+/// free.
 ///
 /// `Trouble::Words` comes if the words are refused or ask for help or the version, `Trouble::Open` if `opening` gives nothing; then nothing is read
 /// or written. `Trouble::Run` is the run's, or says that memory was refused while the words were read. Unless a write failed, all that was written
@@ -90,14 +110,18 @@ pub fn serve<
     opening: O,
     console: &mut Console,
     writer: &mut W,
-) -> (Result<Summary, Trouble>, Option<O>)
+) -> Outcome<R, O>
     requires callable { O.IsAlwaysCallable opening }
     requires start { IsNew console.old }
-    ensures serves { Serves opening (FnOnceReturnsAt O.FnOnce opening) F.remaining (R.remaining input) (W.contents writer.old) (W.contents writer.new) (map string_bytes words.now) result }
-    ensures reached { AllHandedOn (W.reached writer.new) (W.contents writer.new) result.0 }
+    ensures serves { Serves input opening (FnOnceReturnsAt O.FnOnce opening) F.remaining (R.remaining input) (W.contents writer.old) (W.contents writer.new) (map string_bytes words.now) result }
+    ensures reached { AllHandedOn (W.reached writer.new) (W.contents writer.new) result.ended }
 {
     match read_words(alloc, words) {
         Ok(choice) => follow(alloc, &choice, input, opening, console, writer),
-        Err(fault) => (Err(Trouble::from(fault)), Some(opening)),
+        Err(fault) => Outcome {
+            ended: Err(Trouble::from(fault)),
+            opening: Some(opening),
+            input: Some(input),
+        },
     }
 }

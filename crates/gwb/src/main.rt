@@ -9,7 +9,7 @@
 //! `main` has no contract, and is short, so that it can be read. The words of the process, its standard input, its files and its standard output go
 //! to `serve`. What `serve` returns, clap's way to print and standard error go to `end`. What these two do with them is proved in `command_line`.
 
-pub use command_line::{Trouble, WordsFault, end, not_text, serve};
+pub use command_line::{Outcome, Trouble, WordsFault, end, not_text, serve};
 pub use script_running::{Console, RunFault, Summary};
 use std::alloc::AllocError;
 use std::fs::File;
@@ -40,7 +40,7 @@ fn begin(rt: &HostRuntime) -> Result<Summary, Trouble> {
         return Err(Trouble::Run(RunFault::Memory));
     };
     let open = |name: &str| File::open(rt, name).ok();
-    let (ended, _) = serve(
+    let Outcome { ended, .. } = serve(
         rt.alloc(),
         words.as_slice(),
         rt.stdin(),
