@@ -90,7 +90,7 @@ class Outlines(unittest.TestCase):
 
     def test_names_that_would_be_one_layer(self):
         looks = {('solid', 1): Appearance('a.b'), ('solid', 2): Appearance('a,b')}
-        self.assertEqual(layers(section_dxf(model_in(TWO), (0, 0, 2, -1), Said(looks))), ['SOLID_1', 'SOLID_2'])
+        self.assertEqual(layers(section_dxf(model_in(TWO), (0, 0, 2, -1), Said(looks))), ['A_B__SOLID_1_', 'A_B__SOLID_2_'])
 
     def test_a_slanted_section_has_its_true_size(self):
         (_, corners), = outlines(section_dxf(model_in(listing(POINTS, FACES)), (1, 1, 0, -4), Said()))

@@ -85,7 +85,7 @@ class Looks(InFolder):
         self.file('part.mtl', mtl_text(LOOKS))
         named = {**LOOKS, ('solid', 1): Appearance('a  lid', RED)}
         back = self.looks_back('part.obj', obj_text(mesh, named, 'part.mtl'))
-        self.assertEqual(back['solid', 1].name, 'a lid')
+        self.assertEqual(back['solid', 1].name, 'a_lid')    # (many readers end a name at a blank)
         self.assertEqual([back['face', face].colour for face in (1, 2, 3, 8)], [RED, BLUE, RED, GREY])
         whole = {('solid', 1): Appearance('lid', RED), ('solid', 2): Appearance('pan', BLUE)}
         self.assertEqual(self.looks_back('part.obj', obj_text(mesh, whole, 'part.mtl')), whole)

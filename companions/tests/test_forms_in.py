@@ -385,7 +385,7 @@ class Kinds(unittest.TestCase):
         for words in (['/dev/null'], ):
             outcome = run('import', *words)
             self.assertEqual(outcome.status, 3)
-            self.assertIn('it is of no form that is known: OFF, OBJ, STL, 3MF, PLY, AMF, STEP, GLB; --form says which', outcome.err)
+            self.assertIn('it is of no form that is known: STEP, GLB, 3MF, PLY, OFF, STL, AMF, OBJ; --form says which', outcome.err)
 
 
 if __name__ == '__main__':

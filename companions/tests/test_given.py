@@ -10,10 +10,10 @@ from support import box, program, run, shells
 from gwb.errors import CompanionError
 from gwb.formats.appearance import Appearance, Said, comments
 from gwb.formats.mesh import mesh_of
-from gwb.formats.mesh_files import FORMS as WRITTEN
-from gwb.formats.polygon_files import FORMS
+from gwb.formats.forms import FORMS, MESHES, READ
 from gwb.formats.step.write import step_text
-from gwb.programs.given import REPLIES, SCRIPT, first_answered, given, kind_of
+from gwb.programs.given import REPLIES, SCRIPT, given, kind_of
+from gwb.protocol.language import first_answered
 from gwb.protocol.listing import read_model
 
 SCRIPT_TEXT = '# Geh\u00e4use\n# solid 1 name "Lid" colour #FF8000\n# solid 2 name "Base"\nblock 1 0 0 0 4 5 6\nblock 2 10 0 0 3 3 3\n'
@@ -54,7 +54,7 @@ def files_of(folder: Path) -> dict:
     replies = listed(SCRIPT_TEXT)
     model = read_model(replies)
     held = {'script': SCRIPT_TEXT.encode(), 'replies': replies, 'listing': replies.partition(b'ok\nok\n')[2], 'step': step_text(model, LOOKS).encode(),
-            'ply': ply_of(model).encode(), 'amf': amf_of(model).encode(), **{form: write(mesh_of(model), Said(LOOKS)) for form, write in WRITTEN.items()}}
+            'ply': ply_of(model).encode(), 'amf': amf_of(model).encode(), **{form: FORMS[form].write(model, Said(LOOKS)) for form in MESHES}}
     paths = {}
     for name, data in held.items():
         paths[name] = folder / f'part.{name}'
@@ -82,10 +82,10 @@ class Pairs(InFolder):
 
     def test_all_pairs(self):
         paths = files_of(self.folder)
-        self.assertEqual(set(paths), {'script', 'replies', 'listing', *FORMS})
+        self.assertEqual(set(paths), {'script', 'replies', 'listing', *READ})
         for name, path in paths.items():
             found = given(str(path))
-            self.assertEqual(found.kind, {'script': SCRIPT}.get(name, name if name in FORMS else REPLIES))
+            self.assertEqual(found.kind, {'script': SCRIPT}.get(name, name if name in READ else REPLIES))
             beside = self.file('part', listed('\n'.join(run('script', str(path)).out.splitlines()) + '\n'))
             names = self.file('names.gwb', '\n'.join(comments(found.said.looks)) + '\n')
             for companion, words in TAKING.items():
@@ -111,7 +111,7 @@ class Pairs(InFolder):
         """What a file is is said by its bytes: no name is needed."""
         for name, path in files_of(self.folder).items():
             if name != 'script':
-                self.assertEqual(kind_of(path.read_bytes(), None), name if name in FORMS else REPLIES)
+                self.assertEqual(kind_of(path.read_bytes(), None), name if name in READ else REPLIES)
         self.assertEqual(kind_of(SCRIPT_TEXT.encode(), '-'), SCRIPT)
 
 
@@ -120,7 +120,8 @@ class Kinds(InFolder):
 
     def test_by_the_first_line(self):
         for data, kind in ((b'block 1 0 0 0 1 1 1', SCRIPT), (b'\n# \xc3\xa4\n  mvfs 1 1 1 1 0 0 0\n', SCRIPT), (b'ok\n', REPLIES),
-                           (b'solid 1\nface 1 1 1\n', REPLIES), (b'solid 1\nfacet normal 0 0 1\n', 'stl'), (b'solid 1\nendsolid 1\n', 'stl'), (b'solid lid\n', 'stl'), (b'solid 1\n', REPLIES),
+                           (b'solid 1\nface 1 1 1\n', REPLIES), (b'solid 1\nfacet normal 0 0 1\n', 'stl'), (b'solid 1\nendsolid 1\n', 'stl'),
+                           (b'solid lid\n', 'stl'), (b'solid 1\n', REPLIES),
                            (b'# OBJ\nv 0 0 0\n', 'obj'), (b'# made\nOFF\n', 'off'), (b'', REPLIES), (b'# nothing\n', REPLIES)):
             self.assertEqual(kind_of(data, None), kind, data)
         self.assertEqual(kind_of(b'blok 1 0 0 0 1 1 1\n', 'part.gwb'), SCRIPT)
@@ -129,7 +130,7 @@ class Kinds(InFolder):
         self.assertEqual(first_answered(b'#' + b'x' * 200_000 + b'\nblock 1 0 0 0 1 1 1\n'), b'block 1 0 0 0 1 1 1')
 
     def test_what_is_none(self):
-        for name, data, said in (('part', 'hello\n', '`hello` begins no script and no replies of gwb; it is of no form that is known'),
+        for name, data, said in (('part', 'hello\n', '`hello` begins no script, no replies of gwb and no form that is read: STEP, GLB, 3MF'),
                                  ('part.dxf', 'SECTION\n', 'it looks like DXF, which is not read: write STL or 3MF there'),
                                  ('part', bytes(range(256)), 'begins no script'), ('part.step', '', 'the file is empty')):
             path = self.file(name, data)

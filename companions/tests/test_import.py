@@ -15,7 +15,7 @@ from gwb.checks.check import check
 from gwb.errors import CompanionError, Unfit
 from gwb.formats.importing import imported
 from gwb.formats.mesh import mesh_of
-from gwb.formats.mesh_files import FORMS
+from gwb.formats.forms import FORMS
 from gwb.formats.models_of_parts import model_of_parts
 from gwb.formats.parts import Part
 from gwb.formats.polygon_files import read_parts
@@ -133,13 +133,13 @@ class RoundTrips(InFiles):
 
     def forms(self, model):
         try:
-            mesh = mesh_of(model)
+            mesh_of(model)
             yield 'step', step_text(model)
         except Unfit:
             return
         for form in ('off', 'obj', 'stl', '3mf'):
             if form in ('obj', '3mf') or len(model.solids) == 1:
-                yield form, FORMS[form](mesh, Said())
+                yield form, FORMS[form].write(model, Said())
 
     def test_voids(self):
         points, faces = box((0, 0, 0), (9, 9, 9))
@@ -215,7 +215,7 @@ class Forms(InFiles):
 
     def test_triangles_are_kept(self):
         points, faces = box((0, 0, 0), (4, 4, 4))
-        data = FORMS['off'](mesh_of(model_in(listing(points, faces))), Said())
+        data = FORMS['off'].write(model_in(listing(points, faces)), Said())
         self.assertEqual((len(self.read(data).faces), len(self.read(data, keep_triangles=True).faces)), (6, 12))
 
     def test_inside_out(self):
@@ -241,7 +241,7 @@ class Touching(InFiles):
         return off(points, faces)
 
     def both(self, data, *sizes):
-        for text in (data, FORMS['stl'](mesh_of(self.read(data)), Said())):
+        for text in (data, FORMS['stl'].write(self.read(data), Said())):
             back = self.read(text)
             self.assertEqual(volumes(back), sorted(6 * size for size in sizes))
             self.accepted(back)

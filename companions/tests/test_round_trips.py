@@ -14,7 +14,7 @@ from support import box, listing, model_in, library, turned
 from gwb import Refused, Workbench
 from gwb.errors import Unfit
 from gwb.formats.mesh import mesh_of
-from gwb.formats.mesh_files import FORMS
+from gwb.formats.forms import FORMS, MESHES
 from gwb.formats.models_of_parts import model_of_parts
 from gwb.formats.polygon_files import read_parts
 from gwb.formats.step.write import step_text
@@ -65,9 +65,9 @@ def is_back(model, form, text):
 def files(model):
     """The files of a model, each with what it holds: form, model and text. A form that doesn't say what is a solid holds one alone."""
     yield 'step', model, step_text(model)
-    for form, write in FORMS.items():
+    for form in MESHES:
         for part in [model.only(solid) for solid in model.solids] if form in ('off', 'stl') else [model]:
-            yield form, part, write(mesh_of(part), Said())
+            yield form, part, FORMS[form].write(part, Said())
 
 
 def comb(teeth, width, height):

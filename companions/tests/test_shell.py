@@ -3,6 +3,7 @@
 import io
 import os
 import pty
+import re
 import signal
 import select
 import shutil
@@ -18,6 +19,7 @@ from unittest import mock
 from support import COMPANIONS, REPOSITORY, box, listing, model_in, program, run
 
 from gwb.programs.shell import Shell, choices, program_help
+from gwb.protocol.command_rows import COMMAND_ROWS
 from gwb.protocol.language import COMMANDS
 
 BLOCK = model_in(listing(*box((0, 0, 0), (4, 4, 4))))
@@ -104,6 +106,7 @@ class AtATerminal(unittest.TestCase):
         self.assertEqual(terminal.answer('redo all'), '1 redone\n')
         self.assertEqual(terminal.answer('undo all x'), "fault 4: ExtraWord: a word is left over\n")
         self.assertIn('mev CORNER CORNER E V x y z', terminal.answer('help mev'))
+        self.assertIn('refused: 5 NoEdge, 4 NoLoop', terminal.answer('help mev'))
         self.assertEqual(terminal.end('quit\n'), 0)
 
     def test_completion(self):
@@ -256,6 +259,48 @@ class Choices(unittest.TestCase):
         lone = model_in('solid 1\nface 1 1 3\nloop 3 at 1\nvertex 1 0 0 0\n')
         self.assertEqual(choices(program_help(program()).rows['mev'], 2, lone), ['@3'])
         self.assertEqual(choices(program_help(program()).rows['kev'], 1, lone), [])
+
+
+class Cures(unittest.TestCase):
+    """What is said under a complaint, and of refusals."""
+
+    def test_a_complaint_says_what_would_do(self):
+        done = piped(b'block 1 0 0 0 7 5 3\nsplit 1 2 3 0 -11 2\nexplain\nglue 1 99\nexplain NotLattice 12 nothing\nhelp split\nexit\nlist\n')
+        lines = done.stdout.decode().splitlines()
+        self.assertEqual(lines[1], 'refused 37 1: NotLattice: the plane cuts edge 1 between whole coordinates')
+        cures = lines[2:lines.index('split 1 2 3 0 -11 2: ' + lines[1])]
+        self.assertIn('    split 1 2 3 0 -12 2', cures)
+        again = lines.index('split 1 2 3 0 -11 2: ' + lines[1]) + 1
+        self.assertEqual(lines[again:again + len(cures)], cures)
+        self.assertIn('37 NotLattice: the plane cuts edge X between whole coordinates; a finer unit would do, or a plane near by', lines)
+        self.assertTrue(any(line.startswith('12 NotBare: ') for line in lines))
+        self.assertIn('nothing is no refusal; help lists commands', lines)
+        self.assertTrue(any(line.startswith('refused: 2 NoSolid, 6 SolidTaken, 35 PlaneRange') for line in lines))
+        self.assertEqual(lines[-1], 'example: split 1 1 0 0 -2 2')
+
+    def test_nothing_to_explain(self):
+        self.assertEqual(piped(b'explain\n').stdout, b'nothing was complained about\n')
+
+    def test_no_word_that_it_has_is_denied(self):
+        done = piped(b'help exit explain quit\n')
+        self.assertNotIn(b'no command', done.stdout)
+
+    def test_comments_of_any_letters(self):
+        self.assertEqual(piped('# \u00e4\nundo\n'.encode()).stdout, b'refused 25 0: NothingToUndo: there is nothing to undo\n')
+
+    def test_the_rows_are_those_of_the_page(self):
+        page = (REPOSITORY / 'docs' / 'SCRIPT.md').read_text(encoding='utf-8').split('\n## Commands\n')[1].split('\n## ')[0]
+        found = {}
+        for section in page.split('\n### ')[1:]:
+            head, _, body = section.partition('\n')
+            told = re.search(r'Refused:(.*?)(?:From (?:nothing|the)|```)', ' '.join(body.split()))
+            numbers = tuple(dict.fromkeys(map(int, re.findall(r'\b(\d+) [A-Z][a-z][a-zA-Z]+', told[1])))) if told else ()
+            lines = [line for block in re.findall(r'```gwb\n(.*?)```', body, re.S) for line in block.splitlines()]
+            for name in dict.fromkeys(usage.split()[0] for usage in re.findall(r'`([^`]+)`', head)):
+                found[name] = numbers, [re.split('  +', line)[0] for line in lines if line.split()[:1] == [name] and 'refused' not in line]
+        self.assertEqual({name: row.refusals for name, row in COMMAND_ROWS.items()}, {name: numbers for name, (numbers, _) in found.items()})
+        for name, row in COMMAND_ROWS.items():
+            self.assertTrue(row.example in found[name][1] if row.example else not found[name][1])
 
 
 if __name__ == '__main__':

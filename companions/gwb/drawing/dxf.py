@@ -82,9 +82,7 @@ def face_dxf(model: Model, face: int, said: Said) -> str:
 
 def _layers(model: Model, said: Said) -> Dict[int, str]:
     """The names of the solids' layers, of the letters that layers have in release 12."""
-    names = unique_names(model.solids, said.looks, 'SOLID_')
-    plain = {solid: _NO_LETTER.sub('_', name.upper())[:_LONGEST_NAME] for solid, name in names.items()}
-    return {solid: name if list(plain.values()).count(name) == 1 else f'SOLID_{solid}' for solid, name in plain.items()}
+    return unique_names(model.solids, said.looks, 'SOLID_', lambda name: _NO_LETTER.sub('_', name.upper())[:_LONGEST_NAME])
 
 
 def _outlined(across: Vector, outlines: Iterable[Tuple[str, Sequence[ExactVector]]], layers: Sequence[str], unit: Fraction) -> str:

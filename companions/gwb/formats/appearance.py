@@ -7,7 +7,7 @@ import json
 import re
 from collections import Counter
 from fractions import Fraction
-from typing import Dict, Iterable, Iterator, Mapping, NamedTuple, Optional, Tuple
+from typing import Callable, Dict, Iterable, Iterator, Mapping, NamedTuple, Optional, Tuple
 
 Colour = Tuple[int, int, int]
 # A solid or a face: ('solid', 3).
@@ -20,8 +20,8 @@ LONGEST_NAME = 200
 PLAIN_MATERIAL = 'plain'
 
 # Names that the writers give where they know none, and what they put behind a name that several solids have.
-_NUMBERED = re.compile(r'(?:solid|face)[ _][0-9]+|gwb')
-_BEHIND = re.compile(r' \(solid [0-9]+\)$')
+_NUMBERED = re.compile(r'(?:solid|face)[ _][0-9]+|gwb', re.IGNORECASE)
+_BEHIND = re.compile(r'[ _]\(solid[ _][0-9]+\)$')
 
 
 class Appearance(NamedTuple):
@@ -79,12 +79,16 @@ def comments(appearances: Appearances) -> Iterator[str]:
             yield f'# {kind} {number}{name}' + (f' colour {hexadecimal(look.colour)}' if look.colour else '')
 
 
-def unique_names(numbers: Iterable[int], appearances: Appearances, plain: str) -> Dict[int, str]:
-    """A name for each solid: its own, with its number behind it where others have it too, or the plain one with its number."""
-    names = {number: look_of(appearances, 'solid', number).name for number in numbers}
+def unique_names(numbers: Iterable[int], appearances: Appearances, plain: str, spelled: Callable[[str], str] = str) -> Dict[int, str]:
+    """A name for each solid, all of them different in the letters that a form has, as `spelled` makes them: its own, with its number behind it where
+    others have it too, or the plain one with its number."""
+    own = {number: look_of(appearances, 'solid', number).name for number in numbers}
+    names = {number: spelled(name) for number, name in own.items()}
     times = Counter(names.values())
-    return {number: f'{plain}{number}' if not name else f'{name} (solid {number})' if times[name] > 1 or _NUMBERED.fullmatch(name) else name
-            for number, name in names.items()}
+    single = {number: name for number, name in names.items() if name and times[name] == 1 and not _NUMBERED.fullmatch(name)}
+    longer = {number: spelled(f'{own[number]} (solid {number})') for number, name in names.items() if name and number not in single}
+    known = Counter([*single.values(), *longer.values()])
+    return {number: single.get(number) or (longer[number] if known[longer.get(number, '')] == 1 else f'{plain}{number}') for number in names}
 
 
 def appearances_in(lines: Iterable[str]) -> Dict[Thing, Appearance]:

@@ -253,12 +253,15 @@ class _Reader:
         if 'sparse' in accessor or accessor.get('normalized') or 'bufferView' not in accessor:
             raise NotAMesh(f'accessor {number} is sparse, normalized or without a buffer, which is not read')
         view = self._at('bufferViews', accessor['bufferView'])
-        if view['buffer'] != 0 or 'uri' in self._at('buffers', 0):
+        if _whole(view, 'buffer') != 0 or 'uri' in self._at('buffers', 0):
             raise NotAMesh('it has buffers in other files, which are not read')
-        letter, count = _TYPES[accessor['componentType']], accessor['count']
+        kind, count = _whole(accessor, 'componentType'), _whole(accessor, 'count')
+        if kind not in _TYPES:
+            raise NotAMesh(f'accessor {number} has numbers of the kind {kind}, which is not known')
+        letter = _TYPES[kind]
         size = struct.calcsize(f'<{width}{letter}')
-        start: int = view.get('byteOffset', 0) + accessor.get('byteOffset', 0)
-        step: int = view.get('byteStride', size)
+        start = _whole(view, 'byteOffset', 0) + _whole(accessor, 'byteOffset', 0)
+        step = _whole(view, 'byteStride', size)
         end = start + step * (count - 1) + size
         if start < 0 or step < size or count < 0 or count and end > len(self._buffer):
             raise NotAMesh(f'accessor {number} reaches past the end of the buffer')
@@ -274,6 +277,14 @@ class _Reader:
             return None
         red, green, blue = (_shown(float(factor)) for factor in factors[:3])
         return (red, green, blue)
+
+
+def _whole(held: Dict[str, Any], name: str, otherwise: Optional[int] = None) -> int:
+    """A whole number that something of the file has by a name. Raises NotAMesh where it has none."""
+    found = held.get(name, otherwise)
+    if not isinstance(found, int) or isinstance(found, bool):
+        raise NotAMesh(f'{name} is no whole number in it: {str(found)[:20]}')
+    return found
 
 
 def _placement(node: Dict[str, Any]) -> Placement:

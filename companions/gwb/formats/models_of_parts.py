@@ -1,5 +1,6 @@
 """Makes a model of the parts of a file: whole points, closed surfaces, faces joined, shells turned right, solids told apart."""
 
+from collections import Counter
 from typing import Callable, Dict, Hashable, Iterator, List, NamedTuple, Optional, Sequence, Set, Tuple
 
 from ..errors import Unfit
@@ -10,13 +11,14 @@ from ..geometry.model import Face, Loop, Model
 from ..geometry.nesting import Enclosures, Shell, nests
 from ..geometry.plane_figures import Exact
 from ..geometry.vectors import ZERO, dot
+from ..joining.sides import NotClosed
 from ..joining.soup import Soup, soup_of
 from ..joining.surfaces import Surface, arealess, model_of_surfaces, surface_of, with_joined_faces
 from .appearance import Appearance, Thing
 from .exact_numbers import told
 from .grid import Grid
 from .parts import Part, Polygon
-from .repair import DROPPED, Repairs, count, repaired
+from .repair import DROPPED, Repairs, count, cure, repaired
 
 Stage = Callable[[str], None]
 
@@ -70,10 +72,16 @@ class _Work:
 
     def surface(self, number: int, part: Part) -> Optional[Surface]:
         """The closed surface of a part, None where nothing is left of it. Raises Unfit where it isn't closed."""
+        where = f'part {number}{part.called}: ' if number > 1 or part.look.name else ''
         try:
-            surface = self._joined(surface_of(self._soup(part)), part)
+            soup = self._soup(part)
         except Unfit as error:
-            where = f'part {number}{part.called}: ' if number > 1 or part.look.name else ''
+            raise Unfit(f'{where}{error}{self._multiplied(part)}{_also_open(part)}') from None
+        try:
+            surface = self._joined(surface_of(soup), part)
+        except NotClosed as error:
+            raise Unfit(f'{where}{error}{"" if self._repair else cure(soup, error)}{self._multiplied(part)}') from None
+        except Unfit as error:
             raise Unfit(f'{where}{error}{self._multiplied(part)}') from None
         if len(part.polygons) and not surface.faces:
             self.wrong.append(f'part {number}{part.called} comes to nothing and is left out: no face of it keeps three corners')
@@ -123,6 +131,15 @@ class _Work:
         if self._collapsed:
             lines.append(f'{self._collapsed} polygon{"" if self._collapsed == 1 else "s"} of fewer than three different corners left out')
         return lines
+
+
+def _also_open(part: Part) -> str:
+    """What is to be said besides where the polygons of a part whose points aren't whole have open edges too."""
+    first: Dict[ExactVector, int] = {}
+    name = [first.setdefault(point, place) for place, point in enumerate(part.points)]
+    sides = Counter(frozenset((name[a], name[b])) for polygon in part.polygons for loop in polygon for a, b in zip(loop, [*loop[1:], loop[0]]))
+    single = sum(1 for side, times in sides.items() if times == 1 and len(side) == 2)
+    return f'; and it is open: {single} edges have one face' if single else ''
 
 
 def _used(part: Part) -> Tuple[List[ExactVector], List[Polygon]]:

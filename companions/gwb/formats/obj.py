@@ -92,7 +92,7 @@ class _Reader:
         elif word == 'usemtl':
             self._colour = self._materials.get(' '.join(rest))
         elif word == 'mtllib':
-            self._read_materials(' '.join(rest))
+            self._read_libraries(rest)
         elif word in _CURVED:
             raise NotAMesh('it has curved surfaces: only polygons are read')
 
@@ -108,11 +108,20 @@ class _Reader:
         colours = {look.colour for look in gathered.looks.values()}
         return colours.pop() if len(colours) == 1 and len(gathered.looks) == len(gathered.polygons) else None
 
-    def _read_materials(self, name: str) -> None:
-        data = self._beside(name)
-        if data is None:
-            self.notes[f'the material file {shortened(name)} is not beside it: its colours are missing'] = None
-            return
+    def _read_libraries(self, words: List[str]) -> None:
+        """The files of materials that a line names: one whose name has blanks, or several."""
+        whole = ' '.join(words)
+        held = {whole: self._beside(whole)}
+        if held[whole] is None and len(words) > 1:
+            several = {name: self._beside(name) for name in words}
+            held = several if any(data is not None for data in several.values()) else held
+        for name, data in held.items():
+            if data is None:
+                self.notes[f'the material file {shortened(name)} is not beside it: its colours are missing'] = None
+            else:
+                self._read_materials(data)
+
+    def _read_materials(self, data: bytes) -> None:
         material = ''
         for _, words in numbered_words(as_utf_8(data).data):
             if words[0] == 'newmtl':
@@ -143,15 +152,20 @@ def _material(colour: Optional[Colour]) -> str:
     return PLAIN_MATERIAL if colour is None else f'colour_{hexadecimal(colour)[1:]}'
 
 
+def _in_one_word(name: str) -> str:
+    """A name without blanks, at which many readers end it, and without the sign of comments."""
+    return '_'.join(name.replace('#', ' ').split())
+
+
 def _obj_lines(mesh: Mesh, looks: Appearances, materials: Optional[str], groups: bool, lengths: InMillimetres) -> Iterator[str]:
     if materials is not None:
         yield f'mtllib {materials}'
     places = {vertex: place for place, vertex in enumerate(mesh.vertices, 1)}
     for vertex in mesh.vertices:
         yield f'v {lengths.point(mesh.model.vertices[vertex])}'
-    names = unique_names(mesh.model.solids, looks, 'solid_')
+    names = unique_names(mesh.model.solids, looks, 'solid_', _in_one_word)
     for solid in mesh.model.solids:
-        yield 'o ' + ' '.join(names[solid].split())
+        yield f'o {names[solid]}'
         used = ''
         for face in mesh.faces_of(solid):
             if groups:

@@ -7,6 +7,7 @@ from ..geometry.free_numbers import from_least
 from ..geometry.plane_figures import Corner
 from ..geometry.triangulation import triangulate
 from ..geometry.vectors import ZERO, flat_axes
+from ..joining.sides import NotClosed
 from ..joining.soup import Cycles, Soup, across, is_bent
 
 Repairs = Dict[str, int]
@@ -16,6 +17,14 @@ TRIANGULATED, DROPPED, TURNED, DOUBLED = 'bent, cut into triangles', 'without an
 def repaired(soup: Soup, repairs: Repairs) -> Soup:
     """The soup without doubled and bent faces, and with its faces turned alike wherever they can be; what was done is added to the counts."""
     return _turned_alike(_without_bent(_without_folded(_without_doubled(soup, repairs), repairs), repairs), repairs)
+
+
+def cure(soup: Soup, wrong: NotClosed) -> str:
+    """What of a soup that isn't closed `--repair` would mend, as words to put behind what is wrong."""
+    doubled: Repairs = {}
+    if wrong.are_several and len(_without_doubled(soup, doubled).faces) < len(soup.faces):
+        return ': --repair leaves faces out that are there twice'
+    return ': --repair turns faces' if wrong.are_turned else ''
 
 
 def count(repairs: Repairs, what: str, times: int) -> None:

@@ -4,22 +4,20 @@ from pathlib import Path
 
 from ..geometry.model import Model
 from .appearance import Said
+from .forms import FORMS, by_ending
 from .mesh import mesh_of
-from .mesh_files import FORMS
 from .obj import mtl_text, obj_text
-from .step.write import step_text
 
 
 def written(model: Model, said: Said, file: Path) -> bytes:
     """What is to stand in this file, by the ending of its name; a .mtl beside it is written on the way."""
-    form = file.suffix.lower()
-    if form in ('.step', '.stp'):
-        return step_text(model, *said).encode()
-    mesh = mesh_of(model)
-    if form != '.obj' or not any(look.colour for look in said.looks.values()):
-        return FORMS[form[1:]](mesh, said)
+    form = by_ending(file.name)
+    write = FORMS[form].write
+    assert write, 'it is exported'
+    if form != 'obj' or not any(look.colour for look in said.looks.values()):
+        return write(model, said)
     materials = file.with_suffix('.mtl')
-    text = obj_text(mesh, said.looks, materials.name, unit=said.unit)
+    text = obj_text(mesh_of(model), said.looks, materials.name, unit=said.unit)
     is_named = file.exists() and f'mtllib {materials.name}'.encode() in file.read_bytes().splitlines()
     if materials.exists() and not is_named:
         raise FileExistsError(f'{materials} is there, and is of no {file.name} that is there: the colours would be written over it')

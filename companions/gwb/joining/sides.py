@@ -8,7 +8,15 @@ from ..geometry.vectors import Vector, ZERO, cross, dot, negative, subtract
 from .soup import Soup, across
 
 
-_HINTS = {'face that turns': ': --repair turns faces', 'edge of 3 faces': ': --repair leaves faces out that are there twice'}
+_OPEN, _TURNED = 'open edge', 'face that turns'
+
+
+class NotClosed(Unfit):
+    """The faces aren't a closed surface; `are_turned` where some edge has two that run the same way, and `are_several` where one has more than two."""
+
+    def __init__(self, text: str, are_turned: bool, are_several: bool) -> None:
+        super().__init__(text)
+        self.are_turned, self.are_several = are_turned, are_several
 
 
 class Sides:
@@ -16,7 +24,7 @@ class Sides:
     side of another face, or of the same, along which the surface goes on."""
 
     def __init__(self, soup: Soup) -> None:
-        """Raises Unfit, with the place, where the faces aren't a closed surface."""
+        """Raises NotClosed, with the place, where the faces aren't a closed surface."""
         self.points = soup.points
         self.start: List[int] = []
         self.after: List[int] = []
@@ -75,7 +83,8 @@ def _mates(sides: Sides, soup: Soup) -> List[int]:
         for one, other in pairs:
             mate[one], mate[other] = other, one
     if wrong:
-        raise Unfit(_told(wrong, soup.points))
+        kinds = {_kind(edge) for edge in wrong}
+        raise NotClosed(_told(wrong, soup.points), _TURNED in kinds, bool(kinds - {_OPEN, _TURNED}))
     return mate
 
 
@@ -149,23 +158,23 @@ def _told(wrong: Sequence[_Wrong], points: Sequence[Vector]) -> str:
 
 def _kind(edge: _Wrong) -> str:
     if edge.forth + edge.back == 1:
-        return 'open edge'
+        return _OPEN
     if edge.forth + edge.back == 2:
-        return 'face that turns'
+        return _TURNED
     return f'edge of {edge.forth + edge.back} faces'
 
 
 def _told_kind(kind: str, held: Sequence[_Wrong], points: Sequence[Vector]) -> str:
     start, end = points[held[0].start], points[held[0].end]
     where = 'the edge from ({} {} {}) to ({} {} {})'.format(*start, *end)
-    if kind == 'open edge':
+    if kind == _OPEN:
         what = f'{kind}: {where} has one face'
-    elif kind == 'face that turns':
+    elif kind == _TURNED:
         what = f'{kind}: at {where} both faces run the same way'
     else:
         what = f'{kind}: {where}'
     more = f', and {len(held) - 1} more' if len(held) > 1 else ''
-    return what + more + (_holes(held) if kind == 'open edge' else _HINTS.get(kind, ''))
+    return what + more + (_holes(held) if kind == _OPEN else '')
 
 
 def _holes(held: Sequence[_Wrong]) -> str:

@@ -8,11 +8,12 @@ from typing import NamedTuple, Optional, Tuple
 from ..errors import CompanionError, ProgramMissing, Unfit
 from ..formats.appearance import Said
 from ..formats.exact_numbers import told
+from ..formats.forms import FORMS, READ, titles
 from ..formats.importing import fitting
 from ..formats.parts import NotAMesh
-from ..formats.polygon_files import FORMS, form_of, told_unread
+from ..formats.polygon_files import form_of, told_unread
 from ..geometry.model import Model
-from ..protocol.language import COMMANDS, first_word, is_answered, is_comment
+from ..protocol.language import COMMANDS, first_answered, first_word
 from ..protocol.listing import read_listed
 from ..protocol.replies import is_listed, shortened
 from .command_line import read_bytes, told_later
@@ -24,7 +25,6 @@ _ENDING = '.gwb'
 _TOLD = 5
 # The first words of replies; three of them are commands too.
 _REPLY_WORDS = ('ok', 'empty', 'refused', 'fault', 'memory', 'volume', 'plane', 'count')
-_LONGEST = 1000
 
 
 class Given(NamedTuple):
@@ -42,19 +42,6 @@ class Given(NamedTuple):
             print(f'{program}: {line}', file=sys.stderr)
 
 
-def first_answered(data: bytes) -> bytes:
-    """The first line that isn't blank or a comment, of whatever letters, or as much of it as tells what it is; empty where there is none."""
-    start = 0
-    while start < len(data):
-        end = data.find(b'\n', start)
-        end = len(data) if end < 0 else end
-        line = data[start:min(end, start + _LONGEST)]
-        if is_answered(line) and not is_comment(line):
-            return line
-        start = end + 1
-    return b''
-
-
 def kind_of(data: bytes, path: Optional[str]) -> str:
     """What the bytes of a file are: a script, replies, or the name of a form. Raises NotAMesh where they are none of them."""
     name, line = (path or '').lower(), first_answered(data)
@@ -65,12 +52,12 @@ def kind_of(data: bytes, path: Optional[str]) -> str:
         return SCRIPT
     try:
         return form_of(data, name)
-    except NotAMesh as error:
+    except NotAMesh:
         if told_unread(name):
             raise
         if not line:
             return REPLIES
-        raise NotAMesh(f'`{shortened(ascii(text)[1:-1])}` begins no script and no replies of gwb; {error}') from None
+        raise NotAMesh(f'`{shortened(ascii(text)[1:-1])}` begins no script, no replies of gwb and no form that is read: {titles(READ)}') from None
 
 
 def _is_facet(data: bytes, line: bytes) -> bool:
@@ -80,7 +67,7 @@ def _is_facet(data: bytes, line: bytes) -> bool:
 
 def told_kind(kind: str) -> str:
     """What a file is, in words."""
-    return kind if kind in (SCRIPT, REPLIES) else f'a file of {kind.upper()}'
+    return kind if kind in (SCRIPT, REPLIES) else f'a file of {FORMS[kind].title}'
 
 
 def given(path: Optional[str], names: Optional[str] = None) -> Given:
@@ -91,7 +78,7 @@ def given(path: Optional[str], names: Optional[str] = None) -> Given:
         raise CompanionError(f'--names goes with replies of gwb, and this is {told_kind(kind)}, which says its own')
     if kind == SCRIPT:
         return _ended(data)
-    if kind in FORMS:
+    if kind in READ:
         return _imported(data, kind, path)
     listed = read_listed(data)
     said = Said() if names is None else _named(read_bytes(names), listed.model)

@@ -7,9 +7,9 @@ from typing import Optional, Sequence
 
 from ..formats.appearance import comments
 from ..formats.exact_numbers import NotANumber, exact_or_ratio, told
+from ..formats.forms import READ, titles
 from ..formats.importing import read_file
 from ..formats.models_of_parts import Imported
-from ..formats.polygon_files import FORMS
 from ..geometry.plane_figures import Exact
 from ..scripts.inversion import script_of
 from .command_line import FOUND, OK, add_version, run
@@ -34,8 +34,8 @@ def _parser() -> argparse.ArgumentParser:
         epilog='Status 0: done; 1: done, and something was left out or a face is not flat; 2: the command line is refused; '
                '3: the input is refused, or reading or writing failed.')
     parser.add_argument('file', nargs='?', metavar='FILE',
-                        help='OFF, OBJ, STL, 3MF, PLY, AMF, GLB, or STEP with flat faces (default: standard input)')
-    parser.add_argument('--form', choices=FORMS, help='the form of the file (default: what it looks like)')
+                        help=f'{titles(READ)}; of STEP flat faces (default: standard input)')
+    parser.add_argument('--form', choices=READ, help='the form of the file (default: what it looks like)')
     parser.add_argument('--scale', type=_above_zero, default=1, metavar='K', help='multiply coordinates, by 1000 or 1/2 say')
     parser.add_argument('--round', action='store_true', help='round coordinates, and say how far a point was moved at most')
     parser.add_argument('--within', type=_above_zero, default=0, metavar='D',

@@ -1,4 +1,4 @@
-"""gwb-mesh: writes a model as a mesh of triangles: OFF, OBJ, STL, 3MF or GLB."""
+"""gwb-mesh: writes a model as a mesh of triangles."""
 
 import argparse
 import os
@@ -6,8 +6,8 @@ import sys
 from typing import Optional, Sequence
 
 from ..formats.appearance import Said
-from ..formats.mesh import Mesh, mesh_of
-from ..formats.mesh_files import FORMS
+from ..formats.forms import FORMS, MESHES, SOLIDS, titles
+from ..formats.mesh import mesh_of
 from ..formats.obj import mtl_text, obj_text
 from ..geometry.model import Model
 from ..geometry.touching_solids import touching_solids
@@ -17,14 +17,12 @@ from .inside_out import warn_of_inside_out
 from .names_of_script import add_names
 
 PROGRAM = 'gwb-mesh'
-# Forms that don't say which triangles are a solid.
-_WITHOUT_SOLIDS = ('off', 'stl')
 
 
 def work(words: Optional[Sequence[str]]) -> int:
     """Reads a model and writes its mesh."""
-    parser = listing_parser(PROGRAM, 'Writes a model as a mesh of triangles, triangulated exactly.')
-    parser.add_argument('--form', choices=FORMS, default='off', help='the form of the mesh (default: off)')
+    parser = listing_parser(PROGRAM, f'Writes a model as a mesh of triangles, triangulated exactly: {titles(MESHES)}.')
+    parser.add_argument('--form', choices=MESHES, default='off', help='the form of the mesh (default: off)')
     parser.add_argument('--materials', metavar='FILE', help='with --form obj: write the colours to this file, which the mesh names')
     parser.add_argument('--groups', action='store_true', help='with --form obj: a group for each face, which many programs take for a mesh of its own')
     add_names(parser)
@@ -34,23 +32,25 @@ def work(words: Optional[Sequence[str]]) -> int:
     if options.groups and options.form != 'obj':
         parser.error('argument --groups: it goes with --form obj')
     model, said, *_ = filled(options)
-    mesh = mesh_of(model)
-    write_bytes(_written(mesh, options, said))
-    warn_of_inside_out(PROGRAM, mesh.model)
-    if options.form in _WITHOUT_SOLIDS:
-        warn_of_touching(mesh.model, options.form)
+    write_bytes(_written(model, options, said))
+    warn_of_inside_out(PROGRAM, model)
+    if FORMS[options.form].lacks(SOLIDS):
+        warn_of_touching(model, options.form)
     return OK
 
 
-def _written(mesh: Mesh, options: argparse.Namespace, said: Said) -> bytes:
+def _written(model: Model, options: argparse.Namespace, said: Said) -> bytes:
     """The mesh in the form that the words want; the file of materials is written on the way."""
-    if options.form != 'obj':
-        return FORMS[options.form](mesh, said)
-    if options.materials is None:
-        return obj_text(mesh, said.looks, None, said.unit, options.groups).encode('utf-8')
-    with open(options.materials, 'w', encoding='utf-8') as file:
-        file.write(mtl_text(said.looks))
-    return obj_text(mesh, said.looks, os.path.basename(options.materials), said.unit, options.groups).encode('utf-8')
+    write = FORMS[options.form].write
+    assert write, 'gwb-mesh writes it'
+    if options.materials is None and not options.groups:
+        return write(model, said)
+    name = None if options.materials is None else os.path.basename(options.materials)
+    text = obj_text(mesh_of(model), said.looks, name, said.unit, options.groups)
+    if options.materials is not None:
+        with open(options.materials, 'w', encoding='utf-8') as file:
+            file.write(mtl_text(said.looks))
+    return text.encode('utf-8')
 
 
 def warn_of_touching(model: Model, form: str) -> None:
@@ -58,7 +58,7 @@ def warn_of_touching(model: Model, form: str) -> None:
     pair = next(touching_solids(model), None)
     if pair is not None:
         print('{}: warning: solids {} and {} touch or overlap, and {} does not keep solids apart: many programs will read one wrong body. '
-              '--solid writes each alone, --form 3mf keeps them apart'.format(PROGRAM, *pair, form.upper()), file=sys.stderr)
+              '--solid writes each alone, --form 3mf keeps them apart'.format(PROGRAM, *pair, FORMS[form].title), file=sys.stderr)
 
 
 def main(words: Optional[Sequence[str]] = None) -> int:

@@ -16,10 +16,12 @@ from typing import Callable, Dict, Iterator, List, NamedTuple, Optional, Sequenc
 from ..errors import ProgramMissing
 from ..geometry.free_numbers import greatest_of, numbers_of
 from ..geometry.model import Model
-from ..protocol.language import COMMANDS, first_word, is_answered, is_comment
+from ..protocol.advice import advice
+from ..protocol.command_rows import COMMAND_ROWS
+from ..protocol.language import COMMANDS, NUMBERS, condition_text, first_word, is_answered, is_comment
 from ..protocol.listing import model_of
+from ..protocol.refusals import NAMES
 from ..protocol.replies import Reply
-from ..protocol.word_advice import word_advice
 from .command_line import FOUND, OK, add_version, read_bytes, run
 from .explain import Answered, complaints, meaning
 from .pipe import Pipe, find_program
@@ -46,8 +48,11 @@ class Usage(NamedTuple):
 _OWN = [
     Usage(['undo', 'all'], 'back to the empty workbench'),
     Usage(['redo', 'all'], 'forth, all that was undone'),
-    Usage(['help', 'COMMAND'], 'what a command takes, and what it does'),
-    Usage(['quit'], 'the end; so is Ctrl-D'),
+    Usage(['help', 'COMMAND'], 'what a command takes, and what it does; refusals and an example'),
+    Usage(['explain'], 'what the last complaint means, and what would do'),
+    Usage(['explain', 'REFUSAL'], 'what a refusal means, by its name or number'),
+    Usage(['quit'], 'the end; so are exit and Ctrl-D'),
+    Usage(['exit'], 'the same'),
 ]
 
 
@@ -114,6 +119,7 @@ class Shell(cmd.Cmd):
         self.complained = 0
         self._help = program_help(program)
         self._held: Optional[Model] = None
+        self._complaint: List[str] = []
         with _uninterrupted():
             self._pipe = Pipe(program)
 
@@ -158,10 +164,12 @@ class Shell(cmd.Cmd):
 
     def _answer(self, line: str) -> bool:
         words = line.split()
-        if words == ['quit']:
+        if words in (['quit'], ['exit']):
             return True
         if words[:1] == ['help']:
             print('\n'.join(self.help_lines(words[1:])))
+        elif words[:1] == ['explain']:
+            print('\n'.join(self.explained(words[1:])))
         elif words[1:] == ['all'] and words[0] in _REPEATED:
             print(self._repeat(words[0]), _REPEATED[words[0]])
         elif is_answered(data := line.encode('utf-8', 'surrogateescape')) and not is_comment(data):
@@ -172,12 +180,23 @@ class Shell(cmd.Cmd):
         """Undoes or redoes all; how many commands that were. The refusal at the end is no complaint."""
         return sum(1 for _ in iter(lambda: self._exchange(word).word == 'ok', False))
 
-    @staticmethod
-    def _show(line: str, reply: Reply) -> None:
-        words = [': ' + meaning(first_word(line.encode('utf-8', 'surrogateescape')), reply)] if reply.is_complaint else []
-        print('\n'.join(reply.lines), *words, sep='')
-        for told in word_advice(line, reply.numbers[0]) if reply.word == 'fault' else ():
-            print(f'    {told}')
+    def _show(self, line: str, reply: Reply) -> None:
+        """Prints a reply; of a complaint its meaning too, and what would do, which the model says that is held."""
+        if not reply.is_complaint:
+            print('\n'.join(reply.lines))
+            return
+        told = f'{reply.lines[0]}: {meaning(first_word(line.encode("utf-8", "surrogateescape")), reply)}'
+        cures = advice(line, reply, self._model)
+        self._complaint = [f'{line.strip()}: {told}', *(f'    {cure}' for cure in cures)]
+        print('\n'.join([told, *(f'    {cure}' for cure in cures)]))
+
+    def explained(self, names: Sequence[str]) -> List[str]:
+        """What the last complaint means, or the refusals with these names or numbers."""
+        if not names:
+            return self._complaint or ['nothing was complained about']
+        numbers = {name: int(name) if name.isdecimal() else NUMBERS.get(name, 0) for name in names}
+        return [f'{number} {NAMES[number]}: {condition_text(number)}' if number in NAMES else f'{name} is no refusal; help lists commands'
+                for name, number in numbers.items()]
 
     def help_lines(self, names: Sequence[str]) -> Iterator[str]:
         """What is said of the commands with these names, or of all."""
@@ -187,10 +206,14 @@ class Shell(cmd.Cmd):
         yield from (f'{name} is no command; help lists them' for name in names if all(name != usage.words[0] for usage in known))
         if any(word in ('HALF', 'CORNER') for usage in told for word in usage.words):
             yield self._help.corners
+        for name in dict.fromkeys(name for name in names if name in COMMAND_ROWS):
+            refusals, example = COMMAND_ROWS[name]
+            yield from [f'refused: {", ".join(f"{number} {NAMES[number]}" for number in refusals)}'] if refusals else []
+            yield from [f'example: {example}'] if example else []
 
     def completenames(self, text: str, *_: object) -> List[str]:
         """The commands that begin so."""
-        return _matching(text, [*COMMANDS, 'help', 'quit'])
+        return _matching(text, [*COMMANDS, 'help', 'explain', 'quit', 'exit'])
 
     def completedefault(self, text: str, line: str, begin: int, end: int) -> List[str]:  # type: ignore[override]
         """The words that begin so, and can stand at this place of the command."""

@@ -7,8 +7,9 @@ from typing import Optional, Sequence
 
 from ..drawing.page import page_of, page_of_steps
 from ..errors import CompanionError
+from ..protocol.language import first_answered
 from .command_line import OK, listing_parser, read_bytes, run
-from .given import REPLIES, SCRIPT, filled, first_answered, kind_of, told_kind
+from .given import REPLIES, SCRIPT, filled, kind_of, told_kind
 from .inside_out import warn_of_inside_out
 from .names_of_script import add_names, said_in
 from .playing import played

@@ -12,6 +12,8 @@ COMMANDS = ('mvfs', 'kvfs', 'mev', 'kev', 'mef', 'kef', 'kemr', 'mekr', 'kfmrh',
             'split', 'plane', 'volume', 'count', 'undo', 'redo', 'list')
 
 _BLANKS = b' \t\r'
+# So many bytes of a line tell what a file is.
+_TELLING = 1000
 
 
 class Meaning(NamedTuple):
@@ -126,6 +128,19 @@ def is_answered(line: bytes) -> bool:
 def is_comment(line: bytes) -> bool:
     """Whether the line is a comment of whatever letters: companions leave out those that gwb answers with NotAscii."""
     return len(line) <= LINE_LIMIT and line.lstrip(_BLANKS).startswith(b'#')
+
+
+def first_answered(data: bytes) -> bytes:
+    """The first line that isn't blank or a comment, of whatever letters, or as much of it as tells what it is; empty where there is none."""
+    start = 0
+    while start < len(data):
+        end = data.find(b'\n', start)
+        end = len(data) if end < 0 else end
+        line = data[start:min(end, start + _TELLING)]
+        if is_answered(line) and not is_comment(line):
+            return line
+        start = end + 1
+    return b''
 
 
 def command_bytes(line: str) -> bytes:

@@ -24,7 +24,7 @@ _ELSEWHERE: Dict[str, str] = {
     **dict.fromkeys(('fillet', 'round', 'sphere', 'cylinder', 'cone'), 'all faces are flat: nothing round is made'),
     **dict.fromkeys(('export', 'save'), 'gwb-step, gwb-mesh and gwb-script write files of what `list` lists'),
     **dict.fromkeys(('import', 'open', 'load'), 'gwb-import writes the script that makes the solids of a file'),
-    **dict.fromkeys(('help', 'quit', 'exit'), 'gwb-shell has it'),
+    **dict.fromkeys(('help', 'quit', 'exit', 'explain'), 'gwb-shell has it'),
 }
 # What is said of a number that isn't whole.
 FINER_UNIT = 'choose a finer unit, such as tenths'

@@ -19,8 +19,6 @@ from .bench import Methods, warn
 from .reading import FacePart, Selection, SolidPart
 from .steps import Block
 
-ENDINGS = ('.step', '.stp', '.3mf', '.glb', '.obj', '.off', '.stl', '.html')
-
 
 class ImportedSolids(Selection[SolidPart]):
     """The solids that a file had, rising by their numbers; `moved` is how far a point was moved at most to come to lie on the lattice, in millimetres."""
@@ -75,19 +73,20 @@ class Exporting(Methods):
         is rounded to 9 places in OBJ, OFF and STL. Raises
         ValueError for another ending, Unfit where a face isn't flat and plain, nothing is held, or a coordinate is past what GLB holds, OSError where
         the file can't be written, or a .mtl is there that the .obj doesn't name. Warns where solids touch and the form doesn't keep them apart."""
+        from ..formats.forms import EXPORTED, FORMS, SOLIDS, by_ending, endings
         from ..formats.writing import written
         file = Path(arguments.path('path', path))
-        form = file.suffix.lower()
-        if form not in ENDINGS:
-            raise ValueError(f'{file.name}: the endings are {" ".join(ENDINGS)}')
+        form = by_ending(file.suffix)
+        if form not in EXPORTED:
+            raise ValueError(f'{file.name}: the endings are {" ".join(endings(EXPORTED))}')
         model = self._kernel.listing()
-        if not model.solids and form != '.html':
+        if not model.solids and form != 'html':
             raise Unfit(f'{file.name}: no solid is held, so there is nothing to write')
-        touching = next(touching_solids(model), None) if form in ('.off', '.stl') else None
+        touching = next(touching_solids(model), None) if FORMS[form].lacks(SOLIDS) else None
         if touching:
             warn('solids {} and {} touch or overlap, and {} does not keep solids apart: many programs will read one wrong body; .3mf and .step keep them '
                  'apart'.format(*touching, file.suffix))
-        file.write_bytes(self.page().encode() if form == '.html' else written(model, Said(self._kernel.labels(), self.unit), file))
+        file.write_bytes(self.page().encode() if form == 'html' else written(model, Said(self._kernel.labels(), self.unit), file))
 
     def import_file(self, path: arguments.Path, *, form: str = '', scale: Exact = 1, rounded: bool = False, keep_triangles: bool = False,
                     repair: bool = False, within: Exact = 0, flat: bool = False) -> 'ImportedSolids':
@@ -101,9 +100,9 @@ class Exporting(Methods):
         that were moved.
         Raises OSError; NotAMesh where it is no such file; Unfit where its surfaces aren't closed, or a point isn't whole or past the range.
         Refused: NumbersSpent."""
+        from ..formats.forms import READ
         from ..formats.importing import read_file
-        from ..formats.polygon_files import FORMS
-        kind = arguments.text('form', form) and arguments.word('form', form, FORMS)
+        kind = arguments.text('form', form) and arguments.word('form', form, READ)
         size, most = arguments.factor('scale', scale) / self.unit, arguments.factor('within', within, or_zero=True)
         round_all, keep, mend, flat_alone = (arguments.flag(name, value) for name, value in (
             ('rounded', rounded), ('keep_triangles', keep_triangles), ('repair', repair), ('flat', flat)))

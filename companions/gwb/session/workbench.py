@@ -23,13 +23,13 @@ from ..errors import CompanionError, Complaint, InDraft
 from ..formats.appearance import appearances_in, comments
 from ..geometry.model import Model
 from ..geometry.plane_figures import Exact
-from ..protocol.language import is_answered
+from ..protocol.language import COMMANDS, first_answered, first_word, is_answered, is_comment
 from ..protocol.listing import read_model
 from ..protocol.replies import Reply, is_listed
 from ..scripts.unit_comments import unit_in, unit_line
 from . import arguments
 from .commands import Commands
-from .exporting import ENDINGS, Exporting
+from .exporting import Exporting
 from .feature_methods import FeatureMethods
 from .kernel import Kernel
 from .library import find_path
@@ -37,10 +37,6 @@ from .results import Numbers
 from .selection import Reading
 from .solids import SolidMethods
 from .steps import Block
-
-# The endings and the first words of files that gwb-import reads.
-_IMPORTED = ('.obj', '.off', '.stl', '.3mf', '.amf', '.ply', '.step', '.stp')
-_FIRST_WORDS = ('v', 'vn', 'vt', 'f', 'o', 'g', 'mtllib', 'OFF', 'ply', 'solid', 'ISO-10303-21;')
 
 # In a saved script the mark before the commands that are one step to undo, or one draft; gwb reads over it.
 _MARK = re.compile(rb'# (step|draft) of ([1-9][0-9]{0,8}) commands')
@@ -111,8 +107,9 @@ class Workbench(SolidMethods, FeatureMethods, Commands, Reading, Exporting):
     def save(self, path: arguments.Path) -> None:
         """Writes the script to a file. Comments in it say which commands are one step, the unit, and the labels, so that `load` knows them
         again. Raises ValueError for an ending of what `export` writes."""
+        from ..formats.forms import EXPORTED, by_ending
         file = Path(arguments.path('path', path))
-        if file.suffix.lower() in ENDINGS:
+        if by_ending(file.suffix) in EXPORTED:
             raise ValueError(f'{file.name}: save() writes a script, and export() a file with the ending {file.suffix}')
         lines = [*_saved_lines(self._kernel), *comments(self._kernel.labels())]
         file.write_text(''.join(f'{line}\n' for line in lines), encoding='ascii')
@@ -122,7 +119,8 @@ class Workbench(SolidMethods, FeatureMethods, Commands, Reading, Exporting):
         """A workbench that holds what the file says: a script, each of whose lines has to be accepted, or a listing. The steps of a script that
         `save` wrote are those that were saved; of another script each command is one.
 
-        A line that isn't accepted raises Refused, Faulted or MemoryRefused, with the file and the line."""
+        A line that isn't accepted raises Refused, Faulted or MemoryRefused, with the file and the line; a file of a form that `import_file` reads
+        ValueError."""
         file = Path(arguments.path('path', path))
         data = file.read_bytes()
         script = _script_in(file, data)
@@ -146,14 +144,12 @@ class Workbench(SolidMethods, FeatureMethods, Commands, Reading, Exporting):
             elif mark and within not in (mark[1], b'draft'):
                 with Block(self._kernel, mark[1] == b'step'):
                     given += self._take(file, lines, mark[1], min(int(mark[2]), most - given))
-            elif is_answered(line):
+            elif is_answered(line) and not is_comment(line):
                 text = line.decode('utf-8', 'surrogateescape')
                 try:
                     self._kernel.do(text)
                 except (Complaint, InDraft) as error:
-                    is_polygons = file.suffix.lower() in _IMPORTED or text.split(' ', 1)[0] in _FIRST_WORDS
-                    hint = ' (it looks like a file of polygons, which import_file and gwb-import read)' if is_polygons else ''
-                    error.args = (f'{file}, line {number}: {error.args[0]}{hint}',)
+                    error.args = (f'{file}, line {number}: {error.args[0]}',)
                     raise
                 given += 1
             if given == most:
@@ -197,10 +193,20 @@ def _saved_lines(kernel: Kernel) -> Iterator[str]:
         unit = note.unit
 
 
+def _require_no_form(file: Path, data: bytes) -> None:
+    """Raises ValueError where the file is of a form that is read, and no script."""
+    from ..formats.forms import FORMS, by_beginning
+    form = by_beginning(data, file.name)
+    if form:
+        raise ValueError(f'{file}: this is a file of {FORMS[form].title}, which import_file() and gwb-import read')
+
+
 def _script_in(file: Path, data: bytes) -> bytes:
     """The script that the bytes of a file are, or that makes the listing in them."""
-    first = next((line for line in data.split(b'\n') if line.strip()), b'').decode('ascii', 'replace')
-    if not is_listed(first):
+    first = first_answered(data)
+    if not is_listed(first.decode('ascii', 'replace').strip()):
+        if first_word(first) not in COMMANDS:
+            _require_no_form(file, data)
         return data
     try:
         from ..scripts.inversion import script_of

@@ -88,7 +88,10 @@ class _Reader:
 
     def _begin_object(self, words: Attributes) -> None:
         colour = self._colour(words.get('pid'), words.get('pindex', '0'))
-        self._object = self.objects[_Key(self._file, words['id'])] = _Object(Appearance(words.get('name', ''), colour), words.get('pid'))
+        key = _Key(self._file, words['id'])
+        if key in self.objects:
+            raise NotAMesh(f'two objects have the number {key.number[:20]}')
+        self._object = self.objects[key] = _Object(Appearance(words.get('name', ''), colour), words.get('pid'))
 
     def _vertex(self, words: Attributes) -> None:
         self._object.mesh.points.append(self._numbers.point([words['x'], words['y'], words['z']]))
@@ -154,7 +157,9 @@ def _read_all(package: zipfile.ZipFile, first: str) -> _Model:
         if name not in package.namelist():
             raise NotAMesh(f'the package has no {name[:60]}, which it names')
         reader = files[name] = _Reader(name)
-        with opened(package, name, left) as file:
+        if package.getinfo(name).file_size > left:
+            raise NotAMesh(f'its model files have more than {MOST_BYTES:,} bytes together')
+        with opened(package, name) as file:
             XmlReader(reader.begin, None, left).read(file)
         left -= package.getinfo(name).file_size
         if reader.unit != files[first].unit:

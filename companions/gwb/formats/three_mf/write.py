@@ -9,7 +9,7 @@ from io import BytesIO
 from typing import Dict, Iterator, List
 from zipfile import ZIP_STORED, ZipFile, ZipInfo
 
-from ..appearance import NO_APPEARANCES, PLAIN_MATERIAL, Appearances, Colour, hexadecimal, look_of
+from ..appearance import NO_APPEARANCES, PLAIN_MATERIAL, Appearances, Colour, hexadecimal, look_of, unique_names
 from ..mesh import Mesh
 
 MODEL_PART = '3D/3dmodel.model'
@@ -48,10 +48,10 @@ def _model_lines(mesh: Mesh, looks: Appearances, unit: Fraction) -> Iterator[str
     yield '<model unit="millimeter" xml:lang="en-US" xmlns="http://schemas.microsoft.com/3dmanufacturing/core/2015/02">'
     yield '<resources>'
     materials = _Materials(mesh, looks)
+    names = unique_names(mesh.model.solids, looks, 'solid ', lambda name: ''.join(letter for letter in name if letter >= ' '))
     yield from materials.lines()
     for place, solid in enumerate(mesh.model.solids, 1):
-        name = escape(''.join(letter for letter in look_of(looks, 'solid', solid).name if letter >= ' ') or f'solid {solid}')
-        yield f'<object id="{place}" type="model" name="{name}"{materials.of_solid(solid)}><mesh>'
+        yield f'<object id="{place}" type="model" name="{escape(names[solid])}"{materials.of_solid(solid)}><mesh>'
         yield from _mesh_lines(mesh, solid, materials)
         yield '</mesh></object>'
     yield '</resources>'
