@@ -6,9 +6,6 @@
 #include "watch.h"
 #include <string.h>
 
-/* Says that memory was refused, and has the next reply say so too. The session or draft stays as it is. */
-enum gwb_kind kernel_gwb_lack(gwb *g);
-
 static inline enum gwb_kind counted(const gwb *g, enum gwb_kind kind)
 {
     if (kind == GWB_OK)
@@ -56,8 +53,8 @@ static enum gwb_kind kept(const gwb *g, enum gwb_kind kind)
         return !g->is_open || beside_of(g)->heap == gwb_used.heap ? kernel_gwb_##name arguments : in_own_##name arguments;                    \
     }
 
-/* The answer where memory for what is recorded of a call is refused. */
-static enum gwb_kind lacking(void) { return GWB_MEMORY; }
+/* The answer where memory for what is recorded of a call is refused: it is kept as the last one, and the session or draft stays as it is. */
+enum gwb_kind kernel_gwb_lack(gwb *g);
 
 /* A command, with `write` for its line, and `touch` for what it touches. */
 #define COMMAND(name, parameters, arguments, write, touch)                                                                                 \
@@ -67,7 +64,7 @@ static enum gwb_kind lacking(void) { return GWB_MEMORY; }
         struct record *r = beside_of(g)->record;                                                                                           \
         struct watch *w = beside_of(g)->watch;                                                                                             \
         if (r != NULL && !(write))                                                                                                         \
-            return lacking();                                                                                                              \
+            return kernel_gwb_lack(g);                                                                                                     \
         if (w != NULL)                                                                                                                     \
             touch;                                                                                                                         \
         return kept(g, kernel_gwb_##name arguments);                                                                                       \
@@ -188,7 +185,7 @@ enum gwb_kind gwb_draft(gwb *g)
     struct watch *w = beside_of(g)->watch;
     struct used before = entered(g);
     const bool has_room = r == NULL || record_reserve_draft(r);
-    enum gwb_kind answer = has_room ? kernel_gwb_draft(g) : lacking();
+    enum gwb_kind answer = has_room ? kernel_gwb_draft(g) : kernel_gwb_lack(g);
     if (r != NULL && answer == GWB_OK)
         record_draft(r);
     if (w != NULL && answer == GWB_OK)
@@ -246,7 +243,7 @@ static enum gwb_kind noted_line(gwb *g, const char *line, size_t n)
     struct record *r = beside_of(g)->record;
     struct watch *w = beside_of(g)->watch;
     if (r != NULL && !record_write_line(r, line, n))
-        return lacking();
+        return kernel_gwb_lack(g);
     if (w != NULL)
         watch_touch_any(w, g);
     return kept(g, kernel_gwb_line(g, line, n));

@@ -215,6 +215,14 @@ static const struct given calls[] = {
     {REDO, {0}, 0},                    {DRAFT, {0}, 0},                     {KVFS, {1}, 0},     {BLOCK, {6, 0, 9, 0, 3, 3, 3}, 0},
     {COMMIT, {0}, 0},                  {UNDO, {0}, 0},                      {VOLUME, {1}, 0},   {BLOCK, {7, 9, 9, 9, 3, 3, 3}, 0}};
 
+/* Whether this is the text of the last answer. */
+static bool replies(const gwb *g, const char *text)
+{
+    char reply[100];
+    const size_t n = gwb_reply(g, reply, sizeof reply);
+    return n == strlen(text) && memcmp(reply, text, n) == 0;
+}
+
 /* Gives them, those again that memory was refused to: how many these were. */
 static long give_all(gwb *g, bool is_watched)
 {
@@ -228,6 +236,7 @@ static long give_all(gwb *g, bool is_watched)
             read_faces(g, was);
         while (give(g, &calls[at]) == GWB_MEMORY) {
             check(needs_memory(calls[at].word), "no memory for a call that needs none");
+            check(replies(g, "memory\n"), "no memory, and a reply of another answer");
             refused++;
         }
         if (is_watched && at % 6 == 1 && at > 6)
