@@ -1,14 +1,15 @@
 #!/usr/bin/env python3
-"""Each sentence of docs/MODEL.md and docs/PROOFS.md has its theorem, or is listed as one that has none.
+"""Each sentence of MODEL, PROOFS, the README, bindings/README.md and gwb.h has its theorem or its test, or is listed as one that has none.
 
     tests/sentences.py [--write] [--index]
 
 A theorem is a definition of crates/*/specs or a public function of crates/*/src, by its contract. A sentence has those that it names between backticks,
 the last one before a quotation also those that are quoted, and else those of its paragraph (an item of a list, a table) in tests/sentences.txt. There
 a line has how many sentences the paragraph has, its theorems and, behind `<`, its first words; in the place of theorems stands `explains` where the
-kernel is claimed nothing of that isn't said elsewhere, and `tested` where a claim is tested and not proved. So a sentence that is added or taken away
-shows. --write lists the paragraphs anew, new ones with `?`, which is wrong as long as it stands there; --index prints each sentence with the files and
-lines of its theorems. The last line counts the paragraphs.
+kernel is claimed nothing of that isn't said elsewhere, and `tested`, or the name of a file of tests/, where a claim is tested and not proved. In gwb.h a
+comment is a paragraph, known by the call or type below it, and what stands beside the members of a type belongs to it. So a sentence that is added or
+taken away shows. --write lists the paragraphs anew, new ones with `?`, which is wrong as long as it stands there; --index prints each sentence with the
+files and lines of its theorems. The last line counts the paragraphs.
 """
 import re
 import sys
@@ -18,31 +19,37 @@ from typing import Dict, Iterator, List, Tuple
 
 from counts import TOP, command_line, told
 
-PAGES = ('docs/MODEL.md', 'docs/PROOFS.md')
+HEADER = 'bindings/include/gwb.h'
+PAGES = ('docs/MODEL.md', 'docs/PROOFS.md', 'README.md', 'bindings/README.md', HEADER)
 LISTED = TOP / 'tests' / 'sentences.txt'
 NO_THEOREM = ('explains', 'tested')
 # A paragraph is known by so many of its first words.
 KNOWN_BY = 6
 _DEFINED = re.compile(r'^(?: *(?:abbrev|unfoldable) pub |pub (?:record |data )?)([^\s:(){}]+) ')
-_FUNCTION = re.compile(r'^ *pub fn (\w+)')
+_FUNCTION = re.compile(r'^ *pub (?:extern "C" )?fn (\w+)')
 _METHODS = re.compile(r'^impl(?:<.*?>)? (?:\w+(?:<.*?>)? for )?(\w+)')
 _NAMED = re.compile(r'`([A-Za-z]\w*(?:(?:::|\.)\w+)*)`')
-_BEGINS_SENTENCE = re.compile(r'(?<=[.:?])\s+(?=[A-Z`*(\[“"])')
+_BEGINS_SENTENCE = re.compile(r'(?<=[.:?])\s+(?=[A-Z`*(\[“"@]|- [A-Z])')
+_COMMENT = re.compile(r'^( *)[^\n]*?(/\*\*?<?) (.*?)\*/', re.MULTILINE | re.DOTALL)
+_DECLARED = re.compile(r'^(?:#define (GWB_(?!NOEXCEPT|NODISCARD)\w+)|typedef (?:struct |bool \(\*)(gwb\w*)|enum (gwb_\w+) \{|\w[^\n/]*?\b(gwb_\w+)\()', re.MULTILINE)
 Places = Dict[str, List[str]]
 
 
 @dataclass
 class Paragraph:
-    """A paragraph, an item or a table, with the names that the quotation below it quotes."""
+    """A paragraph, an item or a table, with the names that the quotation below it quotes; or a comment, with the name of what is declared below it."""
 
     page: str
     text: str
     quoted: Tuple[str, ...] = ()
+    below: str = ''
 
     @property
     def key(self) -> str:
-        """Its first words, without signs of the page."""
-        return f'{self.page[5:-3]}: ' + ' '.join(re.sub(r'[*|`]|^(?:- |\d+\. )', ' ', self.text).split()[:KNOWN_BY])
+        """Its first words, without signs of the page; of a comment the name of what stands below it."""
+        if self.below:
+            return f'gwb.h: {self.below}'
+        return f'{self.page.removeprefix("docs/")[:-3]}: ' + ' '.join(re.sub(r'[*|`]|^(?:- |\d+\. )', ' ', self.text).split()[:KNOWN_BY])
 
     @property
     def sentences(self) -> List[str]:
@@ -97,6 +104,29 @@ def paragraphs(page: str) -> List[Paragraph]:
     return found
 
 
+def comments(header: str) -> List[Paragraph]:
+    """The comments of a header. One that is indented, or stands beside a member, belongs to the type above it."""
+    text = (TOP / header).read_text()
+    found: List[Paragraph] = []
+    for comment in _COMMENT.finditer(text):
+        indent, begin, said = comment.groups()
+        words = ' '.join(re.sub(r'^ *\* ?', '', line).strip() for line in said.split('\n')).strip()
+        if words.startswith(('@cond', '@endcond')):
+            continue
+        declared = _DECLARED.search(text, comment.end())
+        below = next(name for name in declared.groups() if name) if declared else ''
+        if found and (indent or begin.endswith('<') or below == found[-1].below):
+            found[-1].text += f'\n{words}'
+        else:
+            found.append(Paragraph(header, words, (), below))
+    return found
+
+
+def said_in(page: str) -> List[Paragraph]:
+    """What a page says: its paragraphs, or its comments."""
+    return comments(page) if page == HEADER else paragraphs(page)
+
+
 def named(sentence: str, known: Places) -> List[str]:
     """The theorems that a sentence names: names of more than one word, as `MarksLeadBack`, `Session::undo`, `make_all`."""
     words = (word.replace('.', '::') for word in _NAMED.findall(sentence))
@@ -123,11 +153,16 @@ def listed() -> Dict[str, Tuple[int, List[str]]]:
 def needed(known: Places) -> Dict[str, Paragraph]:
     """The paragraphs of which some sentence has no theorem of its own."""
     found: Dict[str, Paragraph] = {}
-    for paragraph in (it for page in PAGES for it in paragraphs(page)):
+    for paragraph in (it for page in PAGES for it in said_in(page)):
         if not all(own(paragraph, known)):
             assert paragraph.key not in found, f'two paragraphs begin {paragraph.key!r}'
             found[paragraph.key] = paragraph
     return found
+
+
+def is_test(name: str) -> bool:
+    """Whether a file of tests/ has this name."""
+    return '.' in name and (TOP / 'tests' / name).is_file()
 
 
 def findings(wanted: Dict[str, Paragraph], known: Places) -> Iterator[str]:
@@ -135,7 +170,7 @@ def findings(wanted: Dict[str, Paragraph], known: Places) -> Iterator[str]:
     rows = listed()
     for key, paragraph in wanted.items():
         count, theorems = rows.pop(key, (0, []))
-        unknown = [name for name in theorems if len(known.get(name, [])) != 1 and name not in NO_THEOREM]
+        unknown = [name for name in theorems if len(known.get(name, [])) != 1 and name not in NO_THEOREM and not is_test(name)]
         if count != len(paragraph.sentences):
             yield f'{key} ..: {len(paragraph.sentences)} sentences, of which {LISTED.name} has {count}: what is their theorem?'
         elif not theorems or unknown:
@@ -155,7 +190,7 @@ def write(wanted: Dict[str, Paragraph]) -> None:
 def index(known: Places) -> Iterator[str]:
     """Each sentence with its theorems and their places."""
     rows = listed()
-    for paragraph in (it for page in PAGES for it in paragraphs(page)):
+    for paragraph in (it for page in PAGES for it in said_in(page)):
         for sentence, names in zip(paragraph.sentences, own(paragraph, known)):
             yield f'{paragraph.page}: {sentence}'
             for name in names or rows.get(paragraph.key, (0, ['?']))[1]:

@@ -10,7 +10,7 @@
 //! - nodes linked by `next` and `prev`, a splice of them, and what a drop frees: `raw_ring/src/rings.rt`, `raw_ring/src/nodes.rt`;
 //! - normals, planes, flat faces and counts: `solid_measure/src/measures.rt`, `solid_measure/src/solid_counts/solids.rt`;
 //! - points, sides of a plane and cut points: `lattice/src`;
-//! - the faces of new solids, and what larger commands leave unchanged: `command_laws/src`;
+//! - the faces of new solids, and what laminas, blocks, sweeps and splits leave unchanged: `command_laws/src`;
 //! - which half-spaces hold the parts of a split, and which convex solids stay convex: `convex_laws/src`;
 //! - what the volumes are after a sweep and after a glue, in terms of bytes: `script_laws/src`;
 //! - the grammar, the command line and the exit status: `script_reader/src/line.rt`, `command_line/src`;
@@ -18,11 +18,12 @@
 //!
 //! # What is proved
 //!
-//! Nothing of its own: each function calls the laws of the crates below, or makes a call, and has what they say as its contract. They stand in this
-//! order: lists of calls, marks and handles of C, one call of each kind, records and volumes (`every_list_of_calls_is_answered` and those after it);
-//! conditions, operators and their inverses (from `refusals_name_the_first_false`); splices of rings (from `splices_cut_and_join`); the plain machine
-//! and its histories (from `sessions_are_copies_and_a_place`); what larger commands make and measure, what a session holds after them, and which solids
-//! are convex (from `laminas_are_made`); listings, lines and scripts (from `listings_tell_models`); and scripts, where only bytes are spoken of (from
+//! Of its own only what calls on slots and splices of nodes lead to (`SlotsMakeAll`, `SplicesCut`, `SplicesJoin`, `SplicesKeepOthers`). Each function
+//! calls the laws of the crates below, or makes a call, and has what they say as its contract. They stand in this order: lists of calls, marks and
+//! handles of C, one call of each kind, records and volumes (`every_list_of_calls_is_answered` and those after it); conditions, operators and their
+//! inverses (from `refusals_name_the_first_false`); splices of rings (from `splices_cut_and_join`); the plain machine and its histories (from
+//! `sessions_are_copies_and_a_place`); what larger commands make and measure, what a session holds after them, and which solids are convex (from
+//! `laminas_are_made`); listings, lines and scripts (from `listings_tell_models`); and scripts, where only bytes are spoken of (from
 //! `every_script_is_answered`).
 
 ghost use Rattle.std.specs.Prelude.{◌≡◌, ◌↔◌, ◌+◌, ◌<◌, OnOk, OnErr, IfOk, IfErr, None, Some, Err, slice_index_or};
@@ -126,9 +127,9 @@ pub fn marks_lead_back_to_the_draft()
     marks_lead_back();
 }
 
-/// What a handle of C holds. A new session is whole. Calls on the slot behind a handle are a list of calls as above. So what the handle holds after
-/// them is whole, and all that is said of lists here holds of it. The slot keeps the answer to the last call; a call that concerns a mark, or that
-/// the session or draft doesn't have, leaves the answer before it.
+/// What a handle of C holds. A new session is whole. Typed calls on the slot behind a handle, but for `gwb_part`, are a list of calls as above. So what
+/// the handle holds after them is whole, and all that is said of lists here holds of it. The slot keeps the answer to the last call; a call that
+/// concerns a mark, or that the session or draft doesn't have, leaves the answer before it.
 pub fn handles_hold_lists_of_calls()
     ensures begun { IsWhole (Stage.Session new_journal) }
     ensures made { SlotsMakeAll }
@@ -525,7 +526,7 @@ pub fn listings_tell_models()
     laws_below::listing_tells();
 }
 
-/// If no reply is `memory`, the lines of a script have one output and one summary, and neither has a `memory`.
+/// If no reply is `memory`, the lines of a script have one output and one summary, which counts no `memory`.
 pub fn scripts_have_one_output()
     ensures one { OneOutput }
     ensures quiet { HasNoMemory }
