@@ -106,7 +106,7 @@ for tool in cc "${CXX:-c++}" make python3; do
 done
 
 make_here() {
-    make -C bindings "ARCHIVE=$archive" "OUT=$dir/built" "$@"
+    make -j "$(nproc)" -C bindings "ARCHIVE=$archive" "OUT=$dir/built" "$@"
 }
 began=$(date +%s)
 tried 'the shared object and the examples in C and C++' make_here

@@ -507,6 +507,8 @@ static void try_refused_memory()
              (void)polyhedron(bench, {{90, 0, 0}, {96, 0, 0}, {90, 6, 0}, {90, 0, 6}}, {0, 2, 1, 0, 1, 3, 1, 2, 3, 0, 3, 2}, {3, 3, 3, 3});
          }},
         {"chamfers", [&](Workbench &bench) { (void)chamfer_edges(bench, {Edge(1), Edge(2)}, 1); }},
+        {"separate", [&](Workbench &bench) { (void)separate(bench, Solid(1)); }},
+        {"join_faces", [&](Workbench &bench) { (void)join_faces(bench, Solid(1)); }},
         {"scale", [&](Workbench &bench) { scale(bench, 3); }},
         {"move", [&](Workbench &bench) { move_solid(bench, Solid(1), Motion::quarter_turns(2)); }},
         {"load", [&](Workbench &bench) { bench.load("solid 9\nface 90 9 90\nloop 90 at 90\nvertex 90 1 1 1\n"); }},
@@ -556,6 +558,9 @@ static void try_stops()
         {"cut", [&](Workbench &bench) { (void)cut(bench, Solid(4), {0, 0, 1, -4}); }},
         {"trim", [&](Workbench &bench) { (void)trim(bench, Solid(1), {0, 0, 1, -4}); }},
         {"union", [&](Workbench &bench) { (void)unite(bench, {Solid(1), Solid(3)}); }},
+        {"subtract", [&](Workbench &bench) { (void)subtract(bench, Solid(1), {Solid(3)}); }},
+        {"separate", [&](Workbench &bench) { (void)separate(bench, Solid(1)); }},
+        {"join_faces", [&](Workbench &bench) { (void)join_faces(bench, Solid(1)); }},
         {"scale", [&](Workbench &bench) { scale(bench, 3); }},
         {"advice", [&](Workbench &bench) { (void)off_lattice(bench, Solid(1), {2, 3, 5, -17}); }},
     };

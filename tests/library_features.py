@@ -7,8 +7,8 @@ whole points, with what is said of them.
 Each line of tests/library_features.table is a feature, and behind `=` what it gives: `ok`, and six times the volume, the vertices, edges, faces
 and rings of the solid and a sum over its points; or the name of what is refused. A face is told by the ends of a side of its outer loop, an edge by
 its own, in the direction of its first half-edge; a solid that is cut by its listing. `halve` cuts it in two, and tells of both; `union` adds a block
-at a point; `around` tells of all of a row; `chamfers` takes a width and the ends of its edges. The table was written by features in Python that shared
-no code with those of the library, a row by turned points, and chamfers of several edges by cuts. The last line counts.
+at a point, `subtract` takes one away, and `intersect` leaves what is in it too; `around` tells of all of a row; `chamfers` takes a width and the ends of its edges. The table was written by features in Python that shared
+no code with those of the library, a row by turned points, chamfers of several edges by cuts, and the last 40 parts, of Booleans, by unit cubes. The last line counts.
 """
 import re
 import sys
@@ -27,6 +27,10 @@ TABLE = TOP / 'tests' / 'library_features.table'
 # What is said of a parallel plane that is too far, in the place of its line.
 FAR = re.compile(r'# a parallel plane that cuts at whole points moves the cut by at least (\S+ along an edge)')
 Point = Tuple[int, int, int]
+# What is made of a solid and a block.
+_BOOLEANS: Dict[str, Callable[[Workbench, int, int], int]] = {
+    'union': lambda bench, solid, block: bench.union([solid, block]), 'subtract': lambda bench, solid, block: bench.subtract(solid, [block]),
+    'intersect': lambda bench, solid, block: bench.intersect([solid, block])}
 
 
 def measures(bench: Workbench, solid: int) -> str:
@@ -84,7 +88,7 @@ class Part:
     def give(self, word: str, row: Row) -> None:
         """Tries a feature."""
         bench, self.is_turned, self.others = self.bench, False, []
-        if word in ('halve', 'trim', 'union', 'around'):
+        if word in ('halve', 'trim', 'around', *_BOOLEANS):
             self._shape_whole(word, row)
             return
         if word == 'chamfers':
@@ -121,7 +125,7 @@ class Part:
             self.bench.trim(self.solid, row.numbers())
         else:
             with self.bench.draft():
-                self.bench.union([self.solid, self.bench.block(row.point(), row.point())])
+                _BOOLEANS[word](self.bench, self.solid, self.bench.block(row.point(), row.point()).solid)
 
     def told(self) -> str:
         """What there is of it."""

@@ -138,7 +138,7 @@ private:
     std::string feature(const std::string &word, Numbers &given)
     {
         is_turned_ = false;
-        if (word == "halve" || word == "trim" || word == "union" || word == "around")
+        if (word == "halve" || word == "trim" || word == "around" || is_boolean(word))
             return of_whole(word, given);
         if (word == "chamfers")
             return slopes(given);
@@ -162,6 +162,8 @@ private:
         }
         return of_outline(word, face, given);
     }
+
+    static bool is_boolean(const std::string &word) { return word == "union" || word == "subtract" || word == "intersect"; }
 
     std::string slopes(Numbers &given)
     {
@@ -188,11 +190,13 @@ private:
     {
         if (word == "around")
             return around(given);
-        if (word == "union") {
+        if (is_boolean(word)) {
             Draft draft = bench_.draft();
             const Point at = given.point();
             const Solid block = bench_.block(at, given.point());
-            const Result<Merger> made = unite(attempt_, {solid_, block});
+            const Result<Merger> made = word == "union"      ? unite(attempt_, {solid_, block})
+                                        : word == "subtract" ? subtract(attempt_, solid_, {block})
+                                                             : intersect(attempt_, {solid_, block});
             if (made)
                 draft.commit();
             return gives(made);

@@ -216,6 +216,43 @@ class Unions(Stepwise):
         self.assertEqual(self.one_step(lambda: self.bench.union(solids)), solids[0])
         self.assertEqual(self.volume(1), 64 + 64 + 64 - 8 - 1 * 2 * 2)
 
+    def test_a_keyway_into_a_bore(self):
+        hub = self.bench.block((0, 0, 0), (40, 40, 20))
+        self.bench.hole(hub.top, [(16, 10, 20), (24, 10, 20), (30, 16, 20), (30, 24, 20), (24, 30, 20), (16, 30, 20), (10, 24, 20), (10, 16, 20)])
+        key = self.bench.block((18, 26, 0), (4, 7, 20)).solid
+        self.assertEqual(self.one_step(lambda: self.bench.subtract(hub.solid, [key])), hub.solid)
+        self.assertEqual((self.volume(1), self.count(1)), (25200, (32, 48, 18, 2)))
+        with self.assertRaisesRegex(ValueError, 'tools: the solid 1 itself'):
+            self.bench.subtract(1, [1])
+
+    def test_what_solids_have_in_common(self):
+        one, other, far = self.blocks(((0, 0, 0), (4, 4, 4)), ((1, 2, 3), (4, 4, 4)), ((9, 9, 9), (1, 1, 1)))
+        self.assertEqual(self.refuse('NothingLeft', lambda: self.bench.intersect([one, far])).value, one)
+        self.assertEqual(self.one_step(lambda: self.bench.intersect([one, other])), one)
+        self.assertEqual(self.volume(one), 3 * 2)
+
+    def test_a_factor_that_makes_corners_whole(self):
+        wedge = self.bench.profile([(0, 0, 0), (12, 0, 0), (0, 0, 1)], along=(0, 5, 0)).solid
+        block = self.bench.block((8, -1, -1), (12, 8, 8)).solid
+        factor = self.refuse('OffLattice', lambda: self.bench.subtract(wedge, [block])).value
+        self.assertEqual(factor, 3)
+        self.bench.scale(factor)
+        self.one_step(lambda: self.bench.subtract(wedge, [block]))
+
+    def test_components_become_solids(self):
+        left, _, right = self.blocks(((0, 0, 0), (4, 4, 4)), ((20, 0, 0), (4, 4, 4)), ((9, 0, 0), (2, 2, 2)))
+        self.bench.union([left, right])
+        self.bench.label(self.bench.solid(left), name='both')
+        parts = self.one_step(lambda: self.bench.separate(left))
+        self.assertEqual(([self.volume(part) for part in parts], parts[0], len(parts)), ([64, 8], left, 2))
+        self.assertEqual({self.bench.labels['solid', part].name for part in parts}, {'both'})
+
+    def test_seams_are_joined(self):
+        left, right = self.blocks(((0, 0, 0), (4, 4, 4)), ((4, 0, 0), (4, 4, 4)))
+        self.bench.glue_all([left, right])
+        self.assertEqual(self.one_step(lambda: self.bench.join_faces(left)), left)
+        self.assertEqual(self.count(left), (8, 12, 6, 0))
+
     def test_what_can_not_be_one(self):
         self.blocks(((0, 0, 0), (4, 4, 4)), ((4, 4, 0), (2, 2, 2)))
         self.assertEqual(self.refuse('Meets', lambda: self.bench.union([1, 2])).value, 1)

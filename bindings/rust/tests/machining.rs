@@ -53,10 +53,14 @@ fn given<T: Debug>(session: &Session, solid: Solid, made: &Result<T, Error>) -> 
 
 /// A cut in two, of which both parts are told, a trim, the union with a block, or a row around an axis, of which all are told.
 fn shaped_whole(session: &mut Session, solid: Solid, word: &str, numbers: &mut Numbers) -> String {
-    if word == "union" {
+    if matches!(word, "union" | "subtract" | "intersect") {
         let mut draft = session.draft().unwrap();
         let block = draft.block(None, numbers.point(), numbers.point()).unwrap();
-        let made = draft.union(&[solid, block]);
+        let made = match word {
+            "union" => draft.union(&[solid, block]),
+            "subtract" => draft.subtract(solid, &[block]),
+            _ => draft.intersect(&[solid, block]),
+        };
         if made.is_ok() {
             draft.commit().unwrap();
         } else {
@@ -81,7 +85,7 @@ fn shaped_whole(session: &mut Session, solid: Solid, word: &str, numbers: &mut N
 }
 
 fn feature(session: &mut Session, solid: Solid, word: &str, numbers: &mut Numbers) -> String {
-    if matches!(word, "halve" | "trim" | "union" | "around") {
+    if matches!(word, "halve" | "trim" | "union" | "subtract" | "intersect" | "around") {
         return shaped_whole(session, solid, word, numbers);
     }
     if word == "chamfers" {
