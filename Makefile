@@ -20,6 +20,10 @@ PYTHON ?= python3
 ROOT = $(abspath $(DESTDIR))$(abspath $(PREFIX))
 BIN = $(ROOT)/bin
 MAN = $(ROOT)/share/man/man1
+BASH = $(ROOT)/share/bash-completion/completions
+FISH = $(ROOT)/share/fish/vendor_completions.d
+ZSHDIR ?= $(abspath $(PREFIX))/share/zsh/site-functions
+ZSH = $(abspath $(DESTDIR))$(ZSHDIR)
 SHARE = $(ROOT)/share/gwb
 DOC = $(ROOT)/share/doc/gwb
 # what nothing is proved of is named so
@@ -109,12 +113,17 @@ install-program: built
 	$(INSTALL) -D -m 644 docs/gwb.1 $(MAN)/gwb.1
 
 # each companion is a link to the file that lies beside its package, which is how it finds it, and Python finds the package by a link too
-install-companions: built
+install-companions: install-program
 	@test -h $(PACKAGE) || ! test -e $(PACKAGE) || { echo '$(PACKAGE) is there already: pip uninstall gwb'; false; }
 	cd companions && find gwb -type f -not -path '*/__pycache__/*' -exec $(INSTALL) -D -m 644 {} $(SHARE)/companions/{} \;
 	$(INSTALL) -m 755 $(COMPANIONS:%=companions/%) $(SHARE)/companions
 	$(INSTALL) -d $(BIN)
 	for name in $(COMPANIONS); do ln -sf ../share/gwb/companions/$$name $(BIN)/$$name || exit 1; done
+	$(INSTALL) -m 644 $(COMPANIONS:%=docs/%.1) $(MAN)
+	$(INSTALL) -D -m 644 companions/completions/gwb.bash $(BASH)/gwb
+	$(INSTALL) -D -m 644 companions/completions/gwb.fish $(FISH)/gwb.fish
+	$(INSTALL) -D -m 644 companions/completions/_gwb $(ZSH)/_gwb
+	for name in $(COMPANIONS); do ln -sf gwb $(BASH)/$$name && ln -sf gwb.fish $(FISH)/$$name.fish || exit 1; done
 	$(INSTALL) -d $(dir $(PACKAGE))
 	ln -sfn $$(realpath -m --relative-to=$(dir $(PACKAGE)) $(SHARE)/companions/gwb) $(PACKAGE)
 
@@ -125,7 +134,8 @@ install-library: built
 	$(if $(HAS_LIBRARY),$(LIBRARY) install)
 
 uninstall:
-	rm -f $(BIN)/gwb $(COMPANIONS:%=$(BIN)/%) $(MAN)/gwb.1
+	rm -f $(BIN)/gwb $(COMPANIONS:%=$(BIN)/%) $(MAN)/gwb.1 $(COMPANIONS:%=$(MAN)/%.1)
+	rm -f $(BASH)/gwb $(COMPANIONS:%=$(BASH)/%) $(FISH)/gwb.fish $(COMPANIONS:%=$(FISH)/%.fish) $(ZSH)/_gwb
 	rm -rf $(SHARE) $(DOC)
 	test ! -h $(PACKAGE) || rm -f $(PACKAGE)
 	$(LIBRARY) uninstall

@@ -66,10 +66,14 @@ class Trial:
         return f'{" ".join(map(str, words))}: status {done.returncode}, {said!r} wanted: {(done.stdout + done.stderr)[-600:].decode(errors="replace")}'
 
     def programs(self, folder: Path) -> Iterator[str]:
-        """The program and the companions in a folder."""
+        """The program and the companions in a folder, each with its manual page and its completion."""
         yield self.complaint(REPLIES, folder / 'gwb', EXAMPLE)
+        share = folder.parent / 'share'
         for name in sorted(path.name for path in (TOP / 'companions').glob('gwb-*')):
             yield self.complaint(f'{name} {VERSION}'.encode(), folder / name, '--version')
+            beside = [share / 'bash-completion' / 'completions' / name, share / 'fish' / 'vendor_completions.d' / f'{name}.fish']
+            is_so = len(list((share / 'man' / 'man1').glob(f'{name}.1*'))) == 1 and all(path.is_file() for path in beside)
+            yield '' if is_so else f'{name}: it has no manual page, or no completion'
         yield self.complaint(b'</html>', folder / 'gwb-view', EXAMPLE)
 
     def python(self, place: Path) -> Iterator[str]:

@@ -123,6 +123,8 @@ def installed(at: Installation) -> Iterator[str]:
     yield complaint(at.make('install'), library.encode())
     here = files(at.prefix)
     wanted = ['bin/gwb', 'share/man/man1/gwb.1', 'share/doc/gwb/examples/bracket.py', *(f'bin/{name}' for name in COMPANIONS),
+              *(f'share/man/man1/{name}.1' for name in COMPANIONS), *(f'share/bash-completion/completions/{name}' for name in ['gwb', *COMPANIONS]),
+              *(f'share/fish/vendor_completions.d/{name}.fish' for name in ['gwb', *COMPANIONS]), 'share/zsh/site-functions/_gwb',
               *(LIBRARY if at.archive else [])]
     yield '' if set(wanted) <= set(here) else f'not installed: {sorted(set(wanted) - set(here))}'
     yield '' if not [name for name in here if '__pycache__' in name] else 'what Python compiled is installed'

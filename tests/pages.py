@@ -1,10 +1,11 @@
 #!/usr/bin/env python3
-"""The manual page docs/gwb.1 is made from VERSION, the help text of gwb (crates/command_line/src/words.rt) and docs/SCRIPT.md.
+"""The manual page docs/gwb.1 is made from VERSION, the help text of gwb (crates/command_line/src/words.rt) and docs/SCRIPT.md; those of the companions,
+docs/gwb-*.1, and the completions of bash, zsh and fish in companions/completions are made from the tables from which `--help` is made.
 
     tests/pages.py [--write]
 
-Compares it with what is made from them, looks whether something stands below each heading, and lets mandoc look at it where that is installed;
---write first makes it anew. The last line counts.
+Compares each with what is made, looks whether something stands below each heading, lets mandoc look at the pages, and each shell complete a word, where
+they are installed; --write first makes all anew. The last line counts.
 """
 import re
 import shutil
@@ -14,6 +15,8 @@ import textwrap
 from pathlib import Path
 from typing import Dict, Iterator, List
 
+import companion_pages
+from companion_pages import COMPLETIONS, Word
 from counts import TOP, command_line, told, without
 
 MANUAL = TOP / 'docs' / 'gwb.1'
@@ -80,12 +83,11 @@ def sections() -> Dict[str, str]:
     return dict(part.split('\n', 1) for part in parts)
 
 
-def options(source: str) -> Iterator[str]:
-    """The options, of which the help text says what they do."""
-    stop, file = re.findall(r'\.help\("(.*)"\)', source)
-    rest = (('-h, --help', 'Print a summary of this page'), ('-V, --version', 'Print the version'))
-    for words, told in (('--stop', stop), ('FILE', file), *rest):
-        yield from ('.TP', inline(f'`{words}`'), filled(f'{inline(told)}.'))
+def options() -> List[Word]:
+    """The words that gwb takes, of which the help text says what they do."""
+    stop, file = re.findall(r'\.help\("(.*)"\)', (TOP / 'crates' / 'command_line' / 'src' / 'words.rt').read_text())
+    return [Word(('--stop',), '', stop), Word((), 'FILE', file), Word(('-h', '--help'), '', 'Print a summary of this page'),
+            Word(('-V', '--version'), '', 'Print the version')]
 
 
 def manual() -> str:
@@ -96,10 +98,10 @@ def manual() -> str:
     found = sections()
     lines = [f'.TH GWB 1 "{DATE}" "gwb {(TOP / "VERSION").read_text().strip()}" "User Commands"',
              '.\\" Made by tests/pages.py --write from the help text and docs/SCRIPT.md; edit nothing here.',
-             '.SH NAME', 'gwb \\- the Geometric WorkBench, a proved modeller of solids',
+             '.SH NAME', 'gwb \\- the Geometric WorkBench, a modeller of solids',
              '.SH SYNOPSIS', '.B gwb', '[\\fB\\-\\-stop\\fR] [\\fIFILE\\fR]',
              '.SH DESCRIPTION', filled(f'\\fBgwb\\fR {inline(about)}.'), *description(),
-             '.SH OPTIONS', *options(source)]
+             '.SH OPTIONS', *(line for word in options() for line in ('.TP', inline(f'`{", ".join(word.names) or word.takes}`'), filled(f'{inline(word.told)}.')))]
     for heading, name in SECTIONS.items():
         lines += [f'.SH {name}', *paragraphs(found[heading])]
     beside = ', '.join(f'\\fB{plain(name)}\\fR' for name in companions())
@@ -126,21 +128,49 @@ def tidy(lines: List[str]) -> str:
     return '\n'.join(text.rstrip() for text in kept) + '\n'
 
 
+def made() -> Dict[Path, str]:
+    """All files that are made, and what is in them."""
+    pages = {MANUAL: manual()}
+    for name in companions():
+        head = f'.TH {plain(name.upper())} 1 "{DATE}" "gwb {(TOP / "VERSION").read_text().strip()}" "User Commands"'
+        pages[MANUAL.with_name(f'{name}.1')] = companion_pages.manual(companion_pages.companion(name), head, plain, filled)
+    return {**pages, **companion_pages.completions(options())}
+
+
+# How each shell is asked what it makes of `gwb-mesh --fo` and of `gwb-mesh --form g`; zsh only reads the file.
+ASKED = {'bash': ('. gwb.bash; _gwb gwb-mesh --fo gwb-mesh; echo $COMPREPLY; _gwb gwb-mesh g --form; echo $COMPREPLY', '--form\nglb\n'),
+         'fish': ("source gwb.fish; complete -C 'gwb-mesh --fo' | cut -f 1; complete -C 'gwb-mesh --form g' | cut -f 1", '--form\nglb\n'),
+         'zsh': ('zsh -n _gwb', '')}
+
+
+def asked(shell: str) -> str:
+    """What is wrong with the completion of a shell, or nothing."""
+    words, wanted = ASKED[shell]
+    done = subprocess.run([shell, '-c', words], cwd=COMPLETIONS, capture_output=True, text=True, check=False)
+    return '' if (done.returncode, done.stdout) == (0, wanted) else f'{shell} completes {done.stdout!r}, not {wanted!r}: {done.stderr[-300:]}'
+
+
 def findings() -> Iterator[str]:
     """For each comparison what is wrong, or nothing."""
-    yield '' if MANUAL.exists() and MANUAL.read_text() == manual() else 'docs/gwb.1 is not the one that --write makes'
-    bare = re.findall(r'^\.S[SH] (.*)\n\.S[SH] ', manual(), re.MULTILINE)
-    yield f'docs/gwb.1: nothing stands below {", ".join(bare)}' if bare else ''
-    if shutil.which('mandoc'):
-        done = subprocess.run(['mandoc', '-T', 'lint', '-W', 'warning', str(MANUAL)], capture_output=True, text=True)
-        yield '' if done.returncode == 0 else done.stdout.strip()
+    for path, text in made().items():
+        yield '' if path.exists() and path.read_text() == text else f'{path.relative_to(TOP)} is not the one that --write makes'
+        if path.suffix == '.1':
+            bare = re.findall(r'^\.S[SH] (.*)\n\.S[SH] ', text, re.MULTILINE)
+            yield f'{path.relative_to(TOP)}: nothing stands below {", ".join(bare)}' if bare else ''
+            if shutil.which('mandoc') and path.exists():
+                done = subprocess.run(['mandoc', '-T', 'lint', '-W', 'warning', str(path)], capture_output=True, text=True)
+                yield '' if done.returncode == 0 else done.stdout.strip()
+    yield from (asked(shell) for shell in ASKED if shutil.which(shell))
 
 
 def main() -> int:
     given = command_line(__doc__, '--write')
     if given.write:
-        MANUAL.write_text(manual())
-    return told(findings(), [] if shutil.which('mandoc') else [without('mandoc', 'the look of mandoc at docs/gwb.1')])
+        COMPLETIONS.mkdir(exist_ok=True)
+        for path, text in made().items():
+            path.write_text(text)
+    tools = {'mandoc': 'the look of mandoc at the pages', **{shell: f'the completion of {shell}' for shell in ASKED}}
+    return told(findings(), [without(tool, what) for tool, what in tools.items() if shutil.which(tool) is None])
 
 
 if __name__ == '__main__':
