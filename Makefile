@@ -36,7 +36,7 @@ PYTHONDIR ?= $(shell $(PYTHON) -c '$(SITE)' $(abspath $(PREFIX)))
 PACKAGE = $(abspath $(DESTDIR))$(PYTHONDIR)/gwb
 COMPANIONS = $(notdir $(wildcard companions/gwb-*))
 # pages and examples lie below DOC as they lie here, so that their links lead on
-PAGES = README.md CHANGELOG.md companions/README.md $(wildcard docs/*.md docs/pictures/*.* docs/tutorial/*.*) $(wildcard examples/*.*) \
+PAGES = README.md CHANGELOG.md companions/README.md $(wildcard docs/*.md docs/pictures/*.* docs/tutorial/*.*) $(wildcard examples/*.* examples/gallery/*.*) \
     bindings/README.md $(wildcard bindings/examples/*.*)
 
 UNPROVED = out/gwb-unproved out/libgwb_c-unproved.a

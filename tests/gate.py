@@ -25,7 +25,7 @@ MISSING = [['tests/scripts.py', NOWHERE], ['tests/laws.py', NOWHERE], ['tests/pr
            ['tests/direct_calls.py', NOWHERE], ['tests/direct_calls.py', '/bin/sh', NOWHERE],
            ['tests/library.sh', NOWHERE], ['tests/library.sh', '/bin/sh', NOWHERE],
            ['tests/library_lines.py', NOWHERE, '/bin/sh'], ['tests/library_lines.py', '/bin/sh', NOWHERE],
-           ['tests/library_readers.py', NOWHERE], ['tests/unproved.py', NOWHERE], ['tests/dist.py', NOWHERE], ['tests/library_refusals.py', NOWHERE],
+           ['tests/library_readers.py', NOWHERE], ['tests/unproved.py', NOWHERE], ['tests/dist.py', NOWHERE], ['tests/gallery.py', NOWHERE], ['tests/library_refusals.py', NOWHERE],
            ['env', f'GWB={NOWHERE}', 'tests/library_companions.py'], ['env', '-u', 'GWB', 'tests/library_companions.py']]
 # Each test that skips all that it does where a tool isn't there, or a part of it.
 TOOLS = [['tests/refused_growths.py', '/bin/sh'], ['tests/direct_calls.py', '/bin/sh', '/bin/sh'], ['tests/library.sh', '/bin/sh'],

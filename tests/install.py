@@ -142,7 +142,7 @@ def pages(at: Installation) -> Iterator[str]:
     """The pages are those of the sources, and their links lead to installed pages, pictures and examples, unless they lead into the sources."""
     folder = at.prefix / 'share' / 'doc' / 'gwb'
     found = sorted(str(path.relative_to(folder)) for path in folder.rglob('*.md'))
-    wanted = ['CHANGELOG.md', 'README.md', 'bindings/README.md', 'companions/README.md', *(f'docs/{path.name}' for path in (TOP / 'docs').glob('*.md'))]
+    wanted = ['CHANGELOG.md', 'README.md', 'bindings/README.md', 'companions/README.md', 'examples/gallery/README.md', *(f'docs/{path.name}' for path in (TOP / 'docs').glob('*.md'))]
     yield '' if found == sorted(wanted) else f'installed are the pages {found}, not {sorted(wanted)}'
     for page in found:
         text = (folder / page).read_text()

@@ -292,6 +292,7 @@ if has "$program" '100,000 random lines'; then
     tried '100,000 random lines' python3 tests/library_lines.py "$dir/built/libgwb.so" "$program"
 fi
 counted 'the tutorial' python3 tests/tutorial.py "$dir/built/libgwb.so"
+counted 'the gallery' python3 tests/gallery.py "$dir/built/libgwb.so"
 counted 'the session in Python over the library' env "GWB=$dir/built/libgwb.so" python3 tests/library_companions.py
 echo "$passed passed, $failed failed, $skipped skipped"
 [ "$failed" = 0 ]
