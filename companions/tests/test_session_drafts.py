@@ -156,7 +156,7 @@ class Drafts(unittest.TestCase):
         with bench.draft():
             cut(bench)
             made, script = bench.listing(), bench.script()
-            for call in (lambda: bench.union([1, bench.block((50, 0, 0), (1, 1, 1))]), lambda: bench.pocket(self.block.bottom, TRIANGLE, 1),
+            for call in (lambda: bench.intersect([1, bench.block((50, 0, 0), (1, 1, 1))]), lambda: bench.pocket(self.block.bottom, TRIANGLE, 1),
                          lambda: bench.glue_all([1, bench.block((50, 0, 0), (1, 1, 1))])):
                 with self.assertRaises(Refused), bench.draft():
                     call()

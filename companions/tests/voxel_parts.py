@@ -297,17 +297,16 @@ class World:
         self.attempt('trim', lambda: self.bench.cut(solid, plane, keep=keep), expected)
 
     def union(self):
-        """Two solids made one, if they touch."""
+        """Two solids made one, wherever they lie."""
         if len(self.solids) > 1:
             self.unite(*self.random.sample(sorted(self.solids), 2))
 
     def unite(self, one, other):
-        """Two solids made one: accepted where they touch in faces alone."""
+        """Two solids made one: accepted where that doesn't touch itself."""
         first, second = self.solids[one], self.solids[other]
         both = {one: first | second, other: None}
-        contact = any(_next(cell, axis, sign) in second for cell in first for axis in AXES for sign in (1, -1))
         known = touches(first) | touches(second)
-        possible = contact and not first & second and not touches(first | second) - known
+        possible = not touches(first | second) - known
         self.attempt('union', lambda: self.bench.union([one, other]), None if not possible else (both,) if known else both)
 
     def cut_and_unite(self):
