@@ -82,8 +82,32 @@ static void try_graph()
     check(std::abs(CGAL::to_double(PMP::volume(copy)) - 64) < 1e-6, "a copy has its volume");
 }
 
+// One solid among others as a graph, as a mesh of CGAL, and brought back from it.
+static void try_solids()
+{
+    using Mesh = CGAL::Surface_mesh<GraphKernel::Point_3>;
+    Workbench bench;
+    (void)bench.block({20, 0, 0}, {1, 1, 1});
+    const Block block = bench.block({0, 0, 0}, {5, 5, 5});
+    (void)pocket(bench, block.top, std::vector<Point>{{1, 1, 5}, {3, 1, 5}, {3, 4, 5}}, 2);
+    const Graph graph(bench, block.solid), none(bench, Solid(99));
+    check(num_vertices(graph) == 14 && num_edges(graph) == 21 && num_faces(graph) == 10 && num_faces(none) == 0, "a graph of one solid");
+    const Mesh mesh = mesh_of<Mesh>(bench, block.solid);
+    check(CGAL::is_closed(mesh) && CGAL::is_triangle_mesh(mesh) && std::abs(CGAL::to_double(PMP::volume(mesh)) - 119) < 1e-6, "a mesh of one solid");
+    const Result<Solid> back = solid_of(bench, mesh);
+    check(back && narrow(bench.six_volumes(*back)) == 6 * 119, "a mesh that is brought back");
+    Mesh moved = mesh;
+    const auto third = *std::next(moved.vertices().begin(), 2);
+    moved.point(third) = moved.point(third) + GraphKernel::Vector_3(0.5, 0, 0);
+    const Result<Solid> between = solid_of(bench, moved);
+    check(!between && between.error().is(Misfit::off_lattice) && between.error().value == 3, "a point that isn't whole");
+    moved.point(third) = GraphKernel::Point_3(1e300, 0, 0);
+    check(solid_of(bench, moved).error().is(GWB_WHY_POINT_RANGE), "a point out of range");
+}
+
 int main()
 {
+    try_solids();
     Workbench block, plate, wedge;
     (void)block.block({0, 0, 0}, {4, 4, 4});
     try_in_place(block, "a block", 1);

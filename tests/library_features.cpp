@@ -4,6 +4,7 @@
 #include "gwb_history.hpp"
 #include "gwb_triangles.hpp"
 #include <cstdlib>
+#include <ctime>
 #include <functional>
 #include <iostream>
 #include <map>
@@ -247,8 +248,14 @@ static void try_all_triangles()
         found.push_back({row.face, row.corners[0], row.corners[1], row.corners[2]});
     check(found == wanted && found.size() > 64, "the triangles of all faces");
     check(bench.triangle_rows(other).size() == 12 && bench.triangle_rows(solid).size() == found.size() - 12, "those of a solid");
-    check(bench.triangle_rows(Face(999)).empty() && bench.triangle_rows(Solid(999)).empty(), "those of what is not there");
-    check(bench.triangle_rows(Solid()).empty() && bench.half_edge_rows(Solid()).empty() && bench.faces(Solid()).empty(), "a solid that nothing was given");
+    check(bench.triangle_rows(Face(999)).empty(), "those of a face that is not there");
+    for (Solid none : {Solid(), Solid(999), Solid(4294967295)})
+        check(bench.attempt().triangle_rows(none).error().is(GWB_WHY_NO_SOLID), "those of a solid that is not there");
+    check(bench.half_edge_rows(Solid()).empty() && bench.faces(Solid()).empty(), "a solid that nothing was given");
+    std::size_t walked = 0;
+    for (const gwb_triangle_row &row : *bench.attempt().triangle_rows(other))
+        walked += row.corners[0] != 0;
+    check(walked == 12, "a loop over the rows of a temporary result");
 }
 
 // Faces are cut once, however many triangles they have: as often as the library is asked for them.
@@ -624,6 +631,69 @@ static void try_rows()
     check(glue_all(rings, {left, below}).error().is(Misfit::no_match) && ring.depth() == 4, "faces of unlike outlines");
 }
 
+// ---- faces cut into triangles by operators
+
+// Cuts all in a draft: each face with triangles is one then, no vertex is new, and the volumes are the same.
+static void try_cut(const std::string &name, Workbench &bench)
+{
+    const std::string before = bench.listing();
+    const std::size_t triangles = bench.triangle_rows().size();
+    std::size_t uncut = 0, vertices = bench.vertex_rows().size(), faces = 0, wrong = 0;
+    for (Face face : bench.numbers<Face>())
+        uncut += bench.triangle_rows(face).empty();
+    std::map<Solid, std::int64_t> volumes;
+    for (Solid solid : bench.numbers<Solid>())
+        volumes[solid] = narrow(bench.six_volumes(solid));
+    {
+        Draft draft = bench.draft();
+        triangulate(bench);
+        for (Face face : bench.numbers<Face>()) {
+            faces++;
+            wrong += bench.half_edge_rows(face).size() != 3 || bench.triangle_rows(face).size() != 1;
+        }
+        check(faces == triangles + uncut && wrong == uncut && bench.vertex_rows().size() == vertices, name + ": each face is a triangle");
+        for (const auto &[solid, volume] : volumes)
+            check(narrow(bench.six_volumes(solid)) == volume, name + ": the volumes stay");
+    }
+    check(bench.listing() == before, name + ": all is as before the draft");
+}
+
+// A plate with so many pockets along each side, and a hole in the middle of four.
+static void make_plate(Workbench &bench, std::int64_t count)
+{
+    const Block plate = bench.block({0, 0, 0}, {10 * count, 10 * count, 10});
+    for (std::int64_t x = 0; x < 10 * count; x += 10)
+        for (std::int64_t y = 0; y < 10 * count; y += 10)
+            pocket(bench, plate.top, std::vector<Point>{{x + 2, y + 3, 10}, {x + 7, y + 2, 10}, {x + 6, y + 8, 10}}, 4);
+    hole(bench, plate.top, std::vector<Point>{{9, 9, 10}, {11, 9, 10}, {11, 11, 10}, {9, 11, 10}});
+}
+
+static double time_of_cuts(std::int64_t count)
+{
+    Workbench bench;
+    make_plate(bench, count);
+    Draft draft = bench.draft();
+    const std::clock_t began = std::clock();
+    triangulate(bench);
+    return static_cast<double>(std::clock() - began);
+}
+
+static void try_cuts()
+{
+    Workbench lamina, plate, wires;
+    (void)lamina.lamina({{0, 0, 0}, {5, 0, 0}, {5, 5, 0}, {0, 5, 0}});
+    try_cut("a lamina", lamina);
+    make_plate(plate, 3);
+    try_cut("a plate", plate);
+    for (Solid (*make)(Workbench &) : {pocket, hole, two_holes, wire, parts, lone_ring}) {
+        Workbench bench;
+        make(bench);
+        try_cut("what is loaded", bench);
+    }
+    time_of_cuts(4);
+    check(time_of_cuts(20) < 10 * time_of_cuts(10), "four times the rings take more than their number");
+}
+
 int main()
 {
     try {
@@ -656,6 +726,7 @@ int main()
         try_renumber();
         try_renumber_crosswise();
         try_no_triangles();
+        try_cuts();
         try_drafts();
     } catch (const std::exception &thrown) {
         check(false, thrown.what());

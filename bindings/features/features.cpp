@@ -409,7 +409,7 @@ gwb_kind gwb_groove(gwb *g, uint32_t face, const gwb_point *start, const gwb_poi
 
 gwb_kind gwb_shoulder(gwb *g, uint32_t face, uint32_t edge, int64_t width, int64_t depth, gwb_refusal *why)
 {
-    return listed(g, GWB_MADE_FLOOR, why, [&](Bench &bench) { 
+    return listed(g, GWB_MADE_FLOOR, why, [&](Bench &bench) {
         const auto [strip, down] = machining::sizes_of(width, depth);
         return shaping::cut_shoulder(bench, Face(face), Edge(edge), strip, down);
     });

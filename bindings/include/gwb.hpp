@@ -272,8 +272,10 @@ public:
     }
     [[nodiscard]] explicit operator bool() const { return value_.has_value(); }
     /// The value. Where there is none the program is terminated.
-    [[nodiscard]] T &operator*() { return *required(value_); }
-    [[nodiscard]] const T &operator*() const { return *required(value_); }
+    [[nodiscard]] T &operator*() & { return *required(value_); }
+    [[nodiscard]] const T &operator*() const & { return *required(value_); }
+    /// Of a temporary the value itself, which lives as long as a loop over it.
+    [[nodiscard]] T operator*() && { return std::move(*required(value_)); }
     [[nodiscard]] T *operator->() { return &*required(value_); }
     [[nodiscard]] const T *operator->() const { return &*required(value_); }
     /// The value, or this one where there is none.
@@ -1432,15 +1434,15 @@ public:
         return rows<gwb_vertex_row>([&](gwb_vertex_row *at, std::size_t room) { return gwb_read_vertices(seen(), at, room); });
     }
 
-    /// The triangles of a solid, as gwb_read_triangles writes them: a face that is bent, or whose loops cross or touch, has none.
+    /// The triangles of a solid, as gwb_read_triangles writes them: a face that is bent, or whose loops cross or touch, has none. Refused: NoSolid.
     [[nodiscard]] Returned<std::vector<gwb_triangle_row>> triangle_rows(Solid solid) const
     {
-        std::size_t most = solid != Solid() ? half_edge_count(solid) : 0;
+        if (std::uint32_t first = 0; is_open() && gwb_face_after(seen(), solid.number(), 0, &first) != GWB_FOUND)
+            return Policy::template failed<std::vector<gwb_triangle_row>>("triangles", {Problem::refused, GWB_WHY_NO_SOLID, solid.number()});
+        std::size_t most = half_edge_count(solid);
         for (Face face : faces(solid))
             most += twice_the_rings(face);
-        return triangles(most, [&](gwb_triangle_row *at, std::size_t room) {
-            return solid != Solid() || !is_open() ? gwb_read_triangles(seen(), solid.number(), at, room) : 0;
-        });
+        return triangles(most, [&](gwb_triangle_row *at, std::size_t room) { return gwb_read_triangles(seen(), solid.number(), at, room); });
     }
     /// Those of all solids.
     [[nodiscard]] Returned<std::vector<gwb_triangle_row>> triangle_rows() const

@@ -6,18 +6,21 @@
 ///     const Graph graph(bench);
 ///     const double volume = CGAL::to_double(CGAL::Polygon_mesh_processing::volume(graph));
 ///
-/// A graph is of the model as it was when the graph was made: make it anew after a command. A face of CGAL has one boundary, so faces with rings, and
-/// loops of one vertex, have none of these in it: triangulate() takes the rings in. It has no operators of MutableFaceGraph: what changes a mesh, such as
-/// remeshing, is done on a copy (CGAL::copy_face_graph).
+/// A graph is of the model, or of a solid of it, as it was when the graph was made: make it anew after a command. A face of CGAL has one boundary, so faces
+/// with rings, and loops of one vertex, have none of these in it: triangulate() of gwb_triangles.hpp takes the rings in. It has no operators of
+/// MutableFaceGraph: what changes a mesh, such as remeshing, is done on a copy (mesh_of), and what comes of it is brought back by solid_of.
 #ifndef GWB_CGAL_HPP
 #define GWB_CGAL_HPP
-#include "gwb.hpp"
+#include "gwb_features.hpp"
+#include "gwb_triangles.hpp"
 #include <CGAL/Exact_predicates_inexact_constructions_kernel.h>
 #include <CGAL/Iterator_range.h>
+#include <CGAL/boost/graph/Euler_operations.h>
 #include <CGAL/boost/graph/helpers.h>
 #include <CGAL/boost/graph/iterator.h>
 #include <CGAL/boost/graph/named_params_helper.h>
 #include <CGAL/boost/graph/properties.h>
+#include <set>
 
 namespace gwb_session {
 
@@ -36,6 +39,8 @@ inline std::size_t hash_value(HalfEdge half_edge) { return half_edge.code(); }
 class Graph {
 public:
     explicit Graph(const Workbench &bench) : bench_(&bench), lists_(std::make_shared<Lists>(bench)) {}
+    /// That of one solid: empty where it isn't there.
+    Graph(const Workbench &bench, Solid solid) : bench_(&bench), lists_(std::make_shared<Lists>(bench, solid)) {}
     [[nodiscard]] const Workbench &bench() const { return *bench_; }
 
     /// What there is of a kind, rising, and the place of each in it.
@@ -69,8 +74,30 @@ private:
                 vertices.add(vertex, vertex.number());
             for (Face face : bench.numbers<Face>())
                 faces.add(face, face.number());
+            add_edges(bench, bench.numbers<Edge>());
+        }
+        Lists(const Workbench &bench, Solid solid)
+        {
+            std::set<Vertex> corners;
+            std::set<Edge> bounds;
+            for (const gwb_half_edge_row &row : bench.half_edge_rows(solid)) {
+                corners.insert(Vertex(row.start));
+                bounds.insert(HalfEdge(row.half_edge).edge());
+            }
+            for (Face face : bench.faces(solid)) {
+                faces.add(face, face.number());
+                for (Loop loop : bench.loops_of(face))
+                    if (const std::optional<Vertex> vertex = bench.lone_vertex(loop))
+                        corners.insert(*vertex);
+            }
+            for (Vertex vertex : corners)
+                vertices.add(vertex, vertex.number());
+            add_edges(bench, bounds);
+        }
+        template <class Edges> void add_edges(const Workbench &bench, const Edges &all)
+        {
             ends.resize(vertices.all.size());
-            for (Edge edge : bench.numbers<Edge>()) {
+            for (Edge edge : all) {
                 edges.add({plus(edge)}, edge.number());
                 for (HalfEdge half_edge : {plus(edge), minus(edge)}) {
                     half_edges.add(half_edge, half_edge.code());
@@ -216,108 +243,64 @@ inline PlaceMap<GraphEdge> get(boost::edge_index_t, const Graph &graph) { return
 inline PlaceMap<Face> get(boost::face_index_t, const Graph &graph) { return {&graph}; }
 template <class Tag, class Key> auto get(Tag tag, const Graph &graph, Key key) -> decltype(get(get(tag, graph), key)) { return get(get(tag, graph), key); }
 
-namespace cutting_graph {
-
-/// Of a face that is seen from outside: whether a turn is to the left, 1, or to the right, -1.
-class View {
-public:
-    explicit View(const gwb_plane &plane)
-    {
-        const std::array<Wide, 3> across = {value(plane.a), value(plane.b), value(plane.c)};
-        const auto size = [&](std::size_t axis) { return across[axis] < 0 ? -across[axis] : across[axis]; };
-        std::size_t widest = 0;
-        for (std::size_t axis = 1; axis < 3; axis++)
-            if (size(axis) > size(widest))
-                widest = axis;
-        first_ = (widest + (across[widest] > 0 ? 1 : 2)) % 3, second_ = (widest + (across[widest] > 0 ? 2 : 1)) % 3;
-    }
-    [[nodiscard]] int turn(const Point &corner, const Point &one, const Point &other) const
-    {
-        const auto part = [&](const Point &at, std::size_t axis) { return coordinate(at, axis) - coordinate(corner, axis); };
-        const Wide area = Wide{part(one, first_)} * part(other, second_) - Wide{part(one, second_)} * part(other, first_);
-        return (area > 0) - (area < 0);
-    }
-
-private:
-    __extension__ typedef __int128 Wide;
-    static Wide value(const gwb_wide &wide) { return (Wide{wide.high} << 64) + wide.low; }
-    static std::int64_t coordinate(const Point &at, std::size_t axis) { return axis == 0 ? at.x : axis == 1 ? at.y : at.z; }
-    std::size_t first_, second_;
-};
-
-/// Whether a line from the start of a half-edge to a point begins in the face, between that half-edge and the one before it.
-inline bool begins_between(const Workbench &bench, const View &view, HalfEdge half_edge, const Point &to)
+/// The triangles of a solid as a mesh of CGAL of its own, such as CGAL::Surface_mesh or CGAL::Polyhedron_3, whose points are made of three doubles. Of a
+/// face without triangles, such as a bent one, there is a hole.
+template <class Mesh> Mesh mesh_of(const Workbench &bench, Solid solid)
 {
-    const Point corner = bench.vertex(bench.start_of(half_edge)), after = bench.vertex(bench.end_of(half_edge));
-    const Point before = bench.vertex(bench.start_of(bench.previous(half_edge)));
-    const bool is_left = view.turn(corner, after, to) > 0, is_right = view.turn(corner, to, before) > 0;
-    const int corner_turns = view.turn(corner, after, before);
-    const bool is_spur = bench.previous(half_edge) == half_edge.twin();
-    return is_spur || (corner_turns > 0 ? is_left && is_right : corner_turns < 0 ? is_left || is_right : is_left);
-}
-
-/// The half-edge of a face at which a line from a vertex to another one begins: none where it doesn't.
-inline HalfEdge corner(const Workbench &bench, const View &view, Face face, Vertex from, Vertex to)
-{
-    for (HalfEdge half_edge : bench.around(from))
-        if (bench.face_of(half_edge) == face && begins_between(bench, view, half_edge, bench.vertex(to)))
-            return half_edge;
-    return {};
-}
-
-/// Whether a face has an edge between two vertices.
-inline bool has_edge(const Workbench &bench, Vertex one, Vertex other)
-{
-    for (HalfEdge half_edge : bench.around(one))
-        if (bench.end_of(half_edge) == other)
-            return true;
-    return false;
-}
-
-/// Draws an edge between two vertices of a face, where it begins at both in one of the parts that the face has been cut into: from a loop to itself, so
-/// that the part is two then, or where these are asked for from a loop to a ring, so that both are one.
-inline void draw(Workbench &bench, const View &view, std::vector<Face> &parts, Vertex from, Vertex to, bool is_to_ring)
-{
-    for (Face part : parts) {
-        const HalfEdge one = corner(bench, view, part, from, to), other = corner(bench, view, part, to, from);
-        if (one == HalfEdge() || other == HalfEdge())
-            continue;
-        const Loop first = bench.loop_of(one), second = bench.loop_of(other);
-        if (is_to_ring && first != second)
-            second == bench.face(part).outer_loop ? bench.mekr(other, one) : bench.mekr(one, other);
-        if (!is_to_ring && first == second)
-            parts.push_back(bench.mef(one, other).face);
-        return;
-    }
-}
-
-/// Draws the sides of triangles in a face that aren't there yet.
-inline void draw_all(Workbench &bench, const View &view, std::vector<Face> &parts, const std::vector<gwb_triangle_row> &triangles, bool to_rings)
-{
-    for (const gwb_triangle_row &row : triangles)
-        for (std::size_t side = 0; side < 3; side++) {
-            const Vertex from(row.corners[side]), to(row.corners[(side + 1) % 3]);
-            if (!has_edge(bench, from, to))
-                draw(bench, view, parts, from, to, to_rings);
+    Mesh mesh;
+    const auto points = CGAL::get(CGAL::vertex_point, mesh);
+    using MeshPoint = typename boost::property_traits<std::decay_t<decltype(points)>>::value_type;
+    std::map<std::uint32_t, typename boost::graph_traits<Mesh>::vertex_descriptor> made;
+    for (const gwb_triangle_row &row : bench.triangle_rows(solid)) {
+        std::array<typename boost::graph_traits<Mesh>::vertex_descriptor, 3> corners;
+        for (std::size_t at = 0; at < 3; at++) {
+            const auto [vertex, is_new] = made.try_emplace(row.corners[at]);
+            if (is_new) {
+                const Point place = bench.vertex(Vertex(row.corners[at]));
+                vertex->second = add_vertex(mesh);
+                put(points, vertex->second, MeshPoint(static_cast<double>(place.x), static_cast<double>(place.y), static_cast<double>(place.z)));
+            }
+            corners[at] = vertex->second;
         }
+        CGAL::Euler::add_face(corners, mesh);
+    }
+    return mesh;
 }
 
-} // namespace cutting_graph
-
-/// Cuts each face into triangles, as steps of the draft that is open: those of gwb_face_triangles, so no vertex is new, and a face without any, such as a
-/// bent one, stays as it is. Where the draft is abandoned, all is as before.
-inline void triangulate(Workbench &bench)
+/// A coordinate of a mesh that is a whole number: none where it isn't. What is out of range stays so.
+template <class Number> std::optional<std::int64_t> whole(const Number &number)
 {
-    std::vector<Face> faces;
-    for (Face face : bench.numbers<Face>())
-        faces.push_back(face);
-    for (Face face : faces) {
-        const cutting_graph::View view(bench.plane(face));
-        const std::vector<gwb_triangle_row> triangles = bench.triangle_rows(face);
-        std::vector<Face> parts = {face};
-        for (bool to_rings : {true, false}) // rings first, since a face that is cut keeps all of them
-            cutting_graph::draw_all(bench, view, parts, triangles, to_rings);
+    constexpr double far = 4e9;
+    const auto nearest = static_cast<std::int64_t>(std::round(std::min(std::max(CGAL::to_double(number), -far), far)));
+    const bool is_whole = number == Number(static_cast<double>(nearest)) || number < Number(-far) || number > Number(far);
+    return is_whole ? std::optional(nearest) : std::nullopt;
+}
+
+/// A new solid from a mesh of CGAL, as polyhedron() makes it of its points and faces, in their order. Not possible: OffLattice, with the place of the first
+/// point that isn't whole, from 1 on.
+template <class Mesh> Result<Solid> solid_of(Workbench &bench, const Mesh &mesh)
+{
+    const auto places = CGAL::get(CGAL::vertex_point, mesh);
+    std::map<typename boost::graph_traits<Mesh>::vertex_descriptor, std::uint32_t> numbers;
+    std::vector<Point> points;
+    std::vector<std::uint32_t> corners, sizes;
+    for (auto vertex : vertices(mesh)) {
+        const auto &place = get(places, vertex);
+        const std::optional<std::int64_t> x = whole(place.x()), y = whole(place.y()), z = whole(place.z());
+        numbers.emplace(vertex, static_cast<std::uint32_t>(points.size()));
+        points.push_back({x.value_or(0), y.value_or(0), z.value_or(0)});
+        if (!x || !y || !z)
+            return Failure{Problem::impossible, static_cast<std::uint32_t>(Misfit::off_lattice), static_cast<std::uint32_t>(points.size())};
     }
+    for (auto face : faces(mesh)) {
+        const std::size_t before = corners.size();
+        for (auto vertex : CGAL::vertices_around_face(halfedge(face, mesh), mesh))
+            corners.push_back(numbers.at(vertex));
+        sizes.push_back(static_cast<std::uint32_t>(corners.size() - before));
+    }
+    auto attempts = bench.attempt();
+    const Result<Polyhedron> made = polyhedron(attempts, points, corners, sizes);
+    return made ? Result<Solid>(made->solid) : Result<Solid>(made.error());
 }
 
 } // namespace gwb_session
