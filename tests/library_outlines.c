@@ -1,6 +1,6 @@
-/* Outlines and sizes of features: random outlines are refused where two of their sides meet, by the first such side, as a comparison of all pairs says;
+/* Outlines, sizes and numbers of features: random outlines are refused where two of their sides meet, by the first such side, as a comparison of all pairs says;
  * one of many points takes no more than its length, however long its sides are; and sizes past all that is in range are refused as one of 4,000,000,000
- * is. The last line counts.
+ * is. A number that no thing can have is NumberRange, whatever it is of. The last line counts.
  *
  *     library_outlines [ROUNDS]     so many hundreds of random outlines: 30 where none is said */
 #include "gwb_features.h"
@@ -200,11 +200,96 @@ static void try_sizes(void)
         }
 }
 
+/* ---- numbers */
+
+static const gwb_motion nowhere = {{1, 2, 3}, {0, 0, 9}};
+
+static enum gwb_kind give_number(gwb *g, int call, uint32_t number, gwb_refusal *why)
+{
+    const gwb_point square[] = {{1, 1, 4}, {2, 1, 4}, {2, 2, 4}}, *start = &square[0], *end = &square[1];
+    const gwb_cut_plane plane = {0, 0, 1, -2};
+    const uint32_t both[] = {1, number};
+    gwb_outline_made made;
+    gwb_profile_made profile_made;
+    uint32_t found[8];
+    size_t count;
+    gwb_point points_made[8];
+    switch (call) {
+    case 0: return gwb_kill_solid(g, number, why);
+    case 1: return gwb_copy_solid(g, number, &nowhere, found, why);
+    case 2: return gwb_move_solid(g, number, &nowhere, why);
+    case 3: return gwb_pattern(g, number, 2, start, found, why);
+    case 4: return gwb_glue_all(g, both, 2, why);
+    case 5: return gwb_union(g, both, 2, why);
+    case 6: return gwb_split_solid(g, number, &plane, 7, why);
+    case 7: return gwb_cut(g, number, &plane, 7, why);
+    case 8: return gwb_trim(g, number, &plane, why);
+    case 9: return gwb_ring(g, number, square, 3, &made, found, found, why);
+    case 10: return gwb_pocket(g, number, square, 3, 1, &made, found, why);
+    case 11: return gwb_boss(g, number, square, 3, 1, &made, found, why);
+    case 12: return gwb_hole(g, number, square, 3, &made, found, why);
+    case 13: return gwb_drill(g, number, start, 1, 3, 1, &made, found, points_made, why);
+    case 14: return gwb_notch(g, number, square, 3, 1, why);
+    case 15: return gwb_slot(g, number, start, end, 2, 1, why);
+    case 16: return gwb_groove(g, number, start, end, 2, 1, why);
+    case 17: return gwb_shoulder(g, number, 1, 1, 1, why);
+    case 18: return gwb_shoulder(g, 1, number, 1, 1, why);
+    case 19: return gwb_chamfer(g, number, 1, 1, found, why);
+    case 20: return gwb_chamfer_edges(g, both, 2, 1, found, why);
+    case 21: return gwb_find_faces(g, &(gwb_face_query){.solid = number}, found, 8, &count, why);
+    case 22: return gwb_split_solid(g, 1, &plane, number, why);
+    case 23: return gwb_cut(g, 1, &plane, number, why);
+    default: return gwb_profile(g, number, square, 3, &(gwb_point){0, 0, 1}, &profile_made, found, why);
+    }
+}
+
+static void try_numbers(void)
+{
+    enum { CALLS = 25, NEW = 22 };
+    const uint32_t out_of_range[] = {0, 1000001, 4294967295};
+    for (int call = 0; call < CALLS; call++) {
+        gwb g = {0};
+        gwb_refusal why = {0, 0};
+        if (!gwb_open(&g))
+            abort();
+        gwb_block(&g, 1, 0, 0, 0, 4, 4, 4);
+        for (size_t at = call == 21; at < 3; at++)
+            check(give_number(&g, call, out_of_range[at], &why) == GWB_REFUSED && why.number == GWB_WHY_NUMBER_RANGE && why.value == out_of_range[at],
+                  "a number that no thing can have");
+        check(call >= NEW || (give_number(&g, call, 999999, &why) == GWB_REFUSED && why.number != GWB_WHY_NUMBER_RANGE && why.value == 999999),
+              "a number that no thing has");
+        check(gwb_depth(&g) == 1, "what is refused is no command");
+        gwb_close(&g);
+    }
+}
+
+/* Where numbers are spent, a feature says of which kind. */
+static void try_spent(void)
+{
+    const gwb_point square[] = {{1, 1, 4}, {2, 1, 4}, {2, 2, 4}};
+    gwb g = {0};
+    gwb_refusal why = {0, 0};
+    gwb_outline_made made;
+    uint32_t sides[3], top;
+    if (!gwb_open(&g))
+        abort();
+    gwb_block(&g, 1, 0, 0, 0, 4, 4, 4);
+    gwb_mvfs(&g, 2, 999999, 999, 999, 9, 9, 9);
+    for (top = 1; give_number(&g, 9, top, &why) != GWB_OK && top < 6;)
+        top++;
+    gwb_undo(&g);
+    check(gwb_pocket(&g, top, square, 3, 1, &made, sides, &why) == GWB_REFUSED && why.number == GWB_WHY_NUMBERS_SPENT && why.value == GWB_FACE + 1,
+          "a pocket where face numbers are spent");
+    gwb_close(&g);
+}
+
 int main(int argc, char **argv)
 {
     try_random(100 * (argc > 1 ? strtol(argv[1], NULL, 10) : 30));
     try_many();
     try_sizes();
+    try_numbers();
+    try_spent();
     printf("%ld passed, %ld failed\n", passed, failed);
     return failed != 0;
 }

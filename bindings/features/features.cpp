@@ -86,7 +86,43 @@ void put(const Pocket &made, gwb_outline_made *to, std::uint32_t *sides)
     put(made.sides, sides);
 }
 
+// ---- what callers give
+
+/// The number of a thing of the model. Refused: NumberRange: no thing can have it.
+template <class Kind> Kind given(std::uint32_t number)
+{
+    machining::require(number >= 1 && number <= greatest_number, machining::refused(GWB_WHY_NUMBER_RANGE, number));
+    return Kind(number);
+}
+template <class Kind> std::vector<Kind> all_given(const std::uint32_t *numbers, std::size_t n)
+{
+    std::vector<Kind> found(n);
+    std::transform(numbers, numbers + n, found.begin(), given<Kind>);
+    return found;
+}
+
 // ---- what is made
+
+/// The first kind of which the greatest number is in use, as NumbersSpent tells it: 0 where there is none.
+std::uint32_t spent_kind(const Bench &bench)
+{
+    std::uint32_t kind = GWB_SOLID;
+    while (kind <= GWB_VERTEX && gwb_greatest_number(bench.handle(), kind) < greatest_number)
+        kind++;
+    return kind <= GWB_VERTEX ? kind + 1 : 0;
+}
+
+/// Makes something, and says of what there are too few numbers where it isn't made for that.
+template <class Make> void make_numbered(Bench &bench, Lists &lists, Make make)
+{
+    try {
+        make(bench, lists);
+    } catch (Failure &failure) {
+        if (failure.is(GWB_WHY_NUMBERS_SPENT) && failure.value == 0)
+            failure.value = spent_kind(bench);
+        throw;
+    }
+}
 
 /// What is answered to a call whose arguments make none.
 gwb_kind no_call(const gwb *g) { return gwb_is_open(g) ? GWB_NO_CALL : GWB_CLOSED; }
@@ -112,7 +148,7 @@ template <class Make> gwb_kind made_if(bool is_call, gwb *g, gwb_refusal *why, M
             const Borrowed::Steps commands(session.handle());
             if (!commands.are_begun())
                 throw Failure{commands.kind() == GWB_MEMORY ? Problem::memory : Problem::closed};
-            make(session, known.lists);
+            make_numbered(session, known.lists, make);
             commands.keep();
         } catch (const Failure &) {
             if (was_known && known.changes == before) // it is again what it was
@@ -141,7 +177,7 @@ template <class Place>
 gwb_kind row_of(bool is_call, gwb *g, std::uint32_t solid, std::uint32_t count, Place place, std::uint32_t *solids, gwb_refusal *why)
 {
     return made_if(is_call && count != 0, g, why, [&](Bench &bench, Lists &lists) {
-        put(models::patterned(bench, Solid(solid), count, place, lists), solids);
+        put(models::patterned(bench, given<Solid>(solid), count, place, lists), solids);
     });
 }
 
@@ -160,8 +196,8 @@ gwb_kind combined(booleans::Operation operation, gwb *g, std::optional<std::uint
     return made_if(is_call, g, why, [&](Bench &bench, Lists &lists) {
         std::vector<Solid> solids;
         if (first)
-            solids.emplace_back(*first);
-        std::transform(others, others + n, std::back_inserter(solids), [](std::uint32_t number) { return Solid(number); });
+            solids.push_back(given<Solid>(*first));
+        std::transform(others, others + n, std::back_inserter(solids), given<Solid>);
         booleans::tell(booleans::combine(bench, operation, std::move(solids)), lists[GWB_MADE_INTO]);
     });
 }
@@ -193,7 +229,11 @@ gwb_kind sought(const gwb *g, const Query &query, Find find, std::uint32_t *buf,
 {
     if (!selection::is_query(query))
         return no_call(g);
-    return looked_at(g, why, [&](const Bench &bench) { *count = rows(find(bench, query), buf, room, number_of); });
+    return looked_at(g, why, [&](const Bench &bench) {
+        if (query.solid != 0)
+            (void)given<Solid>(query.solid);
+        *count = rows(find(bench, query), buf, room, number_of);
+    });
 }
 
 } // namespace
@@ -239,20 +279,20 @@ size_t gwb_made(const gwb *g, uint32_t list, uint32_t *buf, size_t room)
 
 gwb_kind gwb_kill_solid(gwb *g, uint32_t solid, gwb_refusal *why)
 {
-    return made(g, why, [&](Bench &bench, Lists &) { take_away(bench, Solid(solid)); });
+    return made(g, why, [&](Bench &bench, Lists &) { take_away(bench, given<Solid>(solid)); });
 }
 
 gwb_kind gwb_copy_solid(gwb *g, uint32_t solid, const gwb_motion *motion, uint32_t *out, gwb_refusal *why)
 {
     return made_if(models::is_motion(*motion), g, why, [&](Bench &bench, Lists &lists) {
-        *out = models::make(bench, models::moved(sheets::Model::whole(bench, Solid(solid)), {Motion(*motion)}), lists).number();
+        *out = models::make(bench, models::moved(sheets::Model::whole(bench, given<Solid>(solid)), {Motion(*motion)}), lists).number();
     });
 }
 
 gwb_kind gwb_move_solid(gwb *g, uint32_t solid, const gwb_motion *motion, gwb_refusal *why)
 {
     return made_if(models::is_motion(*motion), g, why, [&](Bench &bench, Lists &) {
-        sheets::make_anew(bench, models::moved(sheets::Model::whole(bench, Solid(solid)), {Motion(*motion)}));
+        sheets::make_anew(bench, models::moved(sheets::Model::whole(bench, given<Solid>(solid)), {Motion(*motion)}));
     });
 }
 
@@ -284,23 +324,23 @@ gwb_kind gwb_renumber(gwb *g, gwb_refusal *why) { return made(g, why, models::re
 gwb_kind gwb_glue_all(gwb *g, const uint32_t *solids, size_t n, gwb_refusal *why)
 {
     return made_if(n != 0 && are_different(solids, n), g, why, [&](Bench &bench, Lists &) {
-        uniting::glue_all(bench, std::vector<Solid>(solids, solids + n));
+        uniting::glue_all(bench, all_given<Solid>(solids, n));
     });
 }
 
 gwb_kind gwb_split_solid(gwb *g, uint32_t solid, const gwb_cut_plane *plane, uint32_t above, gwb_refusal *why)
 {
-    return listed(g, GWB_MADE_LOWER_CAPS, why, [&](Bench &bench) { return cuts::split(bench, Solid(solid), *plane, Solid(above)); });
+    return listed(g, GWB_MADE_LOWER_CAPS, why, [&](Bench &bench) { return cuts::split(bench, given<Solid>(solid), *plane, given<Solid>(above)); });
 }
 
 gwb_kind gwb_cut(gwb *g, uint32_t solid, const gwb_cut_plane *plane, uint32_t above, gwb_refusal *why)
 {
-    return listed(g, GWB_MADE_LOWER_CAPS, why, [&](Bench &bench) { return cuts::cut(bench, Solid(solid), *plane, Solid(above), true); });
+    return listed(g, GWB_MADE_LOWER_CAPS, why, [&](Bench &bench) { return cuts::cut(bench, given<Solid>(solid), *plane, given<Solid>(above), true); });
 }
 
 gwb_kind gwb_trim(gwb *g, uint32_t solid, const gwb_cut_plane *plane, gwb_refusal *why)
 {
-    return listed(g, GWB_MADE_LOWER_CAPS, why, [&](Bench &bench) { return cuts::cut(bench, Solid(solid), *plane, bench.next_free<Solid>(), false); });
+    return listed(g, GWB_MADE_LOWER_CAPS, why, [&](Bench &bench) { return cuts::cut(bench, given<Solid>(solid), *plane, bench.next_free<Solid>(), false); });
 }
 
 gwb_kind gwb_union(gwb *g, const uint32_t *solids, size_t n, gwb_refusal *why)
@@ -321,21 +361,21 @@ gwb_kind gwb_intersect(gwb *g, const uint32_t *solids, size_t n, gwb_refusal *wh
 gwb_kind gwb_separate(gwb *g, uint32_t solid, gwb_refusal *why)
 {
     return made(g, why, [&](Bench &bench, Lists &lists) {
-        for (Solid part : components::separate(bench, Solid(solid)))
+        for (Solid part : components::separate(bench, given<Solid>(solid)))
             lists[GWB_MADE_SOLIDS].insert(lists[GWB_MADE_SOLIDS].end(), {solid, part.number()});
     });
 }
 
 gwb_kind gwb_join_faces(gwb *g, uint32_t solid, gwb_refusal *why)
 {
-    return made(g, why, [&](Bench &bench, Lists &lists) { booleans::tell(booleans::join_faces(bench, Solid(solid)), lists[GWB_MADE_INTO]); });
+    return made(g, why, [&](Bench &bench, Lists &lists) { booleans::tell(booleans::join_faces(bench, given<Solid>(solid)), lists[GWB_MADE_INTO]); });
 }
 
 gwb_kind gwb_profile(gwb *g, uint32_t solid, const gwb_point *points, size_t n, const gwb_point *along, gwb_profile_made *out, uint32_t *sides,
                      gwb_refusal *why)
 {
     return made(g, why, [&](Bench &bench, Lists &) {
-        const Profile found = machining::make_profile(bench, Solid(solid), {points, n}, *along);
+        const Profile found = machining::make_profile(bench, given<Solid>(solid), {points, n}, *along);
         *out = {found.far.number(), found.base.number()};
         put(found.sides, sides);
     });
@@ -347,14 +387,14 @@ gwb_kind gwb_polyhedron(gwb *g, uint32_t solid, const gwb_point *points, size_t 
     const size_t count = std::accumulate(sizes, sizes + faces, size_t{0});
     const bool are_places = std::all_of(corners, corners + count, [&](uint32_t corner) { return corner < n; });
     return made_if(faces != 0 && n != 0 && are_places, g, why, [&](Bench &bench, Lists &) {
-        *out = models::make_polyhedron(bench, Solid(solid), {points, n}, corners, Items<uint32_t>(sizes, faces));
+        *out = models::make_polyhedron(bench, given<Solid>(solid), {points, n}, corners, Items<uint32_t>(sizes, faces));
     });
 }
 
 gwb_kind gwb_ring(gwb *g, uint32_t face, const gwb_point *points, size_t n, gwb_outline_made *out, uint32_t *edges, uint32_t *vertices, gwb_refusal *why)
 {
     return made(g, why, [&](Bench &bench, Lists &) {
-        const Ring found = machining::make_ring(bench, Face(face), {points, n});
+        const Ring found = machining::make_ring(bench, given<Face>(face), {points, n});
         *out = {found.face.number(), found.loop.number()};
         put(found.edges, edges);
         put(found.vertices, vertices);
@@ -363,24 +403,24 @@ gwb_kind gwb_ring(gwb *g, uint32_t face, const gwb_point *points, size_t n, gwb_
 
 gwb_kind gwb_pocket(gwb *g, uint32_t face, const gwb_point *points, size_t n, int64_t depth, gwb_outline_made *out, uint32_t *sides, gwb_refusal *why)
 {
-    return made(g, why, [&](Bench &bench, Lists &) { put(machining::make_raised(bench, Face(face), {points, n}, machining::sizes_of(depth)[0], false), out, sides); });
+    return made(g, why, [&](Bench &bench, Lists &) { put(machining::make_raised(bench, given<Face>(face), {points, n}, machining::sizes_of(depth)[0], false), out, sides); });
 }
 
 gwb_kind gwb_boss(gwb *g, uint32_t face, const gwb_point *points, size_t n, int64_t height, gwb_outline_made *out, uint32_t *sides, gwb_refusal *why)
 {
-    return made(g, why, [&](Bench &bench, Lists &) { put(machining::make_raised(bench, Face(face), {points, n}, machining::sizes_of(height)[0], true), out, sides); });
+    return made(g, why, [&](Bench &bench, Lists &) { put(machining::make_raised(bench, given<Face>(face), {points, n}, machining::sizes_of(height)[0], true), out, sides); });
 }
 
 gwb_kind gwb_hole(gwb *g, uint32_t face, const gwb_point *points, size_t n, gwb_outline_made *out, uint32_t *sides, gwb_refusal *why)
 {
-    return made(g, why, [&](Bench &bench, Lists &) { put(machining::make_hole(bench, Face(face), {points, n}), out, sides); });
+    return made(g, why, [&](Bench &bench, Lists &) { put(machining::make_hole(bench, given<Face>(face), {points, n}), out, sides); });
 }
 
 gwb_kind gwb_drill(gwb *g, uint32_t face, const gwb_point *center, int64_t radius, uint32_t n, int64_t depth, gwb_outline_made *out, uint32_t *sides,
                    gwb_point *points, gwb_refusal *why)
 {
     return made(g, why, [&](Bench &bench, Lists &) {
-        const Hole found = drilling::drill(bench, Face(face), *center, radius, n, depth);
+        const Hole found = drilling::drill(bench, given<Face>(face), *center, radius, n, depth);
         put({found.other, found.loop, found.sides}, out, sides);
         std::copy(found.points.begin(), found.points.end(), points);
     });
@@ -389,21 +429,21 @@ gwb_kind gwb_drill(gwb *g, uint32_t face, const gwb_point *center, int64_t radiu
 gwb_kind gwb_notch(gwb *g, uint32_t face, const gwb_point *points, size_t n, int64_t depth, gwb_refusal *why)
 {
     return listed(g, GWB_MADE_FLOOR, why, [&](Bench &bench) {
-        return shaping::cut_in_face(bench, Face(face), {points, n}, shaping::notch_tool, depth);
+        return shaping::cut_in_face(bench, given<Face>(face), {points, n}, shaping::notch_tool, depth);
     });
 }
 
 gwb_kind gwb_slot(gwb *g, uint32_t face, const gwb_point *start, const gwb_point *end, int64_t width, int64_t depth, gwb_refusal *why)
 {
     return listed(g, GWB_MADE_FLOOR, why, [&](Bench &bench) {
-        return shaping::cut_in_face(bench, Face(face), {*start, *end}, shaping::slot_tool, width, depth);
+        return shaping::cut_in_face(bench, given<Face>(face), {*start, *end}, shaping::slot_tool, width, depth);
     });
 }
 
 gwb_kind gwb_groove(gwb *g, uint32_t face, const gwb_point *start, const gwb_point *end, int64_t width, int64_t depth, gwb_refusal *why)
 {
     return listed(g, GWB_MADE_FLOOR, why, [&](Bench &bench) {
-        return shaping::cut_in_face(bench, Face(face), {*start, *end}, shaping::groove_tool, width, depth);
+        return shaping::cut_in_face(bench, given<Face>(face), {*start, *end}, shaping::groove_tool, width, depth);
     });
 }
 
@@ -411,19 +451,19 @@ gwb_kind gwb_shoulder(gwb *g, uint32_t face, uint32_t edge, int64_t width, int64
 {
     return listed(g, GWB_MADE_FLOOR, why, [&](Bench &bench) {
         const auto [strip, down] = machining::sizes_of(width, depth);
-        return shaping::cut_shoulder(bench, Face(face), Edge(edge), strip, down);
+        return shaping::cut_shoulder(bench, given<Face>(face), given<Edge>(edge), strip, down);
     });
 }
 
 gwb_kind gwb_chamfer(gwb *g, uint32_t edge, int64_t width, int64_t other, uint32_t *face, gwb_refusal *why)
 {
-    return made(g, why, [&](Bench &bench, Lists &) { put(shaping::make_chamfers(bench, {Edge(edge)}, machining::sizes_of(width, other)), face); });
+    return made(g, why, [&](Bench &bench, Lists &) { put(shaping::make_chamfers(bench, {given<Edge>(edge)}, machining::sizes_of(width, other)), face); });
 }
 
 gwb_kind gwb_chamfer_edges(gwb *g, const uint32_t *edges, size_t n, int64_t width, uint32_t *faces, gwb_refusal *why)
 {
     return made_if(n != 0 && are_different(edges, n), g, why, [&](Bench &bench, Lists &) {
-        put(shaping::make_chamfers(bench, std::vector<Edge>(edges, edges + n), machining::sizes_of(width, width)), faces);
+        put(shaping::make_chamfers(bench, all_given<Edge>(edges, n), machining::sizes_of(width, width)), faces);
     });
 }
 
@@ -439,7 +479,7 @@ gwb_kind gwb_find_edges(const gwb *g, const gwb_edge_query *query, uint32_t *buf
 
 gwb_kind gwb_off_lattice(const gwb *g, uint32_t solid, const gwb_cut_plane *plane, size_t most, gwb_advice **advice, gwb_refusal *why)
 {
-    return looked_at(g, why, [&](const Bench &bench) { *advice = new gwb_advice{cutting::made(bench, Solid(solid), *plane, most)}; });
+    return looked_at(g, why, [&](const Bench &bench) { *advice = new gwb_advice{cutting::made(bench, given<Solid>(solid), *plane, most)}; });
 }
 
 void gwb_advice_free(gwb_advice *advice) { delete advice; }

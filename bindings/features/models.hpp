@@ -169,8 +169,7 @@ inline Solid make(Bench &bench, const Model &model, Lists &lists)
 template <class Place> std::vector<Solid> patterned(Bench &bench, Solid solid, std::uint32_t count, Place place, Lists &lists)
 {
     const Model model = Model::whole(bench, solid);
-    constexpr std::uint32_t most = 1'000'000;
-    require(count <= most, refused(GWB_WHY_NUMBERS_SPENT, GWB_SOLID + 1U));
+    require(count <= greatest_number, refused(GWB_WHY_NUMBERS_SPENT, GWB_SOLID + 1U));
     std::vector<Solid> row;
     for (std::uint32_t at = 1; at < count; at++)
         row.push_back(make(bench, place(model, at), lists));

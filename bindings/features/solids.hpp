@@ -40,6 +40,9 @@ template <class... All> void put(std::string &text, const char *word, std::int64
 
 // ---- free numbers
 
+/// The greatest number that a thing of a model can have.
+constexpr std::uint32_t greatest_number = 1'000'000;
+
 /// Free numbers of a kind, above all in use.
 template <class Kind> class FreeNumbers {
 public:
@@ -68,8 +71,6 @@ public:
     [[nodiscard]] bool is_spent() const { return std::max(last_, gap_) > greatest_number; }
 
 private:
-    static constexpr std::uint32_t greatest_number = 1'000'000;
-
     const Bench &bench_;
     std::uint32_t last_, gap_ = 0;
     std::set<Kind> given_;

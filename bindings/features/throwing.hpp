@@ -8,10 +8,14 @@ extern "C" {
 
 namespace gwb_session {
 
-/// What calls of a workbench give in features: their value. What isn't accepted is thrown.
+/// What calls of a workbench give in features: their value. What isn't accepted is thrown. Numbers that callers give are in range when an operator comes
+/// to them, so one out of range is a new one of which there are none left.
 struct Failing {
     template <class T> using Returned = T;
-    template <class T> [[noreturn]] static T failed(std::string_view, Failure failure) { throw failure; }
+    template <class T> [[noreturn]] static T failed(std::string_view, Failure failure)
+    {
+        throw failure.is(GWB_WHY_NUMBER_RANGE) ? Failure{Problem::refused, GWB_WHY_NUMBERS_SPENT, 0} : failure;
+    }
     /// A range ends where there is nothing more.
     static void ended(Failure) {}
 };

@@ -248,7 +248,7 @@ template <class Tag, class Key> auto get(Tag tag, const Graph &graph, Key key) -
 template <class Mesh> Mesh mesh_of(const Workbench &bench, Solid solid)
 {
     Mesh mesh;
-    const auto points = CGAL::get(CGAL::vertex_point, mesh);
+    const auto points = get(CGAL::vertex_point, mesh);
     using MeshPoint = typename boost::property_traits<std::decay_t<decltype(points)>>::value_type;
     std::map<std::uint32_t, typename boost::graph_traits<Mesh>::vertex_descriptor> made;
     for (const gwb_triangle_row &row : bench.triangle_rows(solid)) {
@@ -280,7 +280,7 @@ template <class Number> std::optional<std::int64_t> whole(const Number &number)
 /// point that isn't whole, from 1 on.
 template <class Mesh> Result<Solid> solid_of(Workbench &bench, const Mesh &mesh)
 {
-    const auto places = CGAL::get(CGAL::vertex_point, mesh);
+    const auto places = get(CGAL::vertex_point, mesh);
     std::map<typename boost::graph_traits<Mesh>::vertex_descriptor, std::uint32_t> numbers;
     std::vector<Point> points;
     std::vector<std::uint32_t> corners, sizes;

@@ -8,6 +8,9 @@
  * - GWB_MEMORY; GWB_STOPPED, where the caller ends it (gwb_stop_by); GWB_CLOSED.
  * But for GWB_OK nothing has changed except for the last answer, and a draft that was open goes on where it was.
  *
+ * The number of a thing is tested before all else: 0, or one above 1,000,000, is NumberRange, and one that nothing has is NoSolid, NoFace or NoEdge. Where
+ * there are too few new numbers, NumbersSpent tells the first kind. A size below 1 is SizeRange; one above 4,000,000,000 is taken as that.
+ *
  * Outlines may run either way round; what belongs to their points comes in the order of the points. A list that is written for `n` points has
  * `n` items. Lists of another length are kept with the session until the next feature: gwb_made. */
 #ifndef GWB_FEATURES_H

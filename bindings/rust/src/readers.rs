@@ -1,7 +1,8 @@
 use crate::operators::named;
 use crate::ids::sealed::Kind;
 use crate::{
-    minus, plus, Block, Counts, Edge, EdgeRow, Error, Face, FaceRow, HalfEdge, HalfEdgeRow, Id, Lamina, Loop, Plane, Point, Solid, Vertex,
+    minus, plus, Block, Counts, Edge, EdgeRow, Error, Face, FaceRow, HalfEdge, HalfEdgeRow, Id, Lamina, Loop, Plane, Point, Refusal, Solid,
+    Vertex,
 };
 use gwb_sys::{kind, Gwb, Wide, FOUND};
 use std::iter;
@@ -285,14 +286,16 @@ impl Readers {
     /// The [`triangles`](Self::triangles) of the faces of a solid, of all where none is given, faces rising.
     ///
     /// # Errors
-    /// [`Error::Memory`].
+    /// [`Error::Refused`]: `NoSolid`; [`Error::Memory`].
     pub fn triangle_rows(&self, solid: impl Into<Option<Solid>>) -> Result<Vec<(Face, [Vertex; 3])>, Error> {
-        number_of(solid).map_or(Ok(Vec::new()), |solid| {
-            let rings = |face| self.rings(face).count();
-            let rings: usize = if solid == 0 { self.numbers().map(rings).sum() } else { self.faces(Solid(solid)).map(rings).sum() };
-            let half_edges = unsafe { gwb_sys::gwb_read_half_edges(self.handle(), solid, NonNull::dangling().as_ptr(), 0) };
-            triangle_rows(half_edges + 2 * rings, |rows, room| unsafe { gwb_sys::gwb_read_triangles(self.handle(), solid, rows, room) })
-        })
+        let given: Option<Solid> = solid.into();
+        if let Some(Solid(value)) = given.filter(|&solid| self.faces(solid).next().is_none()) {
+            return Err(Error::Refused { refusal: Refusal::NoSolid, value });
+        }
+        let rings = |face| self.rings(face).count();
+        let (number, rings): (u32, usize) = given.map_or_else(|| (0, self.numbers().map(rings).sum()), |solid| (solid.0, self.faces(solid).map(rings).sum()));
+        let half_edges = unsafe { gwb_sys::gwb_read_half_edges(self.handle(), number, NonNull::dangling().as_ptr(), 0) };
+        triangle_rows(half_edges + 2 * rings, |rows, room| unsafe { gwb_sys::gwb_read_triangles(self.handle(), number, rows, room) })
     }
 
     /// The lines of what is recorded and held, those of an open draft too: none before [`record`](crate::Operators::record).

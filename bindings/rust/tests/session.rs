@@ -497,7 +497,10 @@ fn what_is_made_has_names() {
     let made = copy.half_edge(side).unwrap();
     assert_eq!(session.start_of(made), copy.vertex(session.start_of(side).unwrap()));
     assert_eq!((session.end_of(made), copy.edge(side.edge())), (copy.vertex(session.end_of(side).unwrap()), Some(made.edge())));
-    assert_eq!((copy.face(Face(999)), session.half_edge_rows(Solid(0)).len(), session.triangle_rows(Solid(0))), (None, 0, Ok(vec![])));
+    assert_eq!((copy.face(Face(999)), session.half_edge_rows(Solid(0)).len()), (None, 0));
+    for value in [0, 999, u32::MAX] {
+        assert_eq!(session.triangle_rows(Solid(value)), Err(Error::Refused { refusal: Refusal::NoSolid, value }));
+    }
     session.lamina(None, &[[20, 0, 0], [24, 0, 0], [20, 4, 0]]).unwrap();
     assert!(session.last_lamina().map_or(false, |sheet| normal(&session, sheet.front) == 1));
 }

@@ -245,7 +245,7 @@ class Kernel:
         return list(zip(found[::2], found[1::2]))
 
     def _complaint(self, word: str, said: int, why: Any) -> CompanionError:
-        """The error of an answer, as it is said of a feature. A number past the greatest was chosen, except for a profile: none is left."""
+        """The error of an answer, as it is said of a feature."""
         if said == IMPOSSIBLE:
             name = self.lines.library.misfit_name(why.number).decode()
             text = 'a part of solid {} would touch itself in the plane' if name == 'Meets' and word in _CUTS else _TEXTS[name]
@@ -257,8 +257,6 @@ class Kernel:
             assert said == NO_CALL, f'{word}: an answer of kind {said}'
             raise ValueError(f'{word}: what is given is no solid')
         name = refusal(why.number, why.value).name
-        if name == 'NumberRange' and word not in (*_CUTS, 'profile'):
-            return refused(word, NUMBERS['NumbersSpent'], 0, _TEXTS['NumbersSpent'])
         text = '' if word in _CUTS else _TEXTS.get(name, '').format(why.value)
         if name == 'NotFlat' and word not in _CUTS:
             model = self.lines.model([why.value])
