@@ -181,19 +181,20 @@ gwb_kind row_of(bool is_call, gwb *g, std::uint32_t solid, std::uint32_t count, 
     });
 }
 
-/// Whether each number stands once.
-bool are_different(const std::uint32_t *numbers, std::size_t n)
+/// Numbers of which one stands twice make no call.
+void require_different(const std::uint32_t *numbers, std::size_t n)
 {
     std::vector<std::uint32_t> rising(numbers, numbers + n);
     std::sort(rising.begin(), rising.end());
-    return std::adjacent_find(rising.begin(), rising.end()) == rising.end();
+    machining::require(std::adjacent_find(rising.begin(), rising.end()) == rising.end(), Failure{Problem::no_call});
 }
 
 /// What comes of several solids, of a first one and others where that is given.
 gwb_kind combined(booleans::Operation operation, gwb *g, std::optional<std::uint32_t> first, const std::uint32_t *others, std::size_t n, gwb_refusal *why)
 {
-    const bool is_call = are_different(others, n) && (first ? n >= 1 && std::find(others, others + n, *first) == others + n : n >= 2);
+    const bool is_call = first ? n >= 1 && std::find(others, others + n, *first) == others + n : n >= 2;
     return made_if(is_call, g, why, [&](Bench &bench, Lists &lists) {
+        require_different(others, n);
         std::vector<Solid> solids;
         if (first)
             solids.push_back(given<Solid>(*first));
@@ -323,7 +324,8 @@ gwb_kind gwb_renumber(gwb *g, gwb_refusal *why) { return made(g, why, models::re
 
 gwb_kind gwb_glue_all(gwb *g, const uint32_t *solids, size_t n, gwb_refusal *why)
 {
-    return made_if(n != 0 && are_different(solids, n), g, why, [&](Bench &bench, Lists &) {
+    return made_if(n != 0, g, why, [&](Bench &bench, Lists &) {
+        require_different(solids, n);
         uniting::glue_all(bench, all_given<Solid>(solids, n));
     });
 }
@@ -462,7 +464,8 @@ gwb_kind gwb_chamfer(gwb *g, uint32_t edge, int64_t width, int64_t other, uint32
 
 gwb_kind gwb_chamfer_edges(gwb *g, const uint32_t *edges, size_t n, int64_t width, uint32_t *faces, gwb_refusal *why)
 {
-    return made_if(n != 0 && are_different(edges, n), g, why, [&](Bench &bench, Lists &) {
+    return made_if(n != 0, g, why, [&](Bench &bench, Lists &) {
+        require_different(edges, n);
         put(shaping::make_chamfers(bench, all_given<Edge>(edges, n), machining::sizes_of(width, width)), faces);
     });
 }
