@@ -172,7 +172,7 @@ class Picking(PageCase):
     def tried(self, model, page, words):
         """The clicks at places where nothing else is near: kind, number, what was copied, and the panel's text."""
         tab = self.opened(page, SMALL, words)
-        tab.value(f'View.view.lift = {LIFT}, document.getElementById("info").style.visibility = "hidden", View.ask()')
+        tab.value(f'View.view.lift = {LIFT}, document.getElementById("info").style.display = "none", View.ask()')
         tab.settle()
         points = self.places(tab, list(model.vertices.values()))
         places = dict(zip(model.vertices, points))
@@ -235,7 +235,7 @@ class Picking(PageCase):
         tab = self.opened(page_of(model))
         tab.click(700, 500)
         tab.click_on('#info-solid')
-        self.assertRegex(self.text(tab, '#facts'), rf'^volume {Fraction(six_volume(model, model.faces), 6)}area .*box 0 0 0 to 6 6 6size 6 × 6 × 6counts 16 vertices')
+        self.assertRegex(self.text(tab, '#facts'), rf'^volume {Fraction(six_volume(model, model.faces), 6)} mm³area .* mm²box 0 0 0 to 6 6 6 mmsize 6 × 6 × 6 mmcounts 16 vertices')
 
     def test_names_and_colours_are_shown(self):
         looks = {('solid', 1): Look('bracket <b>', (0, 255, 0)), ('face', 3): Look('seat', (255, 0, 255)), ('face', 4): Look('', None)}
@@ -430,7 +430,7 @@ class Tools(PageCase):
         tab.click(*self.place(tab, (6, 0, 0)))
         tab.click(*self.place(tab, (0, 0, 6)))
         self.assertEqual(tab.value('[...document.querySelectorAll("#facts div")].map(row => row.textContent)'),
-                         ['vertex 2', 'vertex 5', 'distance √72 ≈ 8.485281374', 'across x, y, z 6 0 6'])
+                         ['vertex 2', 'vertex 5', 'distance √72 ≈ 8.485281374 mm', 'across x, y, z 6 0 6 mm'])
         tab.click(*self.place(tab, (6, 3, 1)))
         self.assertEqual(tab.value('View.state.measured'), [{'kind': 'f', 'number': 4}])
         tab.click(*self.place(tab, (3, 0, 1)))
@@ -442,7 +442,7 @@ class Tools(PageCase):
 
 def told_number(text):
     """The number that a measure tells: exactly where it is a fraction or the root of one, squared."""
-    exact = text.split(' ≈ ')[0]
+    exact = text.split(' ≈ ')[0].split(' mm')[0]
     return Fraction(exact.strip('√()')) if exact.startswith('√') else Fraction(exact) ** 2
 
 
@@ -521,10 +521,10 @@ class Measures(PageCase):
 
     def test_whole_angles_and_parallels(self):
         self.tab = self.opened(page_of(model_in(listing(*box((0, 0, 0), (4, 5, 6))))), MIDDLE)
-        self.assertEqual(self.between(('f', 1), ('f', 2)), {'angle of the normals': '180°', 'distance of the planes': '6'})
+        self.assertEqual(self.between(('f', 1), ('f', 2)), {'angle of the normals': '180°', 'distance of the planes': '6 mm'})
         self.assertEqual(self.between(('f', 1), ('f', 3)), {'angle of the normals': '90°'})
-        self.assertEqual(self.between(('e', 1), ('f', 2)), {'angle': '0°', 'distance from the plane': '6'})
-        self.assertEqual(self.between(('e', 1), ('e', 3)), {'angle': '0°', 'distance of the lines': '4'})
+        self.assertEqual(self.between(('e', 1), ('f', 2)), {'angle': '0°', 'distance from the plane': '6 mm'})
+        self.assertEqual(self.between(('e', 1), ('e', 3)), {'angle': '0°', 'distance of the lines': '4 mm'})
         self.assertEqual({told['angle'] for told in (self.between(('e', edge), ('f', 1)) for edge in range(1, 13))}, {'0°', '90°'})
         self.assertEqual(dict(self.tab.value('Measure.solid(View.model, 1)'))['volume'], '120')
         self.assertEqual(dict(self.tab.value('Measure.own(View.model, {kind: "f", number: 1})'))['area'], '20')
@@ -809,6 +809,108 @@ class Lists(PageCase):
         self.assertTrue(phone.until('!document.getElementById("steps").offsetWidth'))
 
 
+    def test_rows_of_steps(self):
+        """Commands that a mark makes one step are one row, within which they are; each step lights what it made."""
+        program()
+        script = b'block 1 0 0 0 9 9 9\n# draft of 2 commands: boss <b>\nlamina 2 20 0 0 29 0 0 29 9 0\nsweep 7 0 0 5\nlist\n'
+        tab = self.opened(page_of_steps(played(script).steps), words='step=3', calm=True)
+        rows = lambda: tab.value('[...document.querySelectorAll("#steps > div")].map(row => row.id)')
+        self.assertEqual(rows(), ['step-0', 'step-1', 'step-2', 'step-3'])
+        self.require_said(tab, 'step 2 of 3: boss <b>')
+        self.assertEqual(set(tab.value('[...View.state.made]')), {f'f{face}' for face in range(7, 12)})
+        red, green, blue = tab.colours(*self.place(tab, (26, 3, 5)))[0]
+        self.assertTrue(red > green > blue + 60, (red, green, blue))
+        tab.press('ArrowLeft')
+        self.assertEqual((tab.value('View.state.step'), tab.value('[...View.state.made].length')), (1, 6))
+        tab.press('ArrowLeft')
+        self.assertEqual(tab.value('[View.state.step, View.state.made.size]'), [0, 0])
+        tab.press('ArrowRight', 'ArrowRight')
+        self.assertEqual(tab.value('View.state.step'), 3)
+        tab.click_on('#step-2 button')
+        lines = tab.value('[...document.querySelectorAll("#step-2 p")].map(line => line.textContent)')
+        self.assertEqual(lines, ['lamina 2 20 0 0 29 0 0 29 9 0', 'sweep 7 0 0 5'])
+        tab.click_on('#step-2 p')
+        self.assertEqual((tab.value('View.state.step'), self.text(tab, '#said')), (2, 'step 2 of 3: boss <b>'))
+        tab.press('.')
+        self.assertEqual(tab.value('View.state.step'), 3)
+
+
+class Looks(PageCase):
+    """Solids moved apart and hidden, links, shadows, units, and a page for within others."""
+
+    TWO = listing([*box((0, 0, 0), (4, 4, 4))[0], *box((10, 0, 0), (14, 4, 4))[0]], box((0, 0, 0), (4, 4, 4))[1], box((10, 0, 0), (14, 4, 4), 9)[1])
+
+    def test_solids_apart(self):
+        tab = self.opened(page_of(model_in(self.TWO)), calm=True)
+        far = 'Math.abs(View.scene.spots[3 * View.scene.at.v[{}]] - View.scene.spots[3 * View.scene.at.v[{}]])'
+        wide, span = tab.value(far.format(1, 2)), tab.value(far.format(1, 9))
+        tab.press('a')
+        self.assertTrue(tab.until(f'View.state.apart > 0 && {far.format(1, 2)} < .7 * {wide}', 300))
+        self.assertAlmostEqual(tab.value(far.format(1, 9)), span, 5)    # (from end to end it is as wide: the gap grew as the solids shrank)
+        self.assertEqual(tab.value('document.querySelector("[data-key=a]").getAttribute("aria-pressed")'), 'true')
+        tab.press('a')
+        self.assertTrue(tab.until(f'View.state.apart === 0 && Math.abs({far.format(1, 2)} - {wide}) < 1e-9', 300))
+
+    def test_a_click_hides_a_solid(self):
+        tab = self.opened(page_of(model_in(self.TWO)), calm=True)
+        tab.click(*self.place(tab, (2, 2, 4)))
+        tab.click_on('#info-hide')
+        self.assertEqual(tab.value('[[...View.state.off], View.state.picked]'), [[1], None])
+        tab.press('d')
+        self.require_said(tab, 'pick what is to be hidden first')
+
+    def test_a_link_shows_one_picture(self):
+        page = page_of(model_in(self.TWO))
+        words = 'turn=-1.2&lift=0.7&xray&numbers=all&edges=15&zoom=1.4&pan=0.05,0.02&section=y3&side=above&apart=0.5&off=2&lit=f1'
+        tab = self.opened(page, words=words, calm=True)
+        self.assertEqual(tab.value('View.addressWords()'), words)
+        tab.press('k')
+        self.assertTrue(tab.until(f'View.state.copied.endsWith({json.dumps("#" + words)})'))
+        for words, wanted in (('xray', [True, None, 0, 0, 0]), ('', [False, None, 0, 0, 0]), ('section=f7,1', [False, 7, 0, 0, 0])):
+            tab.value(f'location.hash = {json.dumps(words)}')
+            self.assertEqual(tab.until(f"""(found => JSON.stringify(found) === {json.dumps(json.dumps(wanted, separators=(',', ':')))} && found)
+                ([View.state.isXray, View.state.cut && View.state.cut.face, View.state.apart, View.state.off.size, View.state.numbers])"""), wanted)
+        self.assertFalse(tab.value('document.body.classList.contains("bare")'))
+
+    def test_bare(self):
+        tab = self.opened(page_of(model_in(self.TWO)), MIDDLE, 'bare', calm=True)
+        for panel in ('header', 'footer', '#left', '#triad'):
+            self.assertFalse(self.shown(tab, panel))
+        tab.click(*self.place(tab, (2, 2, 4)))
+        self.assertEqual(tab.value('View.state.picked.kind'), 'f')
+        self.assertFalse(self.shown(tab, '#info'))
+
+    def test_a_shadow_lies_on_the_ground(self):
+        model = model_in(listing(*box((0, 0, 0), (4, 4, 4))))
+        tab = self.opened(page_of(model), MIDDLE, 'lift=0.9', calm=True)
+        x, y = self.place(tab, (4.3, 2, 0))
+        dark = f'{sum(tab.colours(x, y)[0])} < {sum(tab.colours(5, y)[0])}'
+        tab.press('x')
+        tab.until('View.state.isXray')
+        tab.settle()
+        self.assertLess(int(dark.split(' < ')[0]), int(dark.split(' < ')[1]) - 20, (x, y))
+        self.assertGreater(sum(tab.colours(x, y)[0]), int(dark.split(' < ')[1]) - 20)
+
+    def test_lengths_are_millimetres(self):
+        tab = self.opened(page_of(model_in(listing(*box((0, 0, 0), (4, 5, 6)))), unit=Fraction(1, 4)), MIDDLE)
+        plane = lambda face: tab.value(f'Measure.plane(View.model.faces[{face}][2])')
+        self.assertEqual([plane(face) for face in range(1, 7)], ['z = 0 mm, looks to -z', 'z = 1.5 mm, looks to +z', 'y = 0 mm, looks to -y',
+                                                                'x = 1 mm, looks to +x', 'y = 1.25 mm, looks to +y', 'x = 0 mm, looks to -x'])
+        self.assertEqual(tab.value('Measure.plane(["6", "-8", "0", "20"])'), '3x - 4y = -2.5 mm, looks to 3 -4 0')
+        self.assertEqual(dict(tab.value('Measure.solid(View.model, 1)'))['volume'], '15/8 ≈ 1.875 mm³')
+        self.assertEqual(dict(tab.value('Measure.own(View.model, {kind: "f", number: 2})'))['area'], '5/4 ≈ 1.25 mm²')
+        tab.value('View.choose({kind: "v", number: 7})')
+        self.assertEqual(self.text(tab, '#facts'), '7vertex of solid 1 at 1 1.25 1.5 mmcopyin scripts 4 5 6')
+
+    def test_a_film(self):
+        tab = self.opened(page_of(model_in(self.TWO)), SMALL, 'flat', calm=True)
+        tab.value("""Object.assign(window, {saved: '', MediaRecorder: class { mimeType = 'video/webm';
+            start() { this.ondataavailable({data: new Blob(['x'])}); } stop() { window.saved = 'stopped'; this.onstop(); } }}), 1""")
+        tab.press('v')
+        self.assertEqual(tab.until('window.saved', 300), 'stopped')
+        self.require_said(tab, 'saved gwb.webm')
+
+
 class Windows(PageCase):
     """Windows of other sizes."""
 
@@ -842,7 +944,7 @@ class Phones(PageCase):
         tab.tap(*tab.middle('#tools-button'))
         tab.until('document.getElementById("tools").offsetWidth')
         sizes = tab.value('[...document.querySelectorAll("#tools button")].map(it => it.getBoundingClientRect()).map(b => [b.height, b.left, b.right])')
-        self.assertEqual(len(sizes), 11)
+        self.assertEqual(len(sizes), 14)
         self.assertTrue(all(high >= 40 and left >= 0 and right <= 360 for high, left, right in sizes), sizes)
         zoom = tab.value('View.view.zoom')
         tab.tap(*tab.middle('[data-key=h]'))

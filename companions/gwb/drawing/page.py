@@ -4,6 +4,7 @@ import base64
 import hashlib
 import html
 import json
+from fractions import Fraction
 from pathlib import Path
 from typing import Dict, Iterable, List, Mapping, NamedTuple, Optional, Protocol, Tuple
 
@@ -33,12 +34,16 @@ _LETTERS = {'solid': 's', 'face': 'f'}
 
 
 class Step(NamedTuple):
-    """A command of a script, what was replied to it, and what it changed: rows of the page by kind and number, None for what has gone."""
+    """A command of a script, what was replied to it, and what it changed: rows of the page by kind and number, None for what has gone.
+
+    `row` is what the list of steps calls it and those that follow and have none: they are one step of whoever made the script.
+    """
 
     line: str
     reply: str
     is_complaint: bool
     change: Dict[str, Rows]
+    row: str = ''
 
 
 def _looks_data(looks: Looks) -> Dict[str, Dict[str, str]]:
@@ -61,16 +66,20 @@ def _hexadecimal(colour: Tuple[int, int, int]) -> str:
     return '#{:02x}{:02x}{:02x}'.format(*colour)
 
 
-def page_of(model: Model, title: str = 'gwb', looks: Looks = _PLAIN) -> str:
-    """A page that shows the model, its solids and faces with the names and colours that are given."""
-    return _page({'frames': [{'change': PageRows().of(model)}], **_looks_data(looks)}, title)
+def page_of(model: Model, title: str = 'gwb', looks: Looks = _PLAIN, unit: Fraction = Fraction(1)) -> str:
+    """A page that shows the model, its solids and faces with the names and colours that are given; a coordinate has so many millimetres."""
+    return _page({'frames': [{'change': PageRows().of(model)}], **_looks_data(looks), **_unit_data(unit)}, title)
 
 
-def page_of_steps(steps: Iterable[Step], title: str = 'gwb', looks: Looks = _PLAIN) -> str:
+def _unit_data(unit: Fraction) -> Dict[str, List[str]]:
+    return {} if unit == 1 else {'unit': [str(unit.numerator), str(unit.denominator)]}
+
+
+def page_of_steps(steps: Iterable[Step], title: str = 'gwb', looks: Looks = _PLAIN, unit: Fraction = Fraction(1)) -> str:
     """A page that plays a script: the empty workbench, and what each command changes."""
     frames: List[Dict[str, object]] = [{'change': PageRows().of(EMPTY)}]
-    frames += ({'line': step.line, 'reply': step.reply, 'bad': step.is_complaint, 'change': step.change} for step in steps)
-    return _page({'steps': True, 'frames': frames, **_looks_data(looks)}, title)
+    frames += ({'line': step.line, 'reply': step.reply, 'bad': step.is_complaint, 'change': step.change, 'row': step.row} for step in steps)
+    return _page({'steps': True, 'frames': frames, **_looks_data(looks), **_unit_data(unit)}, title)
 
 
 def _page(data: Dict[str, object], title: str) -> str:

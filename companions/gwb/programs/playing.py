@@ -23,6 +23,8 @@ _PLACES = {'mvfs': '.F', 'kvfs': 'S', 'mev': 'H', 'mef': 'H..F', 'kef': 'H', 'ke
 _FRESH, _WHOLE = ('lamina', 'block', 'sweep', 'split'), ('glue', 'split')
 # Where the command stands that is taken back or done again, from how many are held.
 _TURNS = {'undo': -1, 'redo': 0}
+# The mark of a saved script before commands that are one step, perhaps with a name of it.
+_MARK = re.compile(rb'# (step|draft) of ([1-9][0-9]{0,8}) commands(?:: (.{1,200}))?')
 _NUMBER = re.compile('@?([+-]?)0*([0-9]{1,9})')
 # The reply to a command, and the model before and after it, or that of some faces, among which are all that it changed.
 Answer = Tuple[Reply, Model, Model]
@@ -155,13 +157,32 @@ def _given(script: bytes) -> Iterator[Tuple[int, bytes]]:
 
 def played(script: bytes) -> Played:
     """The commands of a script, run one after another."""
-    rows, steps = PageRows(), []
+    rows, steps, called = PageRows(), [], _rows_of(script)
     with closing(_begun(LibraryPlayer, ProgramPlayer)) as player:
-        for _, line in _given(script):
+        for number, line in _given(script):
             reply, before, after = player.give(line.decode('utf-8', 'surrogateescape'))
             told = shortened(line.decode('ascii', 'backslashreplace').strip(), 200)
-            steps.append(Step(told, _told(line, reply), reply.is_complaint, rows.changed(before, after)))
+            steps.append(Step(told, _told(line, reply), reply.is_complaint, rows.changed(before, after), called.get(number, '')))
         return Played(steps, player.model())
+
+
+def _rows_of(script: bytes) -> Dict[int, str]:
+    """What a list of steps calls those that begin with lines, by the numbers of these: commands alone, and those that a mark makes one step."""
+    called: Dict[int, str] = {}
+    words: List[str] = []
+    left, first, name = 0, 0, ''
+    for number, line in enumerate(script.split(b'\n'), 1):
+        mark = _MARK.fullmatch(line.rstrip(b'\r'))
+        if mark and not left:
+            left, first, name, words = int(mark[2]), 0, (mark[3] or b'').decode('utf-8', 'replace'), []
+        if not is_answered(line) or is_comment(line):
+            continue
+        if left:
+            left, first, words = left - 1, first or number, [*words, first_word(line)]
+            called[first] = name or f'{len(words)} commands: {" ".join(dict.fromkeys(words))}'
+        else:
+            called[number] = shortened(line.decode('ascii', 'backslashreplace').strip(), 200)
+    return called
 
 
 class Ended(NamedTuple):

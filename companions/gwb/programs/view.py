@@ -1,7 +1,6 @@
 """gwb-view: makes a page to look at a model and to pick from it, or to play a script."""
 
 import argparse
-from fractions import Fraction
 from pathlib import Path
 from typing import Optional, Sequence
 
@@ -35,10 +34,10 @@ def _parser() -> argparse.ArgumentParser:
     return parser
 
 
-def _title(path: Optional[str], unit: Fraction) -> str:
-    """The title of the page: the name of the file, with the unit where it isn't one."""
+def _title(path: Optional[str]) -> str:
+    """The title of the page: the name of the file."""
     stem = Path(path or '-').stem.encode('utf-8', 'backslashreplace').decode('utf-8')
-    return ('gwb' if stem == '-' else stem) + ('' if unit == 1 else f', unit {unit}')
+    return 'gwb' if stem == '-' else stem
 
 
 def work(words: Optional[Sequence[str]]) -> int:
@@ -51,10 +50,10 @@ def work(words: Optional[Sequence[str]]) -> int:
         data = read_bytes(options.listing)
         _require_script(data, options.listing)
         said, ended = said_in(data), played(data)
-        model, page = ended.model, page_of_steps(ended.steps, _title(options.listing, said.unit), said.looks)
+        model, page = ended.model, page_of_steps(ended.steps, _title(options.listing), *said)
     else:
         model, said, *_ = filled(options)
-        page = page_of(model, _title(options.listing, said.unit), said.looks)
+        page = page_of(model, _title(options.listing), *said)
     warn_of_inside_out(PROGRAM, model)
     print(page, end='')
     return OK

@@ -20,6 +20,25 @@ const Measure = (() => {
     return root;
   }
 
+  // How many millimetres a coordinate has, above and below the line of a fraction.
+  let unit = [1n, 1n];
+  function setUnit(parts) { unit = big(parts); }
+
+  const SIGNS = ['', ' mm', ' mm²', ' mm³'], powers = (above, below, power) => [above * unit[0] ** BigInt(power), below * unit[1] ** BigInt(power)];
+  // A coordinate in millimetres, in ten digits where it is none of fewer; and a length, of which the square is given.
+  const place = x => fraction(...powers(BigInt(x), 1n, 1)).split('≈ ').pop();
+  const length = (above, below = 1n) => root(...powers(above, below, 2)) + SIGNS[1];
+
+  // A plane for people: along an axis where it lies so, else by its shortest whole normal; and where it looks to.
+  function plane(numbers) {
+    const [a, b, c, d] = big(numbers), shared = [a, b, c].reduce(divisor) || 1n, normal = [a, b, c].map(x => x / shared);
+    const axes = [0, 1, 2].filter(k => normal[k]), sign = axes.length === 1 ? normal[axes[0]] : 1n;
+    const away = fraction(...powers(-d * sign, shared, 1)).split('≈ ').pop();
+    if (axes.length === 1) return `${'xyz'[axes[0]]} = ${away} mm, looks to ${sign < 0n ? '-' : '+'}${'xyz'[axes[0]]}`;
+    const terms = axes.map((k, i) => `${normal[k] < 0n ? '- ' : i ? '+ ' : ''}${abs(normal[k]) === 1n ? '' : abs(normal[k])}${'xyz'[k]}`);
+    return axes.length ? `${terms.join(' ')} = ${away} mm, looks to ${normal.join(' ')}` : 'no plane';
+  }
+
   const rounded = x => String(Number(x.toPrecision(10)));
 
   // A fraction as text.
@@ -60,15 +79,15 @@ const Measure = (() => {
   // A vertex and an edge: the distance from the edge, which ends, and from its line where that differs.
   function fromEdge(point, {point: start, end, along}) {
     const way = dot(minus(point, start), along), long = dot(along, along), across = cross(minus(point, start), along);
-    if (long === 0n) return [['distance', root(dot(minus(point, start), minus(point, start)))]];
-    const line = root(dot(across, across), long), nearest = way <= 0n ? start : way >= long ? end : null;
+    if (long === 0n) return [['distance', length(dot(minus(point, start), minus(point, start)))]];
+    const line = length(dot(across, across), long), nearest = way <= 0n ? start : way >= long ? end : null;
     if (!nearest) return [['distance', line]];
-    return [['distance', root(dot(minus(point, nearest), minus(point, nearest)))], ['from its line', line]];
+    return [['distance', length(dot(minus(point, nearest), minus(point, nearest)))], ['from its line', line]];
   }
 
   function fromPlane(point, {point: on, normal}) {
     const away = dot(minus(point, on), normal);
-    return root(away * away, dot(normal, normal));
+    return length(away * away, dot(normal, normal));
   }
 
   function betweenEdges(a, b) {
@@ -76,10 +95,10 @@ const Measure = (() => {
     if (lines === 0n) return [['', 'an edge has no length']];
     if (square === 0n) {
       const across = cross(between, a.along);
-      return [['angle', '0°'], ['distance of the lines', root(dot(across, across), dot(a.along, a.along))]];
+      return [['angle', '0°'], ['distance of the lines', length(dot(across, across), dot(a.along, a.along))]];
     }
     const away = dot(between, normal);
-    return [['angle', angle(abs(dot(a.along, b.along)), lines)], ['distance of the lines', root(away * away, square)]];
+    return [['angle', angle(abs(dot(a.along, b.along)), lines)], ['distance of the lines', length(away * away, square)]];
   }
 
   function edgeAndFace(edge, face) {
@@ -102,7 +121,7 @@ const Measure = (() => {
     if (bent) return [['', `face ${bent.number} isn't flat, or has no area`]];
     const order = 'vef', [a, b] = [first, second].map(it => shape(model, it)).sort((p, q) => order.indexOf(p.kind) - order.indexOf(q.kind));
     const way = minus(b.point, a.point);
-    return {vv: () => [['distance', root(dot(way, way))], ['across x, y, z', way.map(abs).join(' ')]], ve: () => fromEdge(a.point, b),
+    return {vv: () => [['distance', length(dot(way, way))], ['across x, y, z', `${way.map(x => place(abs(x))).join(' ')} mm`]], ve: () => fromEdge(a.point, b),
             vf: () => [['distance from the plane', fromPlane(a.point, b)]], ee: () => betweenEdges(a, b), ef: () => edgeAndFace(a, b),
             ff: () => betweenFaces(a, b)}[a.kind + b.kind]();
   }
@@ -136,7 +155,7 @@ const Measure = (() => {
             ff: () => cross(a.normal, b.normal).some(Boolean) ? null : [point, foot(point, b)]}[a.kind + b.kind]();
   }
 
-  const area = plane => root(dot(big(plane.slice(0, 3)), big(plane.slice(0, 3))), 4n);
+  const area = plane => root(...powers(dot(big(plane.slice(0, 3)), big(plane.slice(0, 3))), 4n, 4)) + SIGNS[2];
   const facesOf = (model, solid) => Object.values(model.faces).filter(row => row[0] === solid);
 
   // The vertices and edges of faces.
@@ -157,18 +176,20 @@ const Measure = (() => {
     const [low, high] = [Math.min, Math.max].map(one => [0, 1, 2].map(k => points.reduce((least, point) => one(least, point[k]), points[0][k])));
     const six = faces.reduce((sum, [, , plane]) => sum - BigInt(plane[3]), 0n);
     const sum = faces.reduce((all, [, , plane]) => all + Math.sqrt(Number(dot(big(plane.slice(0, 3)), big(plane.slice(0, 3))))) / 2, 0);
-    return [['volume', fraction(six, 6n)], ['area', `≈ ${rounded(sum)}`], ['box', `${low.join(' ')} to ${high.join(' ')}`],
-            ['size', high.map((x, i) => x - low[i]).join(' × ')], ['counts', `${vertices.size} vertices, ${edges.size} edges, ${faces.length} faces`]];
+    const size = Number(unit[0]) / Number(unit[1]), points3 = [low, high].map(point => point.map(place).join(' '));
+    return [['volume', fraction(...powers(six, 6n, 3)) + SIGNS[3]], ['area', `≈ ${rounded(sum * size * size)} mm²`], ['box', `${points3.join(' to ')} mm`],
+            ['size', `${high.map((x, i) => place(x - low[i])).join(' × ')} mm`],
+            ['counts', `${vertices.size} vertices, ${edges.size} edges, ${faces.length} faces`]];
   }
 
   // The measure of one thing: its length or its area.
   function own(model, {kind, number}) {
     if (kind === 'e') {
       const {along} = shape(model, {kind, number});
-      return [['length', root(dot(along, along))], ['along', along.join(' ')]];
+      return [['length', length(dot(along, along))], ['along', along.join(' ')]];
     }
     return kind === 'f' ? [['area', area(model.faces[number][2])]] : [];
   }
 
-  return {between, ends, own, solid, facesOf};
+  return {between, ends, own, solid, facesOf, plane, place, setUnit};
 })();

@@ -3,7 +3,7 @@
 const View = (() => {
   const {at, element, say} = Panels;
   const PALETTE = [[.45, .65, .86], [.93, .72, .42], [.55, .77, .53], [.83, .56, .62], [.66, .6, .82], [.5, .76, .76], [.8, .75, .5], [.68, .68, .7]];
-  const LIT = [1, .55, .15], CORNER = {turn: Math.atan2(-3, 2), lift: .507};
+  const LIT = [1, .55, .15], MADE = [1, .8, .3], APART = .6, FILM = 6000, SHOT = 800, CORNER = {turn: Math.atan2(-3, 2), lift: .507};
   const degrees = angle => Math.cos(angle * Math.PI / 180) + 1e-6;
   // Which edges are drawn: by the least angle of the faces beside them, as its cosine.
   const EDGES = [{name: 'auto', cosine: null}, {name: 'all', cosine: 2}, {name: 'from 5°', cosine: degrees(5)}, {name: 'from 15°', cosine: degrees(15)},
@@ -12,14 +12,20 @@ const View = (() => {
   const data = JSON.parse(at('data').textContent), over = at('labels'), pen = over.getContext('2d');
   const isCalm = matchMedia('(prefers-reduced-motion: reduce)'), isDark = matchMedia('(prefers-color-scheme: dark)');
   const state = {step: 0, off: new Set(), isHidden: false, isXray: false, isPerspective: false, numbers: 0, edges: 0, cut: null, picked: null,
-                 measured: null, wanted: '', lit: new Set(), pointer: null, copied: '', labels: []};
+                 measured: null, wanted: '', lit: new Set(), made: new Set(), apart: 0, pointer: null, copied: '', labels: []};
   const view = {...CORNER, zoom: 1, right: 0, down: 0, width: 1, height: 1, perspective: false};
   const models = new Map([[0, Picture.changed({}, data.frames[0].change)]]);
+  // The rows of the list of steps: what each is called, and its first and last frame.
+  const rows = [];
+  data.frames.forEach(({row}, i) => {
+    if (!i || row) rows.push({name: row || 'the empty workbench', first: i, last: i}); else rows[rows.length - 1].last = i;
+  });
   const fingers = new Map();
   const fitted = {zoom: 1, is: true, glide: 0};
-  let front = at('solid'), moved = 0, whole = null, screen = null, gl = null, isLost = false, ball = null, spots = null, asked = false, timer = null, held = null;
+  let front = at('solid'), moved = 0, whole = null, screen = null, gl = null, isLost = false;
+  let ball = null, points = [], spots = null, asked = false, timer = null, held = null;
   const drawnEdges = {cosine: 2, room: Infinity};
-  let drawn = '', placed = '', look = null, isCutStale = false;
+  let drawn = '', placed = '', look = null, isCutStale = false, isSceneStale = false;
 
   // The model after a step; one in 32 is kept to start from.
   function modelAt(step) {
@@ -78,9 +84,11 @@ const View = (() => {
 
   // Colours what is drawn anew.
   function recolour() {
-    const lit = litNow(), {scene} = app, {numbers, lefts} = scene.edges, isAny = lit.e.size + lit.s.size > 0;
+    const lit = litNow(), {scene} = app, {numbers, lefts} = scene.edges, {made} = state;
+    for (const key of made) if (key[0] === 'e') lit.e.add(+key.slice(1));
+    const isAny = lit.e.size + lit.s.size > 0;
     look = {cosine: drawnEdges.cosine, css, ink: parts(theme('--edge')),
-            fill: face => lit.f.has(face) || lit.s.has(scene.solidOf(face)) ? LIT : colourOf(face),
+            fill: face => lit.f.has(face) || lit.s.has(scene.solidOf(face)) ? LIT : made.size && made.has('f' + face) ? MADE : colourOf(face),
             isEdgeLit: i => isAny && (lit.e.has(numbers[i]) || lit.s.has(scene.solidOf(lefts[i])))};
     if (gl) gl.dress(look);
     drawn = '';
@@ -116,7 +124,7 @@ const View = (() => {
 
   // The edges that are lit, where edges are drawn too thin to show it.
   function drawLitEdges() {
-    const {scene} = app, shown = penOf().half < 1.2 ? chosen().filter(key => key[0] === 'e' && scene.at.e[key.slice(1)] >= 0) : [];
+    const {scene} = app, shown = penOf().half < 1.2 ? [...chosen(), ...state.made].filter(key => key[0] === 'e' && scene.at.e[key.slice(1)] >= 0) : [];
     const spots = scene.at.v, ends = shown.map(key => app.model.edges[key.slice(1)].map(vertex => screen.spot(spots[vertex])));
     pen.strokeStyle = '#e04000';
     pen.lineWidth = 3;
@@ -139,7 +147,7 @@ const View = (() => {
 
   // The line along which a distance was measured, with a stroke at each end, and its length.
   function drawMeasured() {
-    const things = state.measured || [], ends = things.length === 2 ? Measure.ends(app.model, ...things) : null;
+    const things = state.measured || [], ends = things.length === 2 && !state.apart ? Measure.ends(app.model, ...things) : null;
     state.line = ends && ends.map(app.place);
     if (!ends) return 0;
     const [[ax, ay], [bx, by]] = state.line, long = Math.hypot(bx - ax, by - ay) || 1, [x, y] = [6 * (ay - by) / long, 6 * (bx - ax) / long];
@@ -249,6 +257,7 @@ const View = (() => {
 
   function draw(time) {
     asked = false;
+    if (isSceneStale) show();
     if (isCutStale) recut();
     if (pace.timer) restLater();
     if (time && pace.timer) keepPace(time);
@@ -331,7 +340,8 @@ const View = (() => {
   function show() {
     app.model = modelAt(state.step);
     app.solids = [...new Set(Object.values(app.model.faces).map(row => row[0]))].sort((a, b) => a - b);
-    whole = Picture.sceneOf(app.model, ball, state.off);
+    isSceneStale = false;
+    whole = Picture.sceneOf(app.model, ball, state.off, shifts());
     if (state.picked && !isThere(state.picked)) state.picked = null;
     if (state.measured) state.measured = state.measured.filter(isThere);
     state.lit = Picture.wantedIn(state.wanted, app.model);
@@ -340,6 +350,28 @@ const View = (() => {
     Panels.showList(app);
     Panels.showInfo(app);
     ask();
+  }
+
+  // How far each solid is moved from the middle of all, in the unit ball: as far as it lies from it, times the place of the slider; null where none is.
+  function shifts() {
+    if (!state.apart || app.solids.length < 2) return null;
+    const held = new Map();
+    for (const [solid, loops] of Object.values(app.model.faces)) {
+      if (!held.has(solid)) held.set(solid, []);
+      for (const [, halves] of loops) for (const half of halves) held.get(solid).push(app.model.vertices[app.model.edges[Math.abs(half)][0]]);
+    }
+    return new Map([...held].map(([solid, all]) => [solid, Picture.inBall(Picture.bounds(all).middle, ball).map(x => x * state.apart)]));
+  }
+
+  // Moves solids apart: the ball grows with them, so that all of it stays in sight.
+  function moveApart(by) {
+    state.apart = by;
+    at('apart').value = by;
+    ball = {...Picture.bounds(points)};
+    ball.radius *= 1 + by;
+    spots = Float64Array.from(points.flatMap(point => Picture.inBall(point, ball)).map(x => x * (1 + by)));
+    isSceneStale = true;
+    refit();
   }
 
   // The scene as it is cut.
@@ -465,11 +497,32 @@ const View = (() => {
   }
 
   // --- steps
+  const rowNow = () => rows.findIndex(({last}) => state.step <= last);
+
+  // The last frame of the row that is so many rows away; of the row itself where that isn't reached yet.
+  function rowFrom(way) {
+    const here = rowNow(), to = way > 0 && state.step < rows[here].last ? here : here + way;
+    return rows[Math.max(0, Math.min(rows.length - 1, to))].last;
+  }
+
+  // What the row of a step has made until then: its new faces, or else edges, or what it changed.
+  function madeNow() {
+    const row = rows[rowNow()], changes = data.frames.slice(row.first, state.step + 1).map(frame => frame.change);
+    if (!data.steps || !state.step) return new Set();
+    const before = modelAt(row.first - 1), {model} = app;
+    const touched = kind => [...new Set(changes.flatMap(change => Object.keys(change[kind] || {})))].filter(number => model[kind][number]);
+    const fresh = kind => touched(kind).filter(number => !before[kind][number]);
+    const faces = fresh('faces'), edges = faces.length ? [] : fresh('edges');
+    return new Set([...(faces.length || edges.length ? faces : touched('faces')).map(number => 'f' + number), ...edges.map(number => 'e' + number)]);
+  }
+
   function go(step) {
     state.step = Math.max(0, Math.min(data.frames.length - 1, step));
+    app.model = modelAt(state.step);
+    state.made = madeNow();
     Panels.showStep(app);
     show();
-    if (data.steps) say(`step ${state.step} of ${data.frames.length - 1}: ${data.frames[state.step].line || 'the empty workbench'}`);
+    if (data.steps) say(`step ${rowNow()} of ${rows.length - 1}: ${rows[rowNow()].name}`);
   }
 
   function play() {
@@ -478,7 +531,7 @@ const View = (() => {
       timer = null;
     } else {
       if (state.step === data.frames.length - 1) go(0);
-      timer = setInterval(() => { if (state.step < data.frames.length - 1) go(state.step + 1); else play(); }, 700);
+      timer = setInterval(() => { if (state.step < data.frames.length - 1) go(rowFrom(1)); else play(); }, 700);
     }
     at('play').textContent = timer ? 'stop' : 'play';
   }
@@ -488,7 +541,8 @@ const View = (() => {
   function fitFrom(looking) {
     const isNarrow = view.width <= 760, list = isNarrow ? 0 : Math.max(...['list', 'steps'].map(name => at(name).hidden ? 0 : at(name).offsetWidth + 14));
     const top = document.querySelector('header').offsetHeight + 8, cut = at('cut').offsetHeight;
-    const bottom = document.querySelector('footer').offsetHeight + 12 + (cut ? cut + 30 : 0);
+    const info = isNarrow && view.height > 420 ? at('info').offsetHeight : 0;
+    const bottom = document.querySelector('footer').offsetHeight + 12 + (cut ? cut + 30 : 0) + info;
     const [wide, high] = Picture.extent(spots, {...view, ...looking});
     const zoom = .5 * Math.max(20, Math.min((view.width - list - 60) / wide, (view.height - top - bottom - 50) / high));
     return {...looking, zoom, right: list / 2, down: (top - bottom) / 2};
@@ -606,13 +660,15 @@ const View = (() => {
   }
 
   // --- the keys
-  const STEPS = {ArrowLeft: () => go(state.step - 1), ArrowRight: () => go(state.step + 1)};
+  const STEPS = {ArrowLeft: () => go(rowFrom(-1)), ArrowRight: () => go(rowFrom(1))};
   const TURNS = {ArrowLeft: [.1, 0], ArrowRight: [-.1, 0], ArrowUp: [0, -.1], ArrowDown: [0, .1]};
   const middle = factor => () => zoomBy(factor, view.width / 2 + view.right, view.height / 2 + view.down);
   const KEYS = {
     f: fit, h: () => { state.isHidden = !state.isHidden; }, n: () => { state.numbers = (state.numbers + 1) % 3; },
     x: () => { state.isXray = !state.isXray; }, p: () => { state.isPerspective = view.perspective = !view.perspective; },
-    e: () => { state.edges = (state.edges + 1) % EDGES.length; chooseEdges(); recolour(); }, c: toggleCut, m: toggleMeasure, i: () => picture(), l: () => at('list-button').click(),
+    e: () => { state.edges = (state.edges + 1) % EDGES.length; chooseEdges(); recolour(); }, c: toggleCut, m: toggleMeasure,
+    i: () => picture(), v: () => film(), k: () => copyLink(), a: () => moveApart(state.apart ? 0 : APART), d: () => hidePicked(),
+    l: () => at('list-button').click(),
     '0': () => aim(CORNER), '1': () => aim({turn: -Math.PI / 2, lift: Math.PI / 2}), '2': () => aim({turn: -Math.PI / 2, lift: 0}), '3': () => aim({turn: 0, lift: 0}),
     '+': middle(1.2), '-': middle(1 / 1.2), ',': STEPS.ArrowLeft, '.': STEPS.ArrowRight, ' ': () => data.steps && play(),
     '/': () => at('wanted').focus(), '?': () => { at('help').hidden = !at('help').hidden; },
@@ -654,29 +710,57 @@ const View = (() => {
     if (found) choose(found); else say(`there is no ${state.wanted || 'number'} in the model`);
   }
 
-  // --- a picture of what is shown, as a file
-  function picture() {
+  // --- a picture of what is shown, or a film, as a file
+  function save(blob, ending) {
+    const link = element('a', '', document.body, {href: URL.createObjectURL(blob), download: `${document.title}.${ending}`});
+    link.click();
+    link.remove();
+    setTimeout(() => URL.revokeObjectURL(link.href), 10000);
+    say(`saved ${document.title}.${ending}`);
+  }
+
+  // What is shown, on a canvas.
+  function drawOn(canvas) {
     drawn = '';
     draw();
-    const canvas = Object.assign(document.createElement('canvas'), {width: front.width, height: front.height}), flat = canvas.getContext('2d');
+    const flat = canvas.getContext('2d');
     const ground = flat.createLinearGradient(0, 0, 0, canvas.height);
     ground.addColorStop(0, theme('--sky'));
     ground.addColorStop(1, theme('--ground'));
     flat.fillStyle = ground;
     flat.fillRect(0, 0, canvas.width, canvas.height);
     for (const layer of [front, over]) flat.drawImage(layer, 0, 0, canvas.width, canvas.height);
-    canvas.toBlob(blob => {
-      const link = element('a', '', document.body, {href: URL.createObjectURL(blob), download: `${document.title}.png`});
-      link.click();
-      link.remove();
-      setTimeout(() => URL.revokeObjectURL(link.href), 10000);
-      say(`saved ${document.title}.png`);
+  }
+
+  const ofFront = () => Object.assign(document.createElement('canvas'), {width: front.width, height: front.height});
+
+  function picture() {
+    const canvas = ofFront();
+    drawOn(canvas);
+    canvas.toBlob(blob => save(blob, 'png'));
+  }
+
+  // A turn of the model, during which each step is shown with what it made.
+  function film() {
+    const canvas = ofFront(), turn = view.turn, shots = data.steps ? rows.slice(1).map(row => row.last) : [state.step], pieces = [];
+    if (!canvas.captureStream || !window.MediaRecorder) return say('this browser records no film');
+    const recorder = new MediaRecorder(canvas.captureStream(25)), long = Math.max(FILM, (shots.length + 2) * SHOT), begun = performance.now();
+    recorder.ondataavailable = ({data: piece}) => pieces.push(piece);
+    recorder.onstop = () => save(new Blob(pieces, {type: recorder.mimeType}), recorder.mimeType.includes('mp4') ? 'mp4' : 'webm');
+    recorder.start();
+    say('recording a film');
+    requestAnimationFrame(function frame(now) {
+      const since = Math.max(0, now - begun), shot = shots[Math.min(shots.length - 1, Math.floor(since / SHOT))];
+      view.turn = turn + 2 * Math.PI * Math.min(1, since / long);
+      if (shot !== state.step) go(shot);
+      drawOn(canvas);
+      if (since < long) requestAnimationFrame(frame); else recorder.stop();
     });
   }
 
   // --- the address: words after # in it. What isn't understood is said.
   const ANGLES = ['turn', 'lift'], FLAGS = {hidden: 'isHidden', xray: 'isXray', perspective: 'isPerspective'};
-  const CHOICES = {numbers: ['near', 'all', 'none'], edges: ['auto', 'all', '5', '15', '30', 'none']}, OTHERS = ['lit', 'step', 'flat', 'section'];
+  const CHOICES = {numbers: ['near', 'all', 'none'], edges: ['auto', 'all', '5', '15', '30', 'none']}, OTHERS = ['lit', 'step', 'flat', 'section', 'side', 'apart', 'off', 'zoom', 'pan', 'bare'];
 
   function readAddress() {
     const words = new URLSearchParams(location.hash.slice(1)), wrong = [], last = data.frames.length - 1;
@@ -694,33 +778,70 @@ const View = (() => {
     }
     const step = number('step', value => Number.isInteger(value) && value >= 0 && value <= last);
     for (const name of words.keys()) if (![...ANGLES, ...Object.keys(FLAGS), ...Object.keys(CHOICES), ...OTHERS].includes(name)) wrong.push(name);
-    refit();
+    document.body.classList.toggle('bare', words.has('bare'));
+    state.cut = state.picked = state.measured = null;
+    at('cut').hidden = fitted.is = isCutStale = true;
+    state.off = new Set((words.get('off') || '').split(',').filter(Boolean).map(Number));
+    moveApart(number('apart', value => value >= 0 && value <= 2) ?? 0);
     go(step ?? last);
     light(words.get('lit') || '');
-    if (words.has('section')) cutByAddress(words.get('section'), wrong);
+    if (words.has('section')) cutByAddress(words, wrong);
+    const zoom = number('zoom', value => value > 0), pan = (words.get('pan') || '').split(',').map(Number);
+    if (zoom) [view.zoom, view.right, view.down, fitted.is] = [view.zoom * zoom, (pan[0] || 0) * view.width, (pan[1] || 0) * view.height, false];
     Panels.showTools(app);
     if (wrong.length) say(`in the address, ${wrong.join(' and ')} isn't understood${words.has('step') && step === null ? `: steps are 0 to ${last}` : ''}`);
   }
 
   // A cut that the address asks for: an axis, and perhaps a place on it.
-  function cutByAddress(text, wrong) {
-    const [, axis, place] = /^([xyz])(-?\d+(?:\.\d+)?)?$/.exec(text) || [];
-    if (!axis) return wrong.push(`section=${text}`);
+  function cutByAddress(words, wrong) {
+    const text = words.get('section'), [, axis, face, place] = /^(?:([xyz])|f(\d+),)(-?\d+(?:\.\d+)?)?$/.exec(text) || [];
+    if (!axis && !(app.model.faces[face] || [])[3]) return wrong.push(`section=${text}`);
     at('cut').hidden = false;
-    cutAlong('xyz'.indexOf(axis));
+    cutAlong(axis ? 'xyz'.indexOf(axis) : 'f', face ? +face : null);
+    if (words.has('side')) state.cut.isTurned = words.get('side') === 'above';
     if (place) cutAt(+place);
     refit();
   }
 
-  const app = {cutHandle, data, state, view, EDGES, css, colourOf, choose, unpick, turnOff, isolate, go, play, refit, aim, ask, draw, light,
+  // The words of an address that shows what is seen now.
+  function addressWords() {
+    const words = [`turn=${+view.turn.toFixed(3)}`, `lift=${+view.lift.toFixed(3)}`], {cut} = state, lit = state.wanted || chosen().join();
+    for (const [name, flag] of Object.entries(FLAGS)) if (state[flag]) words.push(name);
+    for (const [name, choices] of Object.entries(CHOICES)) if (state[name]) words.push(`${name}=${choices[state[name]]}`);
+    if (!fitted.is) words.push(`zoom=${+(view.zoom / fitted.zoom).toFixed(3)}`, `pan=${[view.right / view.width, view.down / view.height].map(x => +x.toFixed(3)).join()}`);
+    if (cut) words.push(`section=${cut.axis === 'f' ? `f${cut.face},` : 'xyz'[cut.axis]}${+cut.place.toFixed(6)}`, `side=${cut.isTurned ? 'above' : 'below'}`);
+    if (state.apart) words.push(`apart=${state.apart}`);
+    if (state.off.size) words.push(`off=${[...state.off].join()}`);
+    if (lit) words.push(`lit=${lit.replace(/\s+/g, ',')}`);
+    if (data.steps) words.push(`step=${state.step}`);
+    return words.join('&');
+  }
+
+  // Copies the address of what is seen. A page within another one has none of its own: there the words alone.
+  function copyLink() {
+    const words = '#' + addressWords();
+    Panels.copy(app, (/^(file|https?):/.test(location.protocol) ? location.href.split('#')[0] : '') + words);
+  }
+
+  // Hides the solid of what is picked.
+  function hidePicked() {
+    const solid = state.picked && Panels.solidOf(app, state.picked) || state.picked && state.picked.number;
+    if (!solid) return say('pick what is to be hidden first');
+    state.picked = null;
+    turnOff([solid], true);
+    say(`solid ${solid} hidden; the list of solids shows it again`);
+  }
+
+  const app = {cutHandle, data, rows, rowNow, rowFrom, hidePicked, moveApart, addressWords, state, view, EDGES, css, colourOf, choose, unpick, turnOff, isolate, go, play, refit, aim, ask, draw, light,
                model: models.get(0), scene: null, solids: [], listed: null,
                place: point => [...Picture.placed(Picture.inBall(point, ball), Picture.axes(view), Picture.middleOf(view))]};
 
   function start() {
     gl = new URLSearchParams(location.hash.slice(1)).has('flat') ? null : Painter.on(front);
-    const points = new Map(data.frames.flatMap(frame => Object.values(frame.change.vertices || {})).filter(Boolean).map(point => [point.join(), point]));
-    ball = Picture.bounds(points.values());
-    spots = Float64Array.from([...points.values()].flatMap(point => Picture.inBall(point, ball)));
+    points = [...new Map(data.frames.flatMap(frame => Object.values(frame.change.vertices || {})).filter(Boolean).map(point => [point.join(), point])).values()];
+    ball = Picture.bounds(points);
+    spots = Float64Array.from(points.flatMap(point => Picture.inBall(point, ball)));
+    Measure.setUnit(data.unit || [1, 1]);
     if (data.steps) Panels.startSteps(app);
     Panels.startList(app);
     Panels.startInfo(app);
@@ -731,6 +852,7 @@ const View = (() => {
     watchContext();
     onkeydown = onKey;
     at('wanted').oninput = event => light(event.target.value);
+    at('apart').oninput = event => moveApart(+event.target.value);
     show();
     const isWide = innerWidth > 760 && innerHeight > 420;
     if (data.steps) Panels.fold(app, 'steps', isWide);

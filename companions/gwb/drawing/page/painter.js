@@ -10,6 +10,11 @@ vec4 shown(vec3 spot, float nearer) { return vec4(2. * spot.xy / size.xy, -.7 * 
   const FILL = `attribute vec3 point, normal; attribute vec4 colour; ${PLACE}void main() {
 ink = vec4(colour.rgb * (.58 + .24 * max(0., dot(normal, stand)) + .3 * max(0., dot(normal, light))), colour.a);
 gl_Position = shown(spot(point), 0.); }`;
+  // The shadow that the model throws on the ground, which lies as deep as its lowest point, by a light that stands a little beside the zenith.
+  const SHADOW = `attribute vec3 point; uniform vec3 ground; ${PLACE}void main() { ink = vec4(0, 0, 0, 1);
+gl_Position = shown(spot(vec3(point.xy + ground.yz * (point.z - ground.x), ground.x)), 0.); gl_Position.z = 0.; }`;
+  // Shadows of so many lights are laid over each other, if all have so few triangles; in so great haste there are none.
+  const LIGHTS = 8, MOST_SHADED = 40000, DARK = .3, IN_HASTE = 3;
   // An edge is drawn where a face beside it looks to the viewer; a face without a normal does always.
   const SIDES = `attribute vec3 left, beside; attribute vec4 colour; uniform float all; ${PLACE}
 float facing(vec3 normal, vec3 point) { return dot(normal, stand) - inverse * dot(normal, point); }
@@ -18,7 +23,7 @@ bool seen(vec3 point) { return all > 0. || max(facing(left, point), facing(besid
   // An edge has four corners; the colour's last part is its width.
   const LINE = `attribute vec3 point, end; attribute vec2 corner; ${SIDES}void main() { ink = colour;
 vec3 a = spot(point), b = spot(end); vec2 along = b.xy - a.xy; float far = length(along); along = far > 0. ? along / far : vec2(1, 0);
-vec3 at = mix(a, b, corner.x); float wide = halfWidth * colour.a * 2.;
+vec3 at = mix(a, b, corner.x); float wide = halfWidth * colour.a * 2. * (colour.a > .9 ? 1. : clamp(far / 9., .3, 1.));
 at.xy += vec2(-along.y, along.x) * corner.y * wide + along * (corner.x * 2. - 1.) * halfWidth * .5;
 gl_Position = seen(point) ? shown(at, 1.5) : vec4(2, 2, 2, 1); }`;
   const THIN = `attribute vec3 point; ${SIDES}void main() { ink = colour; gl_Position = seen(point) ? shown(spot(point), 1.5) : vec4(2, 2, 2, 1); }`;
@@ -26,7 +31,7 @@ gl_Position = seen(point) ? shown(at, 1.5) : vec4(2, 2, 2, 1); }`;
   const INK = `precision mediump float; varying vec4 ink; uniform float alpha, hatch;
 void main() { float dark = ink.a < .1 && mod(gl_FragCoord.x + gl_FragCoord.y, hatch * 7.) < hatch * 1.4 ? .72 : 1.; gl_FragColor = vec4(ink.rgb * dark, alpha); }`;
   const CORNERS = [[0, -1], [1, -1], [0, 1], [1, 1]], QUAD = [0, 1, 2, 2, 1, 3];
-  const UNIFORMS = ['right', 'up', 'stand', 'light', 'size', 'middle', 'inverse', 'halfWidth', 'alpha', 'hatch', 'all'];
+  const UNIFORMS = ['right', 'up', 'stand', 'light', 'size', 'middle', 'inverse', 'halfWidth', 'alpha', 'hatch', 'all', 'ground'];
 
   // Four bytes as one number, in the order that the machine has.
   const packed = rgba => new Uint32Array(Uint8Array.from(rgba).buffer)[0];
@@ -97,11 +102,11 @@ void main() { float dark = ink.a < .1 && mod(gl_FragCoord.x + gl_FragCoord.y, ha
 
   // A painter on a canvas, or null where there is no WebGL with long indices.
   function on(canvas) {
-    const gl = canvas.getContext('webgl', {antialias: false});
+    const gl = canvas.getContext('webgl', {antialias: false, stencil: true});
     if (!gl || gl.isContextLost() || !gl.getExtension('OES_element_index_uint')) return null;
-    const fill = program(gl, FILL), line = program(gl, LINE), thin = program(gl, THIN);
+    const fill = program(gl, FILL), line = program(gl, LINE), thin = program(gl, THIN), shadow = program(gl, SHADOW);
     const [corners, cornerColours, lines, lineSides, lineColours, faceIndex, lineIndex] = Array.from({length: 7}, () => gl.createBuffer());
-    let scene = null, held = null, isThin = false, edgeCount = 0;
+    let scene = null, held = null, isThin = false, edgeCount = 0, low = 0;
 
     function put(kind, buffer, numbers) {
       gl.bindBuffer(kind, buffer);
@@ -113,6 +118,8 @@ void main() { float dark = ink.a < .1 && mod(gl_FragCoord.x + gl_FragCoord.y, ha
       scene = next;
       isThin = scene.edges.numbers.length > THIN_EDGES;
       held = cornersOf(scene);
+      low = Infinity;
+      for (let i = 2; i < held.numbers.length; i += 6) low = Math.min(low, held.numbers[i]);
       put(gl.ARRAY_BUFFER, corners, held.numbers);
       put(gl.ELEMENT_ARRAY_BUFFER, faceIndex, held.indices);
       put(gl.ARRAY_BUFFER, lines, linesOf(scene, isThin));
@@ -170,6 +177,27 @@ void main() { float dark = ink.a < .1 && mod(gl_FragCoord.x + gl_FragCoord.y, ha
       gl.uniform1f(at.hatch, canvas.width / view.width);
     }
 
+    // Each shadow darkens a place once, however many triangles throw it.
+    function drawShadow(view, screen) {
+      use(shadow, view, screen, 0);
+      attribute(shadow, 'point', corners, 3, gl.FLOAT, 24, 0);
+      gl.disable(gl.DEPTH_TEST);
+      gl.disable(gl.CULL_FACE);
+      gl.enable(gl.BLEND);
+      gl.enable(gl.STENCIL_TEST);
+      gl.stencilOp(gl.KEEP, gl.KEEP, gl.REPLACE);
+      gl.bindBuffer(gl.ELEMENT_ARRAY_BUFFER, faceIndex);
+      gl.uniform1f(shadow.at.alpha, DARK / LIGHTS);
+      for (let i = 0; i < LIGHTS; i++) {
+        const [way, far] = [i * 2 * Math.PI / LIGHTS, i % 2 ? .1 : .2];
+        gl.uniform3f(shadow.at.ground, low, .12 + far * Math.cos(way), .12 + far * Math.sin(way));
+        gl.stencilFunc(gl.NOTEQUAL, i + 1, 255);
+        gl.drawElements(gl.TRIANGLES, held.indices.length, gl.UNSIGNED_INT, 0);
+      }
+      gl.disable(gl.STENCIL_TEST);
+      gl.enable(gl.DEPTH_TEST);
+    }
+
     function drawFaces(view, screen, isXray) {
       use(fill, view, screen, 1);
       attribute(fill, 'point', corners, 3, gl.FLOAT, 24, 0);
@@ -220,10 +248,11 @@ void main() { float dark = ink.a < .1 && mod(gl_FragCoord.x + gl_FragCoord.y, ha
       gl.viewport(0, 0, canvas.width, canvas.height);
       gl.clearColor(0, 0, 0, 0);
       gl.depthMask(true);
-      gl.clear(gl.COLOR_BUFFER_BIT | gl.DEPTH_BUFFER_BIT);
+      gl.clear(gl.COLOR_BUFFER_BIT | gl.DEPTH_BUFFER_BIT | gl.STENCIL_BUFFER_BIT);
       gl.enable(gl.DEPTH_TEST);
       gl.depthFunc(gl.LEQUAL);
       gl.blendFuncSeparate(gl.SRC_ALPHA, gl.ONE_MINUS_SRC_ALPHA, gl.ONE, gl.ONE_MINUS_SRC_ALPHA);
+      if (!isXray && haste < IN_HASTE && screen.basis.stand[2] > .05 && LIGHTS * held.indices.length <= 3 * MOST_SHADED) drawShadow(view, screen);
       drawFaces(view, screen, isXray);
       if (haste < 4 || !isThin) drawEdges(view, screen, pen, isHidden, isXray);
     }

@@ -48,6 +48,7 @@ const Panels = (() => {
   function showList(app) {
     const {solids, state} = app, key = solids.join();
     at('list-button').textContent = `solids (${solids.length})`;
+    at('apart-row').hidden = document.querySelector('[data-key=a]').hidden = solids.length < 2;
     if (app.listed !== key) {
       app.listed = key;
       at('solids').replaceChildren();
@@ -125,20 +126,23 @@ const Panels = (() => {
   const title = (app, {kind, number}) => `${KINDS[kind]} ${number}${nameOf(app, kind + number)}`;
   const measured = rows => rows.map(([name, value]) => ['', name ? `${name} ${value}` : value]);
 
-  // Lines about a thing: a word to copy or nothing, and a text.
+  // A point in coordinates of scripts, where these are no millimetres.
+  const lattice = (app, point) => app.data.unit ? [[point.join(' '), `in scripts ${point.join(' ')}`, 'copy']] : [];
+
+  // Lines about a thing: a word to copy or nothing, a text, and what is on the button if it isn't the word.
   function about(app, {kind, number}) {
     const {model, scene} = app;
     if (kind === 's') return measured(Measure.solid(model, number));
-    if (kind === 'v') return [[String(number), `vertex of solid ${solidOfVertex(app, number)} at ${model.vertices[number].join(' ')}`]];
+    if (kind === 'v') return [[String(number), `vertex of solid ${solidOfVertex(app, number)} at ${model.vertices[number].map(Measure.place).join(' ')} mm`], ...lattice(app, model.vertices[number])];
     if (kind === 'e') {
-      const [a, b] = model.edges[number].map(v => model.vertices[v].join(' '));
-      return [sideOf(app, number), sideOf(app, -number), ['', `edge ${number} of solid ${scene.sides.of(number).solid}, from ${a} to ${b}`],
+      const [a, b] = model.edges[number].map(v => model.vertices[v].map(Measure.place).join(' '));
+      return [sideOf(app, number), sideOf(app, -number), ['', `edge ${number} of solid ${scene.sides.of(number).solid}, from ${a} to ${b} mm`],
               ...measured(Measure.own(model, {kind, number}))];
     }
     const [solid, loops, plane, isFlat] = model.faces[number];
     const rows = loops.map(([loop, halves, vertex], i) => [vertex ? '@' + loop : '', `${i ? 'ring' : 'outer loop'} ${loop}: `
       + (vertex ? `vertex ${vertex}` : halves.map(h => (h > 0 ? '+' : '') + h).join(' '))]);
-    return [[String(number), `face of solid ${solid}${nameOf(app, 's' + solid)}`], ['', `plane ${plane.join(' ')}${isFlat ? '' : ', bent'}`],
+    return [[String(number), `face of solid ${solid}${nameOf(app, 's' + solid)}`], [plane.join(' '), `plane ${Measure.plane(plane)}${isFlat ? '' : ', bent'}`, 'copy'],
             ...(isFlat ? measured(Measure.own(model, {kind, number})) : []), ...rows];
   }
 
@@ -155,22 +159,27 @@ const Panels = (() => {
 
   function showInfo(app) {
     const {picked, measured: things} = app.state, panel = at('info'), hadFocus = panel.contains(document.activeElement);
+    const wasHidden = panel.hidden;
     panel.hidden = !picked && !things;
     at('facts').replaceChildren();
     at('facts').scrollTop = 0;
+    if (panel.hidden && !wasHidden) app.refit();
     if (panel.hidden) return hadFocus && at('labels').focus();
     at('what').textContent = things ? 'measure' : title(app, picked);
-    for (const [word, text] of things ? aboutMeasured(app) : about(app, picked)) {
+    for (const [word, text, label = word] of things ? aboutMeasured(app) : about(app, picked)) {
       const row = element('div', '', at('facts'));
-      if (word) element('button', word, row, {title: 'copy', onclick: () => copy(app, word)});
+      if (word) element('button', label, row, {title: 'copy', onclick: () => copy(app, word)}, {'aria-label': `copy ${word}`});
       row.append(text);
     }
     const solid = things ? null : solidOf(app, picked);
     Object.assign(at('info-solid'), {hidden: !solid, textContent: `solid ${solid}`, onclick: () => app.choose({kind: 's', number: solid})});
+    at('info-hide').hidden = Boolean(things);
+    app.refit();
   }
 
   function startInfo(app) {
     at('info-close').onclick = () => app.unpick();
+    at('info-hide').onclick = () => app.hidePicked();
     at('info-fold').onclick = () => {
       at('facts').hidden = !at('facts').hidden;
       at('info-fold').textContent = at('facts').hidden ? 'unfold' : 'fold';
@@ -182,17 +191,14 @@ const Panels = (() => {
   function startSteps(app) {
     const {frames} = app.data;
     at('player').hidden = at('steps-button').hidden = false;
-    at('slider').max = frames.length - 1;
-    at('slider').oninput = event => app.go(+event.target.value);
-    at('back').onclick = () => app.go(app.state.step - 1);
-    at('forth').onclick = () => app.go(app.state.step + 1);
+    at('slider').max = app.rows.length - 1;
+    at('slider').oninput = event => app.go(app.rows[+event.target.value].last);
+    at('back').onclick = () => app.go(app.rowFrom(-1));
+    at('forth').onclick = () => app.go(app.rowFrom(1));
     at('play').onclick = () => app.play();
-    frames.forEach((frame, i) => {
-      const row = element('div', frame.line ? frame.line + '\n' : 'the empty workbench', at('steps'), {id: `step-${i}`, onclick: () => app.go(i)}, {role: 'option'});
-      if (frame.line) element('small', frame.reply, row, {className: frame.bad ? 'bad' : ''});
-    });
+    app.rows.forEach((row, i) => stepRow(app, row, i));
     at('steps').addEventListener('keydown', event => {
-      const step = {ArrowDown: app.state.step + 1, ArrowUp: app.state.step - 1, Home: 0, End: frames.length - 1}[event.key];
+      const step = {ArrowDown: app.rowFrom(1), ArrowUp: app.rowFrom(-1), Home: 0, End: frames.length - 1}[event.key];
       if (step === undefined) return;
       event.preventDefault();
       event.stopPropagation();
@@ -200,11 +206,37 @@ const Panels = (() => {
     });
   }
 
+  // What was replied to a command: a refusal in words; that it was accepted is the rule, and isn't said.
+  function replyRow(frame, parent) {
+    if (frame.line && frame.reply !== 'ok') element('small', '\n' + frame.reply, parent, {className: frame.bad ? 'bad' : ''});
+  }
+
+  // A row of the list of steps. Of several commands they are within it, made when they are first unfolded.
+  function stepRow(app, {name, first, last}, place) {
+    const row = element('div', name, at('steps'), {id: `step-${place}`, onclick: () => app.go(last)}, {role: 'option'}), {frames} = app.data;
+    if (first === last) return replyRow(frames[first], row);
+    const bad = frames.slice(first, last + 1).find(frame => frame.bad), inner = element('div', '', row, {hidden: true});
+    const named = {'aria-expanded': false, 'aria-label': `the commands of ${name}`};
+    const fold = element('button', `${last - first + 1}`, row, {title: 'the commands', tabIndex: -1}, named);
+    if (bad) replyRow(bad, row);
+    row.prepend(fold);
+    row.append(inner);
+    fold.onclick = event => {
+      event.stopPropagation();
+      if (!inner.firstChild) frames.slice(first, last + 1).forEach((frame, i) => {
+        const line = element('p', frame.line, inner, {onclick: it => { it.stopPropagation(); app.go(first + i); }});
+        replyRow(frame, line);
+      });
+      inner.hidden = !inner.hidden;
+      fold.setAttribute('aria-expanded', !inner.hidden);
+    };
+  }
+
   // Marks the row of the step that is shown; the rows after it are pale.
-  function showStep({state}) {
-    const rows = at('steps').children, now = rows[state.step];
-    at('slider').value = state.step;
-    [...rows].forEach((row, i) => { row.className = i === state.step ? 'now' : i > state.step ? 'past' : ''; row.setAttribute('aria-selected', i === state.step); });
+  function showStep({rowNow}) {
+    const rows = at('steps').children, place = rowNow(), now = rows[place];
+    at('slider').value = place;
+    [...rows].forEach((row, i) => { row.className = i === place ? 'now' : i > place ? 'past' : ''; row.setAttribute('aria-selected', i === place); });
     if (!now) return;
     at('steps').setAttribute('aria-activedescendant', now.id);
     now.scrollIntoView({block: 'nearest'});
@@ -217,6 +249,7 @@ const Panels = (() => {
     set('x', 'aria-pressed', state.isXray);
     set('p', 'aria-pressed', state.isPerspective);
     set('m', 'aria-pressed', Boolean(state.measured));
+    set('a', 'aria-pressed', state.apart > 0);
     set('c', 'aria-expanded', Boolean(state.cut));
     set('?', 'aria-expanded', !at('help').hidden);
     document.querySelector('[data-key=n] span').textContent = `numbers: ${['near', 'all', 'none'][state.numbers]}`;
@@ -269,5 +302,5 @@ const Panels = (() => {
     });
   }
 
-  return {at, element, say, copy, title, fold, showList, startList, showInfo, startInfo, startSteps, showStep, showTools, startTools, startTriad, showTriad};
+  return {at, element, say, copy, title, solidOf, fold, showList, startList, showInfo, startInfo, startSteps, showStep, showTools, startTools, startTriad, showTriad};
 })();

@@ -67,19 +67,30 @@ const Picture = (() => {
 
   // A model with the solids switched off left out, brought to the unit ball. Spots are three numbers each: first the vertices',
   // then the middles of the faces' largest triangles, then the middles of the edges; `things` are the numbers of what they stand for.
-  function sceneOf(model, ball, off) {
+  // Solids are moved by shifts, where there are some.
+  function sceneOf(model, ball, off, shifts = null) {
     const faces = Object.entries(model.faces).filter(([, row]) => !off.has(row[0])).map(([number, row]) => [+number, row]);
     const scene = {at: {v: {}, f: {}, e: {}}, spots: [], things: [], sides: sidesOf(faces), greatest: 0, model, gone: null, areNone: []};
     scene.greatest = faces.reduce((most, [number]) => Math.max(most, number), 0);
     scene.solidOf = face => face < 0 ? -face : model.faces[face][0];
     const edges = Object.entries(model.edges).filter(([number]) => scene.sides.plus[number]).map(([number, ends]) => [+number, ends]);
-    for (const number of verticesOf(faces, edges)) put(scene, 'v', number, inBall(model.vertices[number], ball));
+    const shift = shifts && shiftsOf(scene, edges, shifts);
+    for (const number of verticesOf(faces, edges)) put(scene, 'v', number, moved(inBall(model.vertices[number], ball), shift && shift[number]));
     scene.firstFace = scene.things.length;
     scene.triangles = cutFaces(scene, faces);
     scene.firstEdge = scene.things.length;
     scene.edges = edgeRows(scene, edges);
     scene.spots = new Float64Array(scene.spots);
     return scene;
+  }
+
+  const moved = (point, shift) => shift ? point.map((x, i) => x + shift[i]) : point;
+
+  // The shift of each vertex, which is that of its solid.
+  function shiftsOf({sides}, edges, shifts) {
+    const found = [];
+    for (const [number, ends] of edges) for (const end of ends) found[end] = shifts.get(sides.plus[number].solid);
+    return found;
   }
 
   function put(scene, kind, number, p) {
