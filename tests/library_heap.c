@@ -1,7 +1,8 @@
 /* Heaps of a session's own (gwb_use_heap, gwb_open_in): a pool for each of two sessions. All blocks of a session lie in its pool and are
  * given back to it, also by calls that come while another heap is used, or from another thread; where a pool is full, memory is refused and
- * the session goes on. The last line is 'N passed, M failed'. */
+ * the session goes on, and a part is told its first false condition before. The last line is 'N passed, M failed'. */
 #include "gwb.h"
+#include "gwb_names.h"
 #include <pthread.h>
 #include <stdio.h>
 #include <stdlib.h>
@@ -118,11 +119,60 @@ static void try_full(void)
     check(is_well, "a pool that is full refuses, and the session goes on");
 }
 
+/* A new solid of 66 faces: a prism over 64 points of a parabola. */
+static bool has_prism(gwb *g, uint32_t solid, int64_t x)
+{
+    gwb_point points[64];
+    uint32_t front = 0, back = 0;
+    for (int64_t i = 0; i < 64; i++)
+        points[i] = (gwb_point){x + i, i * i, 0};
+    return gwb_lamina(g, solid, points, 64) == GWB_OK && gwb_last_lamina(g, &front, &back) == GWB_FOUND && gwb_sweep(g, front, 0, 0, 5) == GWB_OK;
+}
+
+/* Parts off the faces from 1 to n while the pool is full. */
+static enum gwb_kind part_without(gwb *g, struct pool *pool, uint32_t n, uint32_t solid)
+{
+    uint32_t faces[4000];
+    for (uint32_t i = 0; i < n; i++)
+        faces[i] = i + 1;
+    pool->most = 0;
+    enum gwb_kind kind = gwb_part(g, faces, n, solid);
+    pool->most = 1000000;
+    return kind;
+}
+
+static bool is_refused(gwb *g, struct pool *pool, uint32_t n, uint32_t solid, enum gwb_why why, uint32_t value)
+{
+    gwb_refusal refusal = {0, 0};
+    bool is_told = part_without(g, pool, n, solid) == GWB_REFUSED && gwb_last_refusal(g, &refusal) == GWB_FOUND;
+    return is_told && refusal.number == why && refusal.value == value;
+}
+
+/* Faces that are parted off without memory for their list: the first false condition is named, as with memory; if none is false, it is memory. */
+static void try_part(void)
+{
+    struct pool pool = {.most = 1000000};
+    gwb_heap heap = heap_of(&pool);
+    gwb g = {0};
+    check(gwb_open_in(&g, &heap) && has_prism(&g, 1, 0) && has_prism(&g, 2, 100), "two solids of 66 faces");
+    check(is_refused(&g, &pool, 4000, 0, GWB_WHY_NUMBER_RANGE, 0), "a number out of its range, without memory");
+    check(is_refused(&g, &pool, 4000, 1, GWB_WHY_SOLID_TAKEN, 1), "a number that is taken");
+    check(is_refused(&g, &pool, 4000, 3, GWB_WHY_NO_FACE, 133), "a face that isn't there");
+    check(is_refused(&g, &pool, 132, 3, GWB_WHY_DIFFERENT_SOLIDS, 67), "faces of two solids");
+    check(is_refused(&g, &pool, 66, 3, GWB_WHY_BAD_PART, 1), "all faces of the solid");
+    check(is_refused(&g, &pool, 65, 3, GWB_WHY_BAD_PART, 1), "faces with an edge to another");
+    check(gwb_merge(&g, 1, 2) == GWB_OK && part_without(&g, &pool, 66, 2) == GWB_MEMORY && gwb_depth(&g) == 5, "faces that could go, without memory");
+    check(part_without(&g, &pool, 4000, 1) == GWB_REFUSED && gwb_depth(&g) == 5, "nothing has changed");
+    gwb_close(&g);
+    check(pool.held == 0, "each block of theirs went back");
+}
+
 int main(void)
 {
     try_two();
     try_own();
     try_full();
+    try_part();
     printf("%d passed, %d failed\n", passed, failed);
     return failed != 0;
 }

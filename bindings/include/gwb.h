@@ -517,8 +517,8 @@ enum gwb_kind gwb_ringmv(gwb *g, uint32_t ring, uint32_t face, uint32_t out);
 enum gwb_kind gwb_outer(gwb *g, uint32_t ring, uint32_t face);
 /** Two solids become the first. */
 enum gwb_kind gwb_merge(gwb *g, uint32_t solid, uint32_t other);
-/** `n` faces of one solid, their numbers rising, become the new solid `solid`. The solid that they leave is that of the first face. Memory
- * for their list is taken first, so GWB_MEMORY may come where the operator would be refused. GWB_NO_CALL where `n` is 0. */
+/** `n` faces of one solid, their numbers rising, become the new solid `solid`. The solid that they leave is that of the first face.
+ * GWB_NO_CALL where `n` is 0. */
 enum gwb_kind gwb_part(gwb *g, const uint32_t *faces, size_t n, uint32_t solid);
 
 /** A new solid of two faces, whose corners are the `n` points in order. Fewer than 3 are refused; more than 64 are GWB_NO_CALL. */

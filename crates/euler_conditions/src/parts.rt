@@ -5,13 +5,14 @@ ghost use Rattle.halfedge_arena.specs.Store.{has_number};
 ghost use Rattle.euler_conditions.specs.Ready.{IsReady};
 ghost use Rattle.euler_conditions.specs.Parts.{AreFacesOf, parts_known};
 
+use crate::face_numbers::FaceNumbers;
 use crate::single::in_range;
 use crate::torn;
 use euler_operators::{FaceList, Kind, Op, Refusal, Why, is_number, refused};
 use halfedge_arena::Arena;
 
 /// Tests that each number of the list lies from 1 to the limit.
-fn list_in_range(faces: &FaceList) -> Result<(), Refusal>
+fn list_in_range(faces: &FaceNumbers<'_>) -> Result<(), Refusal>
     ensures { result ≡ verdict (first_refusal (numbers_in_range faces.now)) }
 {
     'faces: for i in 0..faces.len() {
@@ -24,7 +25,7 @@ fn list_in_range(faces: &FaceList) -> Result<(), Refusal>
 }
 
 /// Tests that each listed face is there.
-fn faces_known(arena: &Arena, faces: &FaceList) -> Result<(), Refusal>
+fn faces_known(arena: &Arena, faces: &FaceNumbers<'_>) -> Result<(), Refusal>
     ensures { result ≡ verdict (first_refusal (faces_known arena.now.model faces.now)) }
 {
     'faces: for i in 0..faces.len() {
@@ -37,7 +38,7 @@ fn faces_known(arena: &Arena, faces: &FaceList) -> Result<(), Refusal>
 }
 
 /// Tests that each listed face belongs to the solid.
-fn faces_in(arena: &Arena, solid: u32, faces: &FaceList) -> Result<(), Refusal>
+fn faces_in(arena: &Arena, solid: u32, faces: &FaceNumbers<'_>) -> Result<(), Refusal>
     requires { (f : ℕ) → lists faces.now f ≡ true → has_number arena.now Kind.Face f ≡ true }
     ensures { result ≡ verdict (first_refusal (faces_in arena.now.model solid faces.now)) }
 {
@@ -51,7 +52,7 @@ fn faces_in(arena: &Arena, solid: u32, faces: &FaceList) -> Result<(), Refusal>
 }
 
 /// Whether each number is greater than the one before.
-fn rises(faces: &FaceList) -> bool
+fn rises(faces: &FaceNumbers<'_>) -> bool
     ensures { result ≡ strictly_rises faces.now }
 {
     'faces: for i in 1..faces.len() {
@@ -64,7 +65,7 @@ fn rises(faces: &FaceList) -> bool
 
 /// Whether the listed faces can't be parted from the solid. This is so if there is none, if they don't rise, if they are all of its faces,
 /// or if an edge lies between one of them and another face.
-fn is_bad_part(arena: &Arena, solid: u32, faces: &FaceList) -> bool
+fn is_bad_part(arena: &Arena, solid: u32, faces: &FaceNumbers<'_>) -> bool
     requires ready { IsReady arena.now }
     requires faces { AreFacesOf arena.now.model solid faces.now }
     ensures { result ≡ is_bad_part arena.now.model solid faces.now }
@@ -76,7 +77,7 @@ fn is_bad_part(arena: &Arena, solid: u32, faces: &FaceList) -> bool
 }
 
 /// What is asked of the two solids and of each listed face.
-fn parts_known(arena: &Arena, solid: u32, made: u32, faces: &FaceList) -> Result<(), Refusal>
+fn parts_known(arena: &Arena, solid: u32, made: u32, faces: &FaceNumbers<'_>) -> Result<(), Refusal>
     requires { IsReady arena.now }
     ensures { result ≡ verdict (first_refusal (parts_known arena.now.model solid made faces.now)) }
 {
@@ -98,11 +99,11 @@ fn parts_known(arena: &Arena, solid: u32, made: u32, faces: &FaceList) -> Result
 /// there; DifferentSolids with the first listed face of another solid; BadPart with the solid, where the list is empty, doesn't rise or has
 /// all faces of the solid, or where an edge lies between a listed face and another. It walks once round each loop of the listed faces.
 #[tactic(auto, using(crate::proofs::Borders::part_left), unfolding(euler_operators::specs::Conditions::conditions, euler_operators::specs::Conditions::first_false))]
-pub(crate) fn check_part(
+fn check_numbers(
     arena: &Arena,
     solid: u32,
     made: u32,
-    faces: &FaceList,
+    faces: &FaceNumbers<'_>,
 ) -> Result<(), Refusal>
     requires { IsReady arena.now }
     ensures { result ≡ verdict (first_false arena.now.model (Op.Part solid made faces.now)) }
@@ -112,4 +113,25 @@ pub(crate) fn check_part(
         return refused(Why::BadPart, solid);
     }
     Ok(())
+}
+
+/// Whether the faces that an operator lists can go to a new solid, as `check_numbers` says.
+pub(crate) fn check_part(
+    arena: &Arena,
+    solid: u32,
+    made: u32,
+    faces: &FaceList,
+) -> Result<(), Refusal>
+    requires { IsReady arena.now }
+    ensures { result ≡ verdict (first_false arena.now.model (Op.Part solid made faces.now)) }
+{
+    check_numbers(arena, solid, made, &FaceNumbers::listed(faces))
+}
+
+/// Whether part could make a solid of the faces of a slice: `check` of that operator, whose list needn't be made. It takes no memory.
+pub fn check_part_of(arena: &Arena, solid: u32, made: u32, faces: &[u32]) -> Result<(), Refusal>
+    requires { IsReady arena.now }
+    ensures { result ≡ verdict (first_false arena.now.model (Op.Part solid made faces.now)) }
+{
+    check_numbers(arena, solid, made, &FaceNumbers::lent(faces))
 }

@@ -5,12 +5,13 @@ ghost use Rattle.halfedge_arena.specs.Store.{has_number};
 ghost use Rattle.euler_conditions.specs.Ready.{IsReady};
 ghost use Rattle.euler_conditions.specs.Parts.{LeadsOut, StaysIn, FaceLeadsOut, FaceStaysIn};
 
+use crate::face_numbers::FaceNumbers;
 use crate::{faces, halves};
-use euler_operators::{Content, FaceList, HALF_EDGE_CODES, HalfEdge, Kind};
+use euler_operators::{Content, HALF_EDGE_CODES, HalfEdge, Kind};
 use halfedge_arena::Arena;
 
 /// Whether face f stands in the rising list.
-fn listed(faces: &FaceList, f: u32) -> bool
+fn listed(faces: &FaceNumbers<'_>, f: u32) -> bool
     requires { strictly_rises faces.now ≡ true }
     ensures { result ≡ lists faces.now f }
 {
@@ -32,7 +33,7 @@ fn listed(faces: &FaceList, f: u32) -> bool
 }
 
 /// Whether the face on the other side of the half-edge's edge isn't listed.
-fn leads_out(arena: &Arena, listed_faces: &FaceList, h: HalfEdge) -> bool
+fn leads_out(arena: &Arena, listed_faces: &FaceNumbers<'_>, h: HalfEdge) -> bool
     requires ready { IsReady arena.now }
     requires there { has_number arena.now Kind.Edge h.edge ≡ true }
     requires rising { strictly_rises listed_faces.now ≡ true }
@@ -43,7 +44,7 @@ fn leads_out(arena: &Arena, listed_faces: &FaceList, h: HalfEdge) -> bool
 
 /// Whether an edge of the loop leads to a face that isn't listed.
 #[tactic(auto, using(crate::proofs::Known::filled, euler_laws::proofs::Common::of_half))]
-fn loop_leads_out(arena: &Arena, listed_faces: &FaceList, l: u32) -> bool
+fn loop_leads_out(arena: &Arena, listed_faces: &FaceNumbers<'_>, l: u32) -> bool
     requires ready { IsReady arena.now }
     requires there { has_number arena.now Kind.Loop l ≡ true }
     requires rising { strictly_rises listed_faces.now ≡ true }
@@ -67,7 +68,7 @@ fn loop_leads_out(arena: &Arena, listed_faces: &FaceList, l: u32) -> bool
 }
 
 /// Whether an edge of the face's rings leads to a face that isn't listed.
-fn rings_lead_out(arena: &Arena, listed_faces: &FaceList, f: u32) -> bool
+fn rings_lead_out(arena: &Arena, listed_faces: &FaceNumbers<'_>, f: u32) -> bool
     requires ready { IsReady arena.now }
     requires there { has_number arena.now Kind.Face f ≡ true }
     requires rising { strictly_rises listed_faces.now ≡ true }
@@ -85,7 +86,7 @@ fn rings_lead_out(arena: &Arena, listed_faces: &FaceList, f: u32) -> bool
 }
 
 /// Whether an edge of the face leads to a face that isn't listed.
-fn face_leads_out(arena: &Arena, listed_faces: &FaceList, f: u32) -> bool
+fn face_leads_out(arena: &Arena, listed_faces: &FaceNumbers<'_>, f: u32) -> bool
     requires ready { IsReady arena.now }
     requires there { has_number arena.now Kind.Face f ≡ true }
     requires rising { strictly_rises listed_faces.now ≡ true }
@@ -99,7 +100,7 @@ fn face_leads_out(arena: &Arena, listed_faces: &FaceList, f: u32) -> bool
 }
 
 /// Whether an edge lies between a listed face and another.
-pub(crate) fn is_torn(arena: &Arena, listed_faces: &FaceList) -> bool
+pub(crate) fn is_torn(arena: &Arena, listed_faces: &FaceNumbers<'_>) -> bool
     requires ready { IsReady arena.now }
     requires there { (f : ℕ) → lists listed_faces.now f ≡ true → has_number arena.now Kind.Face f ≡ true }
     requires rising { strictly_rises listed_faces.now ≡ true }

@@ -1,5 +1,5 @@
 -- Faces of a solid that become a solid of their own.
-use Rattle.std.specs.Prelude.{◌≡◌, ◌⊎◌, ℕ, List, get_or, Option, Some, None}
+use Rattle.std.specs.Prelude.{◌≡◌, ℕ, List, get_or, Option, Some, None}
 use Rattle.session_slots.specs.Common.Below.{Op, Refusal, Model, solid_of, face_refusal, Told, Tells, act_of, answer_after, shown, Stage, Slot}
 use Rattle.session_slots.specs.Slots.{Counts_in}
 
@@ -7,10 +7,10 @@ use Rattle.session_slots.specs.Slots.{Counts_in}
 abbrev pub part_of : Model → List ℕ → ℕ → Op
 part_of M fs t = Op.Part (solid_of M (get_or fs 0 0)) t fs
 
--- refused if the first one is no face; else the operator is carried out, or memory is refused before its conditions are tested
+-- refused if the first one is no face; else the operator is called
 abbrev pub Moves_faces : Option Refusal → Stage → Op → Told → Stage → Type 0
 Moves_faces (Some r) g op a h = (a ≡ Told.Refused r) × (h ≡ g)
-Moves_faces None g op a h = Tells g (act_of op) a h ⊎ ((a ≡ Told.Memory) × (h ≡ g))
+Moves_faces None g op a h = Tells g (act_of op) a h
 
 -- a session or a draft goes on so
 abbrev pub Slot_parts : Slot → List ℕ → ℕ → Slot → Type 0

@@ -1,10 +1,10 @@
 //! Faces of a solid that become a solid of their own.
-ghost use Rattle.std.specs.Prelude.{◌≡◌, ◌<◌, length, get_or, IfOk};
-ghost use Rattle.session_slots.specs.Common.{solid_of, answer, face_refusal, shown, told_of, part_of, Moves_faces, Slot_parts, Slot_makes_part};
+ghost use Rattle.std.specs.Prelude.{◌≡◌, ◌<◌, length, get_or, IfOk, Err};
+ghost use Rattle.session_slots.specs.Common.{solid_of, answer, face_refusal, shown, told_of, act_of, part_of, Tells, Moves_faces, Slot_parts, Slot_makes_part};
 
 use crate::slot::{Slot, counted_in};
 use commands::Stage;
-use euler_conditions::Arena;
+use euler_conditions::{Arena, check_part_of};
 use euler_operators::{FaceList, Kind, Op, Refusal, Why, is_number};
 use script_running::keep_outcome;
 use std::alloc::{AllocError, Global};
@@ -42,7 +42,19 @@ fn solid_of(arena: &Arena, face: u32) -> Result<u32, Refusal>
     Ok(arena.solid_of(face))
 }
 
-/// Makes a new solid of some faces, at least one, of the first one's solid. Their list is made before the operator's conditions are tested.
+/// Why some faces become no solid where memory for their list is refused: the operator's first false condition; if none is false, memory.
+#[inline(never)]
+fn unlisted(stage: &Stage, from: u32, made: u32, faces: &[u32], error: AllocError) -> Failure
+    ensures { Tells stage.now (act_of (Op.Part from made faces.now)) (told_of (Err result)) stage.now }
+{
+    match check_part_of(stage.arena(), from, made, faces) {
+        Ok(()) => Failure::Memory(error),
+        Err(refusal) => Failure::Refused(refusal),
+    }
+}
+
+/// Makes a new solid of some faces, at least one, of the first one's solid. Their list is made first, and where memory for it is refused, the
+/// operator's conditions are tested without it.
 fn part_on(alloc: Global, stage: &mut Stage, faces: &[u32], made: u32) -> Result<(), Failure>
     requires { 0 < length faces.now }
     ensures { Moves_faces (face_refusal (shown stage.old) (get_or faces.now 0 0)) stage.old (part_of (shown stage.old) faces.now made) (told_of result) stage.new }
@@ -53,7 +65,7 @@ fn part_on(alloc: Global, stage: &mut Stage, faces: &[u32], made: u32) -> Result
     };
     match listed(alloc, faces) {
         Ok(list) => commands::act(stage, Op::Part(from, made, list)),
-        Err(error) => Err(Failure::Memory(error)),
+        Err(error) => Err(unlisted(stage, from, made, faces, error)),
     }
 }
 

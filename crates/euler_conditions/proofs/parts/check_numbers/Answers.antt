@@ -1,6 +1,6 @@
 use Rattle.euler_conditions.proofs.Prelude.{Err, sym, ap, ◌∙◌, err_from_is_err_and}
 use Rattle.euler_conditions.proofs.Borders.{part_refused, are_faces}
-use Rattle.euler_conditions.proofs.parts.check_part.Goals as goal
+use Rattle.euler_conditions.proofs.parts.check_numbers.Goals as goal
 
 pub is_bad_part-requires-clause-faces : goal.is_bad_part-requires-clause-faces
 is_bad_part-requires-clause-faces c = are_faces c.args.arena.now.model c.args.solid c.args.made c.args.faces.now (sym c.parts_known.ensures ∙ c.in_ok-parts_known.was)
