@@ -526,8 +526,8 @@ class Measures(PageCase):
         self.assertEqual(self.between(('e', 1), ('f', 2)), {'angle': '0°', 'distance from the plane': '6 mm'})
         self.assertEqual(self.between(('e', 1), ('e', 3)), {'angle': '0°', 'distance of the lines': '4 mm'})
         self.assertEqual({told['angle'] for told in (self.between(('e', edge), ('f', 1)) for edge in range(1, 13))}, {'0°', '90°'})
-        self.assertEqual(dict(self.tab.value('Measure.solid(View.model, 1)'))['volume'], '120')
-        self.assertEqual(dict(self.tab.value('Measure.own(View.model, {kind: "f", number: 1})'))['area'], '20')
+        self.assertEqual(dict(self.tab.value('Measure.solid(View.model, 1)'))['volume'], '120 mm³')
+        self.assertEqual(dict(self.tab.value('Measure.own(View.model, {kind: "f", number: 1})'))['area'], '20 mm²')
 
     def test_bent_faces_are_named(self):
         points, faces = box((0, 0, 0), (4, 4, 4))
