@@ -180,7 +180,7 @@ class Tab:
             raise Told(about.get('exception', {}).get('description', about['text']))
         return told['result'].get('value')
 
-    def until(self, expression: str, seconds: float = 20) -> Any:
+    def until(self, expression: str, seconds: float = 180) -> Any:
         """What the expression comes to when it is true for the first time, or at last."""
         return self.value(f"""new Promise(done => {{ const end = Date.now() + {1000 * seconds};
             const look = () => {{ const found = ({expression}); if (found || Date.now() > end) done(found); else setTimeout(look, 10); }}; look(); }})""")
