@@ -4,7 +4,7 @@
 #   make try                                 in some minutes: out/gwb-unproved, and in out/unproved the library for C, C++, Rust and Python
 #   make check                               all tests that need no proof: the last line counts
 #   make check-unproved                      the same on what `make try` builds
-#   make reference                           out/reference: what each call is for, in C and C++, Python and Rust, from the sources
+#   make site                                out/site: the gallery, the pages, the reference of each language, a page of all names
 #   make dist                                out/dist: a wheel, the sources, a tarball of what is installed, a package for Debian
 #   make install PREFIX=/usr/local           DESTDIR=.. is put before every place, as for a package
 #   make uninstall PREFIX=/usr/local         takes away what was installed
@@ -43,19 +43,21 @@ UNPROVED = out/gwb-unproved out/libgwb_c-unproved.a
 TRIED = ../out/unproved
 SOURCES = .ci/unproved .ci/crates.py crates.txt $(shell find crates -path '*/src/*.rt')
 
-.PHONY: help try check check-unproved reference dist built built-program install uninstall install-program install-companions install-pages install-library
+.PHONY: help try check check-unproved site dist built built-program install uninstall install-program install-companions install-pages install-library
 help:
 	@echo 'make try                            builds the program and the library in some minutes, unproved'
 	@echo 'make check                          runs all tests that need no proof on what is built, proved before unproved'
 	@echo 'make check-unproved                 runs them on what make try builds'
-	@echo 'make reference                      writes each language'"'"'s reference, from its headers and docstrings'
+	@echo 'make site                           makes a site of the gallery, the pages, the references and all names'
 	@echo 'make dist                           packs what is built: a wheel, the sources, a tarball, a package for Debian'
 	@echo 'make install PREFIX=/usr/local      installs what is built, proved before unproved: the program, the library, companions, pages'
 	@echo 'make uninstall PREFIX=/usr/local    takes them away'
 	@echo '.ci/run                             proves, tests and builds everything'
 
 try:
+	@echo '1 of 2: the program, and the kernel of the library: a minute on idle processors'
 	@$(MAKE) -s --no-print-directory -j 2 $(UNPROVED)
+	@echo '2 of 2: the library, with its features in C++: as long again'
 	@if command -v cc > /dev/null; then \
 	    $(MAKE) -s --no-print-directory -C bindings ARCHIVE=../out/libgwb_c-unproved.a OUT=$(TRIED) $(TRIED)/libgwb.so $(TRIED)/libgwb.a; \
 	else echo 'there is no cc, so the library for C, C++, Rust and Python is left out'; fi
@@ -77,19 +79,8 @@ check: built-program
 check-unproved: try
 	tests/run.py $(UNPROVED)
 
-# of each language by the tool that its users know, where that is there
-REFERENCE = out/reference
-DOXYGEN = PROJECT_NAME=gwb INPUT=bindings/include FILE_PATTERNS='*.h *.hpp' OUTPUT_DIRECTORY=$(REFERENCE) HTML_OUTPUT=c GENERATE_LATEX=NO HAVE_DOT=NO QUIET=YES WARNINGS=NO \
-    EXTRACT_ALL=YES JAVADOC_AUTOBRIEF=YES MACRO_EXPANSION=YES EXPAND_ONLY_PREDEF=YES PREDEFINED='GWB_NODISCARD= GWB_NOEXCEPT= __cplusplus=201703L'
-
-reference:
-	@mkdir -p $(REFERENCE)/python
-	@cd $(REFERENCE)/python && PYTHONPATH=$(CURDIR)/companions python3 -m pydoc -w gwb > /dev/null && echo '$(REFERENCE)/python/gwb.html'
-	@if command -v doxygen > /dev/null; then printf '%s\n' $(DOXYGEN) | doxygen - && echo '$(REFERENCE)/c/index.html'; \
-	else echo 'there is no doxygen, so the reference of C and C++ is left out (Debian: doxygen)'; fi
-	@if command -v cargo > /dev/null; then cargo doc --quiet --offline --no-deps --manifest-path bindings/rust/Cargo.toml --target-dir $(REFERENCE)/rust \
-	    && echo '$(REFERENCE)/rust/doc/gwb/index.html'; \
-	else echo 'there is no cargo, so the reference of Rust is left out (Debian: cargo)'; fi
+site:
+	@.ci/site
 
 INTO ?= out/dist
 dist: built

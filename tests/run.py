@@ -57,6 +57,7 @@ def trials(program: str, archive: str) -> Iterator[Trial]:
     yield Trial(('tests/documents.py', program))
     yield Trial(('companions/tests/run.py', program))
     yield Trial(('tests/install.py', program), ('make',))
+    yield Trial(('tests/site.py',))
     yield Trial(('tests/direct_calls.py', str(DIRECT_CALLS), program), ('cc',), (DIRECT_CALLS,))
     if archive:
         yield Trial(('tests/library.sh', archive, program), ('cc', 'c++', 'make'))
@@ -111,7 +112,9 @@ def main() -> int:
         print(*missing, f'0 passed, {len(missing)} failed, 0 skipped', sep='\n')
         return 1
     found: List[Outcome] = []
-    for trial in trials(program, archive):
+    all_trials = list(trials(program, archive))
+    for number, trial in enumerate(all_trials, 1):
+        print(f'{number} of {len(all_trials)}: {trial}', flush=True)
         outcome = outcome_of(trial)
         print(f'{trial}: {outcome.passed} passed, {outcome.failed} failed, {outcome.skipped} skipped', flush=True)
         found.append(outcome)
