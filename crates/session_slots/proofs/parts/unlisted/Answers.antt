@@ -5,12 +5,12 @@ use Rattle.session_slots.proofs.Queried.{is_false, none_false}
 use Rattle.session_slots.proofs.parts.unlisted.Goals as goal
 
 lacks_memory : (g : Stage) (op : Op) → first_false (shown g) op ≡ None → Tells g (act_of op) Told.Memory g
-lacks_memory (Session s) op e = (s, refl, e, refl)
-lacks_memory (Drafting d) op e = (d, refl, e, refl)
+lacks_memory (Session s) op e = (s, refl, (e, refl))
+lacks_memory (Drafting d) op e = (d, refl, (e, refl))
 
 refused : (g : Stage) (op : Op) (r : Refusal) → first_false (shown g) op ≡ Some r → Tells g (act_of op) (Told.Refused r) g
-refused (Session s) op r e = (s, refl, e, refl)
-refused (Drafting d) op r e = (d, refl, e, refl)
+refused (Session s) op r e = (s, refl, (e, refl))
+refused (Drafting d) op r e = (d, refl, (e, refl))
 
 pub returns-in-Ok : goal.returns-in-Ok
 returns-in-Ok c =
