@@ -91,7 +91,7 @@ def main():
     parser.add_argument('libraries', metavar='LIBRARY', nargs='*')
     for library in parser.parse_args().libraries or [None]:
         for name, make, count in LOOPS:
-            with Workbench(library) as bench:
+            with Workbench(library, step=1) as bench:
                 times = tenths(bench, make, count)
             print(f'{library or "gwb"}: {count} {name}: {sum(times):.2f} s; first tenth {times[0]:.3f} s, last {times[-1]:.3f} s')
 

@@ -7,5 +7,5 @@ wall = bench.faces(plane=(1, 0, 0, -8)).one()       # the one that looks along x
 for y in (10, 30):
     bench.drill(base, (40, y, 8), radius=5, sides=8)
 bench.slot(wall, (8, 20, 50), (8, 20, 30), width=8, depth=8)
-print(bench.volume(angle))      # 30080
+print(float(bench.volume(angle)))   # 30228.48
 bench.export('bracket.html')    # or .step, .3mf, .stl ..

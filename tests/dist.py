@@ -21,7 +21,7 @@ REPLIES = EXAMPLE.with_suffix('.expected').read_bytes()
 VERSION = (TOP / 'VERSION').read_text().strip()
 # The part that README begins with, and what it prints.
 PART = re.search(r'```python\n(.*?)```', (TOP / 'README.md').read_text(), re.S).group(1)
-VOLUME = re.search(r'print\(bench\.volume\(\w+\)\) *# (\S+)', PART).group(1)
+VOLUME = re.search(r'print\(float\(bench\.volume\(\w+\)\)\) *# (\S+)', PART).group(1)
 ASKED = "import gwb; print(gwb.__proved__, gwb.__version__, __import__('importlib.metadata').metadata.version('gwb'))"
 DPKG = '--force-not-root --force-depends --force-script-chrootless --log=/dev/null'.split()
 PROGRAM = '''#include <gwb.h>

@@ -294,5 +294,6 @@ fi
 counted 'the tutorial' python3 tests/tutorial.py "$dir/built/libgwb.so"
 counted 'the gallery' python3 tests/gallery.py "$dir/built/libgwb.so"
 counted 'the session in Python over the library' env "GWB=$dir/built/libgwb.so" python3 tests/library_companions.py
+counted 'the session in thousandths of a millimetre' env "GWB=$dir/built/libgwb.so" GWB_TEST_STEP=1/1000 python3 tests/library_companions.py
 echo "$passed passed, $failed failed, $skipped skipped"
 [ "$failed" = 0 ]

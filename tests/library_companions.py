@@ -1,9 +1,12 @@
 #!/usr/bin/env python3
 """Runs the companions' tests of the Python session, and all others that need it, over the library that the environment variable GWB names.
 
-    GWB=LIBRARY tests/library_companions.py
+    GWB=LIBRARY [GWB_TEST_STEP=STEP] tests/library_companions.py
+
+With a step these are the tests alone that hold in any lattice, in one of that step, in millimetres.
 """
 import os
+import re
 import sys
 import unittest
 from counts import TOP, closing, command_line, there
@@ -20,7 +23,9 @@ def main():
         print('GWB names no library', closing(0, 1), sep='\n')
         return 1
     there(os.environ['GWB'], 'library')
-    names = sorted(path.stem for path in TESTS.glob('test_*.py') if 'library()' in path.read_text(encoding='utf-8'))
+    mark = re.compile(r'\bSTEP\b|\bstep_of\(|\bbench_and_folder\(self\)' if os.environ.get('GWB_TEST_STEP') else r'\blibrary\(\)')
+    files = TESTS.glob('test_session*.py' if os.environ.get('GWB_TEST_STEP') else 'test_*.py')
+    names = sorted(path.stem for path in files if mark.search(path.read_text(encoding='utf-8')))
     return tried(unittest.defaultTestLoader.loadTestsFromNames(names))
 
 

@@ -22,6 +22,7 @@ from counts import TOP, command_line, there
 sys.path.insert(0, str(TOP / 'companions'))
 
 from gwb import FacePart, Refused, Workbench  # noqa: E402
+from gwb.geometry.lattice_cuts import off_lattice_cut  # noqa: E402
 
 TABLE = TOP / 'tests' / 'library_features.table'
 # What is said of a parallel plane that is too far, in the place of its line.
@@ -37,7 +38,7 @@ def measures(bench: Workbench, solid: int) -> str:
     """What is told of a solid."""
     count = bench.count(solid)
     total = sum((x + 101) * (y + 211) * (z + 307) for x, y, z in (vertex.point for vertex in bench.solid(solid).vertices))
-    return f'{bench.six_volume(solid)} {count.vertices} {count.edges} {count.faces} {count.rings} {total}'
+    return f'{6 * bench.volume(solid)} {count.vertices} {count.edges} {count.faces} {count.rings} {total}'
 
 
 class Row:
@@ -163,7 +164,7 @@ class Tried:
     def _begun(self) -> str:
         if self._bench:
             self._bench.close()
-        self._bench, self._part = Workbench(self._library), None
+        self._bench, self._part = Workbench(self._library, step=1), None
         return ''
 
     def _result(self, word: str, words: Sequence[str]) -> str:
@@ -202,7 +203,7 @@ class Tried:
     def _cut(self, plane: Sequence[int]) -> str:
         assert self._part, 'a solid comes before its cut'
         said = self._part.bench.off_lattice(self._part.solid, plane)
-        self._said = said.advice(77)
+        self._said = off_lattice_cut(self._part.bench.listing(), self._part.solid, plane).advice(77)
         return f'ok {len(said.crossings)} {said.factor}'
 
 

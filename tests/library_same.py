@@ -49,7 +49,7 @@ class Session:
 
     def __init__(self, library: str) -> None:
         self._library = library
-        self.bench = Workbench(library)
+        self.bench = Workbench(library, step=1)
         self._draft = self.bench.draft()
         self.is_drafting = False
         # How many lines of the draft may have changed something, and whether the last line took something back.
@@ -76,7 +76,7 @@ class Session:
     def part(self) -> List[int]:
         """A new session."""
         self.bench.close()
-        self.bench, self.is_drafting = Workbench(self._library), False
+        self.bench, self.is_drafting = Workbench(self._library, step=1), False
         return []
 
     def draft(self) -> List[int]:

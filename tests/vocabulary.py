@@ -28,7 +28,7 @@ CPP_CALLS = {'unite': 'union'}
 # Python's names, where they are others, and then the arguments too; what it takes by name besides; and arguments that it has otherwise.
 PYTHON_CALLS = {'kill_solid': ('delete',), 'move_solid': ('move', 'turn', 'mirror'), 'copy_solid': ('copy',), 'split_solid': ('split',),
                 'find_faces': ('faces',), 'find_edges': ('edges',)}
-PYTHON_BESIDES = {'solid', 'above', 'keep', 'scale', 'diameter', 'circle', 'within', 'times', 'to'}
+PYTHON_BESIDES = {'solid', 'above', 'keep', 'scale', 'refine', 'diameter', 'circle', 'within', 'times', 'to'}
 PYTHON_ARGUMENTS = {('pattern_around', 'degrees'): ('quarters',), ('polyhedron', 'faces'): ('corners', 'sizes')}
 # The solid that is made, which Python chooses, and how many planes are sought, which it doesn't ask.
 PYTHON_LEFT_OUT = {('profile', 'solid'), ('polyhedron', 'solid'), ('cut', 'above'), ('off_lattice', 'most')}

@@ -16,13 +16,13 @@ def main():
         print(block)
         parts = bench.split(block.solid, (0, 0, 1, -2))
         print(parts)
-        print(bench.six_volume(block.solid), bench.six_volume(parts.solid))
+        print(6 * bench.volume(block.solid), 6 * bench.volume(parts.solid))
         try:
             bench.kvfs(parts.solid)
         except Refused as refused:
             print(refused.name, refused.value)
         bench.undo()
-        print(bench.six_volume(block.solid), bench.count(block.solid))
+        print(6 * bench.volume(block.solid), bench.count(block.solid))
         print(len(bench.listing().faces), 'faces')
         print(bench.half_edges(bench.listing().faces[block.top].outer))
         with bench.draft():

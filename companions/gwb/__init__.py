@@ -6,17 +6,18 @@ from typing import TYPE_CHECKING, Optional
 from .errors import (CompanionError, Complaint, Ended, Faulted, InDraft, InGroup, MemoryRefused, NoDraft, NotOne, OutOfStep, ProgramMissing,
                      Refused, Unfit)
 from .geometry.crossings import NoPart
-from .geometry.lattice_cuts import OffLatticeCut
 from .geometry.model import Face, Loop, Model
 from .geometry.outlines import Impossible
 from .geometry.solid_measures import BoundingBox, Inertia, NotParallel, NoVolume
 from .protocol.listing import read_model
 from .session.arguments import Lone
 from .session.feature_methods import Sketch
+from .session.lengths import OffStep
 from .session.library import is_proved
 from .session.reading import EdgePart, FacePart, LoopPart, Part, Selection, SolidPart, VertexPart
 from .session.results import (Block, Count, Cut, Hole, Lamina, NewEdge, NewFace, NewSolid, Notch, Plane, Pocket, Polyhedron, Profile, Renumbered,
                               Ring, Split, Sweep)
+from .session.selection import OffLatticeCut
 from .session.solids import Copy
 from .session.workbench import Workbench
 from .version import VERSION
@@ -32,8 +33,8 @@ else:
         proved = is_proved()
         return proved if name == '__proved__' else VERSION + ('+unproved' if proved is False else '')
 
-__all__ = ['Block', 'BoundingBox', 'CompanionError', 'Complaint', 'Copy', 'Count', 'Cut', 'EdgePart', 'Ended', 'Face', 'FacePart',
-           'Faulted', 'Hole', 'Impossible', 'InDraft', 'InGroup', 'Inertia', 'Lamina', 'Lone', 'Loop', 'LoopPart', 'MemoryRefused',
-           'Model', 'NewEdge', 'NewFace', 'NewSolid', 'NoDraft', 'NoPart', 'NoVolume', 'Notch', 'NotOne', 'NotParallel', 'OffLatticeCut',
-           'OutOfStep', 'Part', 'Plane', 'Pocket', 'Polyhedron', 'Profile', 'ProgramMissing', 'Refused', 'Renumbered', 'Ring', 'Selection', 'Sketch', 'SolidPart', 'Split',
+__all__ = ['Block', 'BoundingBox', 'CompanionError', 'Complaint', 'Copy', 'Count', 'Cut', 'EdgePart', 'Ended', 'Face', 'FacePart', 'Faulted', 'Hole',
+           'Impossible', 'InDraft', 'InGroup', 'Inertia', 'Lamina', 'Lone', 'Loop', 'LoopPart', 'MemoryRefused', 'Model', 'NewEdge', 'NewFace',
+           'NewSolid', 'NoDraft', 'NoPart', 'NoVolume', 'NotOne', 'NotParallel', 'Notch', 'OffLatticeCut', 'OffStep', 'OutOfStep', 'Part', 'Plane',
+           'Pocket', 'Polyhedron', 'Profile', 'ProgramMissing', 'Refused', 'Renumbered', 'Ring', 'Selection', 'Sketch', 'SolidPart', 'Split',
            'Sweep', 'Unfit', 'VertexPart', 'Workbench', '__proved__', '__version__', 'read_model']

@@ -8,6 +8,7 @@ import tarfile
 import tempfile
 import unittest
 from contextlib import redirect_stderr, redirect_stdout
+from fractions import Fraction
 from importlib import import_module
 from pathlib import Path
 from typing import Dict, List, NamedTuple, Sequence, Tuple
@@ -17,6 +18,9 @@ COMPANIONS = TESTS.parent
 REPOSITORY = COMPANIONS.parent
 OUTPUTS = TESTS / 'stored'
 sys.path.insert(0, str(COMPANIONS))
+
+# The step of sessions in tests that hold in any lattice which has whole millimetres: GWB_TEST_STEP says it, else 1.
+STEP = Fraction(os.environ.get('GWB_TEST_STEP', '1'))
 
 Point = Tuple[int, int, int]
 Cycle = Sequence[int]
@@ -166,9 +170,14 @@ def _halves(cycle: Cycle, edges: Dict[Tuple[int, int], int]) -> str:
     return ' '.join(f'{half:+d}' for half in halves[least:] + halves[:least])
 
 
-def bench_and_folder(test: unittest.TestCase):
+def step_of(test: unittest.TestCase, *lattice: str) -> Fraction:
+    """The step for a test: 1 for those of these names, which count points of the lattice, or lie at its end."""
+    return Fraction(1) if test.id().rpartition('.')[2] in lattice else STEP
+
+
+def bench_and_folder(test: unittest.TestCase, step: Fraction = STEP):
     """A workbench and a folder for a test, both gone when it ends."""
-    bench = import_module('gwb').Workbench(library())
+    bench = import_module('gwb').Workbench(library(), step=step)
     test.addCleanup(bench.close)
     folder = tempfile.TemporaryDirectory()
     test.addCleanup(folder.cleanup)

@@ -9,7 +9,7 @@ from collections import Counter
 from fractions import Fraction
 from random import Random
 
-from support import box, listing, model_in, library, turned
+from support import STEP, box, library, listing, model_in, turned
 
 from gwb import Refused, Workbench
 from gwb.errors import Unfit
@@ -127,7 +127,7 @@ class RandomSolids(unittest.TestCase):
     def test_they_come_back(self):
         random, apart = Random(33), 0
         for number in range(int(os.environ.get('RANDOM_SOLIDS', 25))):
-            with Workbench(library()) as bench:
+            with Workbench(library(), step=STEP) as bench:
                 Workshop(bench, random).work()
                 model, script = bench.listing(), bench.script()
             for form, part, text in files(model):

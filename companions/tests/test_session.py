@@ -6,6 +6,8 @@ import os
 import pickle
 import tempfile
 import unittest
+from fractions import Fraction
+from math import gcd
 from pathlib import Path
 from unittest import mock
 
@@ -41,7 +43,7 @@ def call(bench, command, words):
         'sweep': lambda f, *vector: bench.sweep(f, vector),
         'split': lambda s, a, b, c, d, t: bench.split(s, (a, b, c, d), above=t),
         'list': bench.listing,
-        'volume': bench.six_volume,
+        'volume': lambda solid: 6 * bench.volume(solid),
     }
     return calls.get(command, getattr(bench, {'list': 'listing'}.get(command, command)))(*numbers)
 
@@ -52,7 +54,7 @@ class Scripts(unittest.TestCase):
     def test_every_script(self):
         path = library()
         for script in scripts():
-            with self.subTest(script.stem), Workbench(path) as bench:
+            with self.subTest(script.stem), Workbench(path, step=1) as bench:
                 replies = split_replies(script.with_suffix('.expected').read_bytes())
                 for answered in join(script.read_bytes(), replies):
                     if answered.reply is not None:
@@ -63,6 +65,9 @@ class Scripts(unittest.TestCase):
             self.assertEqual(bench.ask(line.decode('utf-8', 'surrogateescape')), reply)
             return
         command, *words = line.decode().split()
+        if command == 'split' and gcd(*map(int, words[1:5])) != 1:    # (the method reduces the plane, of whose range the kernel has its say)
+            self.assertEqual(bench.ask(line.decode()), reply)
+            return
         try:
             result = call(bench, command, words)
         except Refused as refused:
@@ -71,7 +76,9 @@ class Scripts(unittest.TestCase):
         if reply.is_listing:
             self.assertEqual(result, model_of(reply))
         elif command == 'plane':
-            self.assertEqual([*result[:4], 'flat' if result.flat else 'bent'], [*reply.numbers, reply.lines[0].split()[-1]])
+            shortest = gcd(*reply.numbers[:3]) or 1
+            self.assertEqual([*result[:4], 'flat' if result.flat else 'bent'],
+                             [*(Fraction(number, shortest) for number in reply.numbers), reply.lines[0].split()[-1]])
         elif command in ('volume', 'count'):
             self.assertEqual(list(result) if command == 'count' else [result], reply.numbers)
         else:
@@ -82,7 +89,7 @@ class Session(unittest.TestCase):
     """The workbench by itself."""
 
     def setUp(self):
-        self.bench = Workbench(library())
+        self.bench = Workbench(library(), step=1)
         self.addCleanup(self.bench.close)
 
     def test_a_block_with_a_hole_without_a_number_given(self):
@@ -98,7 +105,7 @@ class Session(unittest.TestCase):
         bench.sweep(inside.face, (0, 0, -6))
         bench.kfmrh(block.bottom, inside.face)
         self.assertEqual(bench.count(block.solid), (16, 24, 10, 2, 0))
-        self.assertEqual(bench.six_volume(block.solid), 1152)
+        self.assertEqual(6 * bench.volume(block.solid), 1152)
 
     def test_fresh_numbers_are_those_of_the_model(self):
         bench = self.bench
@@ -109,8 +116,8 @@ class Session(unittest.TestCase):
         self.assertEqual([face for face in model.faces if face != 40], [block.top, block.bottom, *block.sides])
         self.assertEqual(list(model.edges), list(block.edges))
         self.assertEqual([vertex for vertex in model.vertices if vertex != 60], list(block.vertices))
-        self.assertEqual(bench.plane(block.top), (0, 0, 2, -2, True))
-        self.assertEqual(bench.plane(block.bottom), (0, 0, -2, 0, True))
+        self.assertEqual(bench.plane(block.top), (0, 0, 1, -1, True))
+        self.assertEqual(bench.plane(block.bottom), (0, 0, -1, 0, True))
 
     def test_a_sweep_says_which_side_is_which(self):
         bench = self.bench
@@ -141,8 +148,8 @@ class Session(unittest.TestCase):
         bench = self.bench
         block = bench.block((0, 0, 0), (4, 4, 4))
         parts = bench.split(block.solid, (1, 0, 0, -2))
-        self.assertEqual([bench.plane(face) for face in parts.lower_caps], [(32, 0, 0, -64, True)])
-        self.assertEqual([bench.plane(face) for face in parts.upper_caps], [(-32, 0, 0, 64, True)])
+        self.assertEqual([bench.plane(face) for face in parts.lower_caps], [(1, 0, 0, -2, True)])
+        self.assertEqual([bench.plane(face) for face in parts.upper_caps], [(-1, 0, 0, 2, True)])
         self.assertEqual(bench.volume(block.solid), bench.volume(parts.solid))
         self.assertEqual(bench.glue(parts.lower_caps[0], parts.upper_caps[0]), block.solid)
 
@@ -243,7 +250,7 @@ class Session(unittest.TestCase):
         self.assertEqual((bench.script(), repr(bench)), ('block 1 0 0 0 9 9 9\n', '<Workbench, 1 command held>'))
 
     def test_paths(self):
-        with Workbench(Path(library())) as bench, tempfile.TemporaryDirectory() as folder:
+        with Workbench(Path(library()), step=1) as bench, tempfile.TemporaryDirectory() as folder:
             bench.block((0, 0, 0), (1, 1, 1))
             bench.save(Path(folder) / 'part.gwb')
             with Workbench.load(Path(folder) / 'part.gwb', Path(library())) as again:

@@ -5,12 +5,13 @@ import pickle
 import tempfile
 import threading
 import unittest
+from fractions import Fraction
 from pathlib import Path
 from unittest import mock
 
 from support import library
 
-from gwb import Complaint, Refused, Workbench
+from gwb import Complaint, OffStep, Refused, Workbench
 from gwb.protocol.advice import advice
 from gwb.protocol.language import condition_text
 from gwb.protocol.replies import Reply
@@ -23,7 +24,7 @@ class Advice(unittest.TestCase):
     """A block of 7 by 5 by 3, and one beside it that is as high."""
 
     def setUp(self):
-        self.bench = Workbench(library())
+        self.bench = Workbench(library(), step=1)
         self.addCleanup(self.bench.close)
         self.block, self.beside = self.bench.block((0, 0, 0), (7, 5, 3)), self.bench.block((7, 0, 0), (4, 5, 3))
 
@@ -111,10 +112,12 @@ class Advice(unittest.TestCase):
                 self.assertIn('part.gwb, line 1: ', str(caught.exception))
 
     def test_a_fraction_in_a_point(self):
-        with self.assertRaisesRegex(TypeError, r'^point\[0\]: a whole number is wanted, not the float 1.5; choose a finer unit, such as tenths \(`unit`'):
-            self.bench.block((1.5, 0, 0), (1, 1, 1))
-        with self.assertRaisesRegex(TypeError, r'^point\[0\]: a whole number is wanted, not the float 2.0$'):
-            self.bench.block((2.0, 0, 0), (1, 1, 1))
+        third = Fraction(7, 9)
+        told = r'^point\[0\]: 7/9 mm is no multiple of the step, 1 mm: the nearest is 1; refine\(9\) makes the step so fine$'
+        with self.assertRaisesRegex(OffStep, told) as caught:
+            self.bench.block((third, 0, 0), (1, 1, 1))
+        self.assertEqual((caught.exception.nearest, caught.exception.finer), (1, 9))
+        self.bench.block((2.0, 0, 0), (1, 1, 1))
 
     def test_what_is_said_without_the_model(self):
         self.assertEqual(condition_text(37), 'the plane cuts edge X between whole coordinates; a finer unit would do, or a plane near by')

@@ -4,13 +4,15 @@ import pickle
 import unittest
 from copy import copy
 from fractions import Fraction
+from math import nan
 
 from solid_cases import solid_cases
-from support import library
+from support import STEP, library, step_of
 
 from gwb import CompanionError, Lone, Refused, Workbench
 
 P, Q, R = (0, 0, 0), (4, 0, 0), (0, 4, 0)
+FINE = Fraction(1, 9_999_999)
 TRIANGLE = [P, Q, R]
 
 
@@ -25,14 +27,14 @@ NUMBER = (True, 1.0, '1', None, [1], 2 ** 32 + 1, Flag())
 GIVEN = (True, 1.0, '1', [1], 2 ** 32, -1)
 HALF = (True, 1.5, '+1', None, (1,), 2 ** 32, -2 ** 32)
 CORNER = (*HALF, Lone(True), Lone('1'), Lone(-1), Lone(2 ** 32))
-POINT = (True, 1, 'abc', None, (0, 0), (0, 0, 0, 0), (0, 0, 1.0), (0, True, 0), ('0', 0, 0), (0, 0, 2 ** 63), {0, 1, 2}, (0, None, 0),
+POINT = (True, 1, 'abc', None, (0, 0), (0, 0, 0, 0), (0, 0, nan), (0, True, 0), ('wide', 0, 0), (0, 0, FINE), (0, 0, 2 ** 63), {0, 1, 2}, (0, None, 0),
          bytearray(3), memoryview(b'abc'))
-PLANE = (1, 'abcd', None, (1, 0, 0), (1, 0, 0, 1.0), (1, 0, 0, True), (1, 0, 0, -2 ** 63 - 1))
-POINTS = (None, 7, 'abc', [(0, 0), (40, 0), (40, 5), (5, 5), (5, 40), (0, 40)], [0, 0, 0], [P, Q, (0, 4, 0.5)], [P, Q, '400'],
+PLANE = (1, 'abcd', None, (1, 0, 0), (1, 0, 0, nan), (1, 0, 0, True), (1, 0, 0, -2 ** 63 - 1))
+POINTS = (None, 7, 'abc', [(0, 0), (40, 0), (40, 5), (5, 5), (5, 40), (0, 40)], [0, 0, 0], [P, Q, (0, 4, FINE)], [P, Q, '400'],
           bytearray(b'abc'), [P, Q, b'abc'], [P, Q, bytearray(b'abc')])
-LENGTH = (True, 1.0, '1', None, 0, -1, 2 ** 63)
+LENGTH = (True, nan, 'wide', None, 0, -1, 2 ** 63, FINE)
 FLAG = (1, 0, 'yes', None)
-MEASURE = (True, 1.0, '1', 0, -1, Fraction(-1, 2))
+MEASURE = (True, nan, 'wide', 0, -1, Fraction(-1, 2))
 
 # For each method arguments that are right, and for each name the wrong ones.
 CASES = {
@@ -51,12 +53,11 @@ CASES = {
     'block': ({'point': P, 'sizes': (1, 1, 1)}, {'point': POINT, 'sizes': POINT, 'solid': GIVEN}),
     'sweep': ({'face': 1, 'vector': Q}, {'face': NUMBER, 'vector': POINT}),
     'glue': ({'face': 1, 'other': 2}, {'face': NUMBER, 'other': NUMBER}),
-    'split': ({'solid': 1, 'plane': (1, 0, 0, 0)}, {'solid': NUMBER, 'plane': PLANE, 'above': GIVEN, 'scale': FLAG}),
+    'split': ({'solid': 1, 'plane': (1, 0, 0, 0)}, {'solid': NUMBER, 'plane': PLANE, 'above': GIVEN, 'refine': FLAG, 'scale': (True, False)}),
     'undo': ({}, {'command': FLAG}),
     'redo': ({}, {'command': FLAG}),
     'plane': ({'face': 1}, {'face': NUMBER}),
     'volume': ({'solid': 1}, {'solid': NUMBER}),
-    'six_volume': ({'solid': 1}, {'solid': NUMBER}),
     'count': ({'solid': 1}, {'solid': NUMBER}),
     'half_edges': ({'loop': 1}, {'loop': NUMBER}),
     'ask': ({'line': 'list'}, {'line': (1, None, b'list', True)}),
@@ -65,22 +66,24 @@ CASES = {
     'loop': ({'loop': 1}, {'loop': NUMBER}),
     'edge': ({'edge': 1}, {'edge': NUMBER}),
     'vertex': ({'vertex': 1}, {'vertex': NUMBER}),
-    'faces': ({}, {'solid': GIVEN, 'plane': (*PLANE[:2], *PLANE[3:], (0, 0, 0, 1)), 'normal': ((0, 0), (0, 0, 0), 'abc', (0, 0, 1.0)),
+    'faces': ({}, {'solid': GIVEN, 'plane': (*PLANE[:2], *PLANE[3:], (0, 0, 0, 1)), 'normal': ((0, 0), (0, 0, 0), 'abc', (0, 0, nan)),
                    'containing': ((0, 0), 'abc', (0, 0, True)), 'area': MEASURE}),
     'edges': ({}, {'solid': GIVEN, 'between': ((1,), 1, 'ab', (1, '2'), (1, 2, 3)), 'length': MEASURE,
-                   'along': ((0, 0), (0, 0, 0), 'abc', (0, 0, 1.0))}),
+                   'along': ((0, 0), (0, 0, 0), 'abc', (0, 0, nan))}),
     'vertices': ({}, {'solid': GIVEN, 'at': ((0, 0), 'abc', (0, 0, True))}),
     'profile': ({'points': TRIANGLE, 'along': (0, 0, 1)}, {'points': POINTS, 'along': POINT, 'solid': GIVEN}),
     'polyhedron': ({'points': TRIANGLE, 'faces': [(0, 1, 2)]}, {'points': POINTS, 'faces': (None, 1, [], [1], 'ab', [(0, 1, 3)], [(0, 1, -1)], [(0, 1.0, 2)]),
                                                                 'solid': GIVEN}),
-    'sketch': ({'face': 1}, {'face': NUMBER, **dict.fromkeys(('origin', 'right'), tuple(wrong for wrong in POINT if wrong is not None))}),
+    'sketch': ({'face': 1}, {'face': NUMBER, 'origin': tuple(wrong for wrong in POINT if wrong is not None),
+                               **dict.fromkeys(('right', 'up'), ((0, 0), 'abc', (0, 0, nan), 1)), 'plan': (1, 'w', True)}),
+    'near': ({'length': 1}, {'length': LENGTH[:4]}),
     'ring': ({'face': 1, 'points': TRIANGLE}, {'face': NUMBER, 'points': POINTS}),
     'pocket': ({'face': 1, 'points': TRIANGLE, 'depth': 1}, {'face': NUMBER, 'points': POINTS, 'depth': LENGTH}),
     'boss': ({'face': 1, 'points': TRIANGLE, 'height': 1}, {'face': NUMBER, 'points': POINTS, 'height': LENGTH}),
     'hole': ({'face': 1, 'points': TRIANGLE}, {'face': NUMBER, 'points': POINTS}),
     'drill': ({'face': 1, 'center': P, 'radius': 1, 'sides': 4},
-              {'face': NUMBER, 'center': POINT, 'radius': LENGTH, 'sides': (*LENGTH[:3], *LENGTH[4:], 2, 10 ** 6 + 1),
-               'depth': LENGTH[:3] + LENGTH[4:], 'diameter': (*LENGTH[:3], *LENGTH[4:], 2), 'circle': (1, None, 'corner'), 'within': (-1, True, None, '1')}),
+              {'face': NUMBER, 'center': POINT, 'radius': LENGTH, 'sides': (True, 1.0, '1', 0, -1, 2 ** 63, 2, 10 ** 6 + 1),
+               'depth': LENGTH[:3] + LENGTH[4:], 'diameter': (*LENGTH[:3], *LENGTH[4:], 2), 'circle': (1, None, 'corner'), 'within': (-1, True, None, 'wide')}),
     'glue_all': ({'solids': [1]}, {'solids': (None, 1, '12', [], [1, 1], [1, '2'], [1, 2.0])}),
 }
 CASES.update(solid_cases(NUMBER, GIVEN, POINT, PLANE, POINTS, LENGTH, FLAG))
@@ -90,13 +93,13 @@ CASES.update(dict.fromkeys(('length', 'square_length'), ({'edge': 1}, {'edge': H
 CASES.update(dict.fromkeys(('distance', 'square_distance'), ({'face': 1, 'other': 2}, {'face': NUMBER, 'other': NUMBER})))
 CASES.update(dict.fromkeys(('section', 'off_lattice'), ({'solid': 1, 'plane': (1, 0, 0, 0)}, {'solid': NUMBER, 'plane': PLANE})))
 CASES.update(dict.fromkeys(('half_edges_array', 'triangles_array'), ({}, {'solid': GIVEN})))
-CASES['inertia'] = ({'solid': 1}, {'solid': NUMBER, 'about': (True, 1, 'abc', (0, 0), (0, 0, 1.0), (0, True, 0), (0, 0, None))})
+CASES['inertia'] = ({'solid': 1}, {'solid': NUMBER, 'about': (True, 1, 'abc', (0, 0), (0, 0, nan), (0, True, 0), (0, 0, None))})
 CASES['label'] = ({'thing': 1}, {'thing': (*NUMBER, 1), 'name': (1, None, b'Lid'), 'colour': (1, None, b'#FF8000', 'red', '#FF80')})
 CASES['import_file'] = ({'path': 'part.step'}, {
-    'path': (1, None, 1.0, b'part.step'), 'form': (1, None, b'stl', 'dxf'), 'scale': (True, 1.0, '1', None, 0, -1, Fraction(-1, 2)),
+    'path': (1, None, 1.0, b'part.step'), 'form': (1, None, b'stl', 'dxf'), 'scale': (True, nan, 'wide', None, 0, -1, Fraction(-1, 2)),
     'rounded': FLAG, 'keep_triangles': FLAG, 'repair': FLAG})
 CASES['export'] = ({'path': 'part.step'}, {'path': (1, None, 1.0, b'part.step')})
-WITHOUT_ARGUMENTS = {'close', 'draft', 'group', 'listing', 'page', 'script', 'show', 'solids', 'save', 'load', 'labels', 'unit',
+WITHOUT_ARGUMENTS = {'close', 'draft', 'group', 'listing', 'page', 'script', 'show', 'solids', 'save', 'load', 'labels', 'step',
                      'renumber', 'vertices_array'}
 
 
@@ -116,7 +119,7 @@ class Arguments(unittest.TestCase):
     """All of the methods, over the transport that the environment names."""
 
     def setUp(self):
-        self.bench = Workbench(library())
+        self.bench = Workbench(library(), step=STEP)
         self.lines = self.bench._kernel.lines
         self.addCleanup(self.lines.close)
         self.bench._kernel.lines = Silent()
@@ -142,7 +145,7 @@ class Things(unittest.TestCase):
              'mev': {'first': 'edge', 'second': 'edge'}, 'kev': {'half': 'edge'}, 'mef': {'first': 'edge', 'second': 'edge'}, 'kef': {'half': 'edge'},
              'kemr': {'half': 'edge'}, 'mekr': {'first': 'edge', 'second': 'edge'}, 'sweep': {'face': 'face'},
              'glue': {'face': 'face', 'other': 'face'}, 'split': {'solid': 'solid'}, 'plane': {'face': 'face'}, 'volume': {'solid': 'solid'},
-             'six_volume': {'solid': 'solid'}, 'count': {'solid': 'solid'}, 'half_edges': {'loop': 'loop'}, 'solid': {'solid': 'solid'},
+             'count': {'solid': 'solid'}, 'half_edges': {'loop': 'loop'}, 'solid': {'solid': 'solid'},
              'face': {'face': 'face'}, 'loop': {'loop': 'loop'}, 'edge': {'edge': 'edge'}, 'vertex': {'vertex': 'vertex'},
              'faces': {'solid': 'solid'}, 'edges': {'solid': 'solid'}, 'vertices': {'solid': 'solid'}, 'ring': {'face': 'face'}, 'sketch': {'face': 'face'},
              'pocket': {'face': 'face'}, 'boss': {'face': 'face'}, 'hole': {'face': 'face'}, 'drill': {'face': 'face'},
@@ -152,7 +155,8 @@ class Things(unittest.TestCase):
     ALL = ('solid', 'face', 'loop', 'edge', 'vertex')
 
     def setUp(self):
-        self.bench, self.other = Workbench(library()), Workbench(library())
+        step = step_of(self, 'test_a_plane_as_it_is_returned', 'test_errors_are_copied_and_pickled')
+        self.bench, self.other = Workbench(library(), step=step), Workbench(library(), step=step)
         self.addCleanup(self.bench.close)
         self.addCleanup(self.other.close)
         for bench in (self.bench, self.other):
@@ -188,7 +192,7 @@ class Things(unittest.TestCase):
         self.refused(TypeError, r'^solids\[0\]: a solid is wanted, not the face 1$', 'glue_all', 'solids', [bench.face(1)])
         self.refused(ValueError, r'^solids\[0\]: the solid 1 is of another workbench$', 'glue_all', 'solids', [other.solid(1)])
         self.refused(TypeError, r'^between\[1\]: a face is wanted, not the edge 1$', 'edges', 'between', (bench.face(1), bench.edge(1)))
-        self.refused(TypeError, r'^point\[0\]: a whole number is wanted, not the face 1$', 'block', 'point', (bench.face(1), 0, 0))
+        self.refused(TypeError, r'^point\[0\]: a length .* is wanted, not the face 1$', 'block', 'point', (bench.face(1), 0, 0))
         self.refused(TypeError, r'^first.loop: a loop is wanted, not the face 1$', 'mev', 'first', Lone(bench.face(1)))
 
     def test_things_of_the_right_kind(self):
@@ -224,7 +228,7 @@ class Things(unittest.TestCase):
         for part in (bench.solid(second), bench.face(second.top), bench.edge(second.edges[0]), bench.vertex(second.vertices[0])):
             self.assertRaises(KeyError, moved.of, part)
         self.assertRaisesRegex(TypeError, '^part: a thing of the model is wanted, not the int 3$', moved.of, 3)
-        with Workbench(library()) as other:
+        with Workbench(library(), step=STEP) as other:
             other.block((0, 0, 0), (1, 1, 1))
             for part in (other.solid(first), other.face(first.top), other.edge(first.edges[0])):
                 self.assertRaisesRegex(ValueError, ' of another workbench$', moved.of, part)

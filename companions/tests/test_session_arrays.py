@@ -11,7 +11,7 @@ class Arrays(unittest.TestCase):
     """A block with a hole through it, and another one."""
 
     def setUp(self):
-        self.bench = Workbench(library())
+        self.bench = Workbench(library(), step=1)
         self.addCleanup(self.bench.close)
         block = self.bench.block((0, 0, 0), (9, 9, 9))
         self.bench.hole(block.top, [(3, 3, 9), (6, 3, 9), (6, 6, 9), (3, 6, 9)])
@@ -43,7 +43,7 @@ class Arrays(unittest.TestCase):
             rows = self.bench.triangles_array(solid).tolist()
             self.assertEqual(len(rows), count)
             self.assertEqual(sum(_six_volume(*(points[vertex] for vertex in row[1:])) for row in rows),
-                             sum(self.bench.six_volume(number) for number in ((1, 7) if solid is None else (solid,))))
+                             sum(6 * self.bench.volume(number) for number in ((1, 7) if solid is None else (solid,))))
 
     def test_they_stay_what_they_are(self):
         rows = self.bench.vertices_array()
@@ -55,7 +55,7 @@ class Arrays(unittest.TestCase):
         tetrahedron = self.bench.polyhedron([(0, 0, 0), (6, 0, 0), (0, 6, 0), (0, 0, 6)], [(0, 2, 1), (0, 1, 3), (1, 2, 3), (0, 3, 2)])
         self.assertEqual((self.bench.volume(tetrahedron), tetrahedron.solid), (36, 9))
         self.assertEqual([self.bench.vertex(vertex).point for vertex in tetrahedron.vertices], [(0, 0, 0), (6, 0, 0), (0, 6, 0), (0, 0, 6)])
-        self.assertEqual([self.bench.face(face).normal for face in tetrahedron.faces], [(0, 0, -36), (0, -36, 0), (36, 36, 36), (-36, 0, 0)])
+        self.assertEqual([self.bench.face(face).normal for face in tetrahedron.faces], [(0, 0, -1), (0, -1, 0), (1, 1, 1), (-1, 0, 0)])
         self.bench.undo()
         places = {row[0]: place for place, row in enumerate(self.bench.vertices_array().tolist())}
         triangles = [[places[vertex] for vertex in row[1:]] for row in self.bench.triangles_array().tolist()]

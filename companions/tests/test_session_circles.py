@@ -15,15 +15,15 @@ class Circles(unittest.TestCase):
 
     def setUp(self):
         self.bench = self.opened(1)
-        self.plate = self.plate_of(self.bench, 1)
+        self.plate = self.plate_of(self.bench)
 
-    def opened(self, unit):
-        bench = Workbench(library(), unit=unit)
+    def opened(self, step):
+        bench = Workbench(library(), step=step)
         self.addCleanup(bench.close)
         return bench
 
-    def plate_of(self, bench, times):
-        return bench.block((0, 0, 0), (100 * times, 100 * times, 10 * times))
+    def plate_of(self, bench):
+        return bench.block((0, 0, 0), (100, 100, 10))
 
     def test_a_sketch_has_the_corners_of_a_drill(self):
         sketch, tried = self.bench.sketch(self.plate.top), 0
@@ -43,34 +43,34 @@ class Circles(unittest.TestCase):
 
     def test_what_lies_on_the_circle(self):
         bench = self.opened(Fraction(1, 1000))
-        top = self.plate_of(bench, 1000).top
+        top = self.plate_of(bench).top
         for circle, least, greatest in (('corners', 4.619, 5.001), ('flats', 5, 5.413), ('area', 4.868, 5.271)):
-            hole = bench.drill(top, (50000, 50000, 10000), 5000, 8, circle=circle)
+            hole = bench.drill(top, (50, 50, 10), 5, 8, circle=circle)
             self.assertLessEqual(least, hole.reach[0])
             self.assertLess(hole.reach[0], hole.reach[1])
             self.assertLessEqual(hole.reach[1], greatest)
-            gone = (100_000 * 100_000 - bench.volume(1) / 10_000) / 1000 ** 2
+            gone = 100 * 100 - bench.volume(1) / 10
             self.assertTrue(circle != 'area' or abs(gone / 25 - Fraction(pi)) < Fraction(1, 1000))
             bench.undo()
 
     def test_sides_are_chosen(self):
         bench = self.opened(Fraction(1, 1000))
-        top = self.plate_of(bench, 1000).top
+        top = self.plate_of(bench).top
         for radius, within, sides in ((5, '1/20', 24), (20, '1/20', 48), (20, '1/2', 16), (1, '1/20', 12), (1, '1', 8)):
-            hole = bench.drill(top, (50000, 50000, 10000), 1000 * radius, within=Fraction(within), depth=1000)
+            hole = bench.drill(top, (50, 50, 10), radius, within=within, depth=1)
             self.assertEqual(len(hole.sides), sides)
             self.assertGreater(hole.reach[0], radius - Fraction(within) - Fraction(1, 500))
             bench.undo()
 
     def test_what_lies_far_beside_the_circle_is_told(self):
-        with self.assertWarnsRegex(UserWarning, '^drill: sides and corners lie 4.851 to 5.657 from the center of a circle of radius 5; a finer unit'):
+        with self.assertWarnsRegex(UserWarning, '^drill: sides and corners lie 4.851 to 5.657 from the center of a circle of radius 5 mm; a finer step'):
             self.bench.drill(self.plate.top, (50, 50, 10), radius=5, sides=8)
         with self.assertWarnsRegex(UserWarning, '^polygon: sides and corners lie '):
             self.bench.sketch(self.plate.bottom).polygon((20, 20), 3, 8)
         fine = self.opened(Fraction(1, 100))
         with warnings.catch_warnings():
             warnings.simplefilter('error')
-            fine.drill(self.plate_of(fine, 100).top, (5000, 5000, 1000), radius=500, sides=8)
+            fine.drill(self.plate_of(fine).top, (50, 50, 10), radius=5, sides=8)
 
     def test_by_its_diameter(self):
         for words in ({'diameter': 20}, {'diameter': 21}, {'diameter': 21, 'depth': 4}, {'radius': 10, 'circle': 'flats', 'depth': 4}):

@@ -33,7 +33,7 @@ class Stepwise(unittest.TestCase):
     """A bench, and what each step on it leaves."""
 
     def setUp(self):
-        self.bench = Workbench(library())
+        self.bench = Workbench(library(), step=1)
         self.addCleanup(self.bench.close)
 
     def one_step(self, act):
@@ -282,7 +282,7 @@ class RandomCuts(unittest.TestCase):
     def test_oblique_cuts_are_taken_back_by_unions(self):
         told = Counter()
         for seed in range(int(os.environ.get('RANDOM_CUTS', 12))):
-            with self.subTest(seed=seed), Workbench(library()) as bench:
+            with self.subTest(seed=seed), Workbench(library(), step=1) as bench:
                 self.try_part(World(bench, Random(seed)), told)
         self.assertGreater(told['made anew'], 0)
         self.assertGreater(told['split'], 0)

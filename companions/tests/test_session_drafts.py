@@ -10,6 +10,7 @@ from support import as_listed, library
 
 from gwb import Complaint, InDraft, Lone, MemoryRefused, NoDraft, Refused, Unfit, Workbench
 from gwb.errors import Ended
+from gwb.protocol.language import is_answered
 
 TRIANGLE = [(1, 1, 9), (4, 1, 9), (1, 4, 9)]
 
@@ -28,7 +29,7 @@ class Drafts(unittest.TestCase):
     """Over a block, after which another one can be redone."""
 
     def setUp(self):
-        self.bench = Workbench(library())
+        self.bench = Workbench(library(), step=1)
         self.addCleanup(self.bench.close)
         self.block = self.bench.block((0, 0, 0), (9, 9, 9))
         self.bench.block((20, 0, 0), (1, 1, 1))
@@ -126,7 +127,7 @@ class Drafts(unittest.TestCase):
             'profile': lambda: bench.profile(TRIANGLE, along=(0, 0, 1)), 'pocket': lambda: bench.pocket(top, TRIANGLE, 1),
             'boss': lambda: bench.boss(top, TRIANGLE, 1), 'hole': lambda: bench.hole(top, TRIANGLE),
             'drill': lambda: bench.drill(top, (4, 4, 9), 2, 4), 'glue_all': lambda: bench.glue_all([1, bench.block((9, 0, 0), (4, 9, 9))]),
-            'finer': lambda: bench.split(1, (2, 0, 0, -7), scale=True), 'trim': lambda: bench.trim(1, (1, 0, 0, -4)),
+            'finer': lambda: bench.split(1, (2, 0, 0, -7), refine=True), 'trim': lambda: bench.trim(1, (1, 0, 0, -4)),
             'cut': lambda: bench.cut(1, (1, -1, 0, 0), keep='above'), 'notch': lambda: bench.notch(top, [(0, 0, 9), (2, 0, 9), (2, 2, 9)], 1),
             'copy': lambda: bench.copy(1, move=(0, 0, 20)), 'delete': lambda: bench.delete(1), 'scale': lambda: bench.scale(2),
             'pattern': lambda: bench.pattern(1, 2, (20, 0, 0)), 'mirror': lambda: bench.mirror(1, (1, 0, 0, 0)),
@@ -292,7 +293,7 @@ class Twelve(unittest.TestCase):
     """A hole through a block, which gets longer by a block that is cut and glued on: twelve commands, with numbers of their own."""
 
     def setUp(self):
-        self.bench = bench = Workbench(library())
+        self.bench = bench = Workbench(library(), step=1)
         self.addCleanup(bench.close)
         bench.block((0, 0, 0), (9, 9, 9))
         bench.block((0, 20, 0), (1, 1, 1))
@@ -522,7 +523,7 @@ class RandomDrafts(unittest.TestCase):
 
     def test_random_drafts(self):
         for seed in range(int(os.environ.get('RANDOM_DRAFTS', 400)) // 40):
-            with Workbench(library()) as bench:
+            with Workbench(library(), step=1) as bench:
                 self.play(bench, Random(seed), seed)
 
     def play(self, bench, random, seed):
@@ -615,7 +616,7 @@ class RandomLargerDrafts(unittest.TestCase):
 
     def test_random_drafts_with_larger_commands(self):
         for seed in range(int(os.environ.get('RANDOM_DRAFTS', 400)) // 20):
-            with Workbench(library()) as self.bench:
+            with Workbench(library(), step=1) as self.bench:
                 self.random, self.seed = Random(seed), seed
                 self.bench.block((0, 0, 0), (8, 8, 8))
                 for _ in range(5):
@@ -681,7 +682,7 @@ class RandomLargerDrafts(unittest.TestCase):
             lambda: bench.block((x, y, 20), (size, 8, 8)), lambda: bench.lamina([(x, y, 0), (x + size, y, 0), (x, y + size, 0)]),
             lambda: bench.sweep(face, [2 * (part > 0) - 2 * (part < 0) for part in face.normal]),
             lambda: bench.glue(face, random.choice(bench.faces())), self.glued, lambda: bench.split(solid, (1, 0, 0, -x - 2)),
-            lambda: bench.split(solid, (1, -1, 0, 0)), lambda: bench.split(solid, (0, 2, 3, -17), scale=True),
+            lambda: bench.split(solid, (1, -1, 0, 0)), lambda: bench.split(solid, (0, 2, 3, -17), refine=True),
             lambda: bench.ask(f'split {solid.number} 0 0 1 -{size} {random.randrange(50, 99)}'), lambda: bench.ask(f'sweep {face.number} 0 0 {x}')))()
 
     def glued(self):
@@ -707,9 +708,9 @@ class RandomLargerDrafts(unittest.TestCase):
     def replayed(self):
         """The lines one by one, and what was saved, make the same."""
         made, script = self.bench.listing(), self.bench.script()
-        with Workbench(library()) as other, tempfile.TemporaryDirectory() as folder:
-            for line in script.splitlines():
-                self.assertEqual(other.ask(line).lines, ('ok',), (self.seed, line))
+        with Workbench(library(), step=1) as other, tempfile.TemporaryDirectory() as folder:
+            for line in filter(is_answered, script.encode().splitlines()):
+                self.assertEqual(other.ask(line.decode()).lines, ('ok',), (self.seed, line))
             self.assertEqual(other.listing(), made, self.seed)
             self.bench.save(f'{folder}/part.gwb')
             with Workbench.load(f'{folder}/part.gwb', library()) as again:

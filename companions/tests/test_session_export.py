@@ -6,7 +6,7 @@ import unittest
 import warnings
 from fractions import Fraction
 
-from support import COMPANIONS, bench_and_folder, library
+from support import COMPANIONS, STEP, bench_and_folder, library
 
 from gwb import Refused, Unfit, Workbench
 from gwb.formats.appearance import Appearance, appearances_in
@@ -80,7 +80,7 @@ class Exports(unittest.TestCase):
         for made in (self.bench.copy(self.base, move=(0, 50, 0)), *self.bench.pattern(self.base, 3, (50, 0, 0))):
             self.assertEqual((self.bench.labels['solid', made.solid], self.bench.labels['face', made.face(self.base.top)]), (base, top))
         for cut in (lambda: self.bench.split(self.base, (1, 0, 0, -2)).solid,
-                    lambda: self.bench.cut(self.base, (0, 2, 0, -5), scale=True).above):
+                    lambda: self.bench.cut(self.base, (0, 2, 0, -5), refine=True).above):
             held = set(self.bench.labels)
             made = cut()
             part = self.bench.faces(solid=made).top().one()
@@ -134,7 +134,7 @@ class Exports(unittest.TestCase):
             self.bench.label(self.bench.solid(1), colour='red')
         with self.assertRaises(Refused):
             self.bench.label(self.bench.solid(99), 'Lid')
-        with Workbench(library()) as second:
+        with Workbench(library(), step=STEP) as second:
             second.block((0, 0, 0), (1, 1, 1))
             with self.assertRaises(ValueError):
                 self.bench.label(second.solid(1), 'Lid')
@@ -174,7 +174,7 @@ class Exports(unittest.TestCase):
             self.bench.export(self.folder / 'part.obj')
 
     def test_nothing_is_no_file(self):
-        with Workbench(library()) as bench:
+        with Workbench(library(), step=STEP) as bench:
             for ending in FORMS:
                 self.assertRaisesRegex(Unfit, 'no solid is held', bench.export, self.folder / f'none{ending}')
             bench.export(self.folder / 'none.html')

@@ -34,7 +34,7 @@ class Parts(unittest.TestCase):
     def test_each_part(self):
         self.assertGreaterEqual(len(PARTS), 12)
         for path in PARTS:
-            with self.subTest(path.stem), Workbench(library()) as bench:
+            with self.subTest(path.stem), Workbench(library(), step=1) as bench:
                 self.try_part(bench, part(path))
 
     def try_part(self, bench, module):
@@ -57,7 +57,7 @@ class RandomFeatures(unittest.TestCase):
     def test_random_pockets_and_holes(self):
         random, left, made = Random(7), int(os.environ.get('RANDOM_FEATURES', 60)), 0
         while left > 0:
-            with Workbench(library()) as bench:
+            with Workbench(library(), step=1) as bench:
                 bench.block((0, 0, 0), (30, 20, 10))
                 count = min(left, 10)
                 made += sum(self.try_feature(bench, random) for _ in range(count))
@@ -102,7 +102,7 @@ class Refusals(unittest.TestCase):
     """What isn't possible is refused by name, and nothing has changed."""
 
     def setUp(self):
-        self.bench = Workbench(library())
+        self.bench = Workbench(library(), step=1)
         self.addCleanup(self.bench.close)
         self.block = self.bench.block((0, 0, 0), (10, 10, 10))
 
@@ -329,7 +329,7 @@ class Scripts(unittest.TestCase):
     """Scripts written and taken up again."""
 
     def test_steps_are_saved_and_loaded(self):
-        with Workbench(library()) as bench, tempfile.TemporaryDirectory() as folder:
+        with Workbench(library(), step=1) as bench, tempfile.TemporaryDirectory() as folder:
             block = bench.block((0, 0, 0), (9, 9, 9))
             bench.pocket(block.top, [(1, 1, 9), (4, 1, 9), (1, 4, 9)], 2)
             with bench.group():
@@ -376,7 +376,7 @@ class Scripts(unittest.TestCase):
                     Workbench.load(f'{folder}/{name}', library())
 
     def test_save_and_load(self):
-        with Workbench(library()) as bench, tempfile.TemporaryDirectory() as folder:
+        with Workbench(library(), step=1) as bench, tempfile.TemporaryDirectory() as folder:
             block = bench.block((0, 0, 0), (9, 9, 9))
             bench.drill(block.top, (4, 4, 9), 2, 8)
             bench.block((20, 0, 0), (1, 1, 1))
@@ -388,7 +388,7 @@ class Scripts(unittest.TestCase):
                 self.assertEqual(again.block((40, 0, 0), (1, 1, 1))[1:], bench.block((40, 0, 0), (1, 1, 1))[1:])
 
     def test_a_listing_is_taken_up_again(self):
-        with Workbench(library()) as bench, tempfile.TemporaryDirectory() as folder:
+        with Workbench(library(), step=1) as bench, tempfile.TemporaryDirectory() as folder:
             block = bench.block((0, 0, 0), (9, 9, 9))
             bench.drill(block.top, (4, 4, 9), 2, 8)
             Path(folder, 'replies').write_text('\n'.join(bench.ask('list').lines) + '\n')
@@ -396,7 +396,7 @@ class Scripts(unittest.TestCase):
                 self.assertEqual(again.listing(), bench.listing())
 
     def test_it_is_shown(self):
-        with Workbench(library()) as bench:
+        with Workbench(library(), step=1) as bench:
             bench.block((0, 0, 0), (1, 1, 1))
             with mock.patch('webbrowser.open') as opened:
                 path = bench.show()
@@ -406,7 +406,7 @@ class Scripts(unittest.TestCase):
             self.assertIn('&lt;!DOCTYPE html&gt;', bench._repr_html_())
 
     def test_it_draws_itself(self):
-        with Workbench(library()) as bench:
+        with Workbench(library(), step=1) as bench:
             self.assertIsNone(bench._repr_svg_())
             bench.block((0, 0, 0), (1, 1, 1))
             self.assertTrue(bench._repr_svg_().startswith('<svg'))

@@ -37,7 +37,7 @@ class Imports(unittest.TestCase):
     """A bench that holds a block, whose numbers the files have too."""
 
     def setUp(self):
-        self.bench, self.folder = bench_and_folder(self)
+        self.bench, self.folder = bench_and_folder(self, 1)
         self.block = self.bench.block((100, 0, 0), (2, 3, 4))
 
     def written(self, name, text):
@@ -57,7 +57,7 @@ class Imports(unittest.TestCase):
         """What the file has comes beside what is held, as the importer says, by one command."""
         before, script, model = self.bench.listing(), self.bench.script(), imported(str(path))
         made = self.bench.import_file(path)
-        self.assertEqual([self.bench.six_volume(solid) for solid in made], [six_volume(model, model.faces_of(solid)) for solid in model.solids])
+        self.assertEqual([6 * self.bench.volume(solid) for solid in made], [six_volume(model, model.faces_of(solid)) for solid in model.solids])
         self.assertEqual([self.bench.bounding_box(solid).sizes for solid in made], [_sizes(model.only(solid)) for solid in model.solids])
         self.assertEqual(self.bench.solids().numbers, (*before.solids, *made.numbers))
         after = self.bench.listing()
@@ -96,7 +96,8 @@ class Imports(unittest.TestCase):
         self.assertEqual(self.bench.volume(self.bench.import_file(near, within=Fraction(1, 1000)).one()), 36)
         self.assertEqual(self.bench.volume(self.bench.import_file(self.written('part.ply', ply()), within=0).one()), 36)
         self.assertRaisesRegex(ValueError, '^within: -1 is below zero$', self.bench.import_file, near, within=-1)
-        self.assertRaisesRegex(TypeError, '^within: a whole number or a fraction is wanted', self.bench.import_file, near, within=0.001)
+        self.assertEqual(self.bench.volume(self.bench.import_file(near, within=0.001).one()), 36)
+        self.assertRaisesRegex(TypeError, '^within: a length .* is wanted', self.bench.import_file, near, within=None)
 
     def test_mended(self):
         twisted = STORED / 'programs' / 'blender_flipped.obj'
@@ -174,8 +175,8 @@ class Imports(unittest.TestCase):
 
     def test_points_that_are_moved_are_told(self):
         path = self.folder / 'part.stl'
-        with Workbench(library(), unit=Fraction(1, 60)) as fine:
-            fine.block((0, 0, 0), (75, 60, 60))
+        with Workbench(library(), step=Fraction(1, 60)) as fine:
+            fine.block((0, 0, 0), (1.25, 1, 1))
             fine.export(path)
         with self.assertWarnsRegex(UserWarning, 'part.stl: points were moved by 0.25 mm at most$'):
             made = self.bench.import_file(path, rounded=True)

@@ -3,7 +3,7 @@
 import unittest
 from fractions import Fraction
 
-from support import library
+from support import STEP, library, step_of
 
 from gwb import NotParallel, NoVolume, Refused, Workbench
 
@@ -12,7 +12,7 @@ class Measures(unittest.TestCase):
     """A block of 2 by 3 by 6, and one of 5 beside it."""
 
     def setUp(self):
-        self.bench = Workbench(library())
+        self.bench = Workbench(library(), step=step_of(self, 'test_cuts_off_the_lattice', 'test_planes_out_of_range'))
         self.addCleanup(self.bench.close)
         self.block = self.bench.block((0, 0, 0), (2, 3, 6))
         self.other = self.bench.block((100, 0, 0), (5, 5, 5))
@@ -54,14 +54,14 @@ class Measures(unittest.TestCase):
             self.bench.split(self.block.solid, plane)
         cut = self.bench.off_lattice(self.block.solid, plane)
         self.assertTrue(cut.off_lattice)
-        near = [near.plane for near in (cut.parallel, *cut.tilted) if near is not None]
+        near = [near for near in (cut.parallel, *cut.tilted) if near is not None]
         self.assertTrue(near)
         for instead in near:
             self.bench.split(self.block.solid, instead)
             self.assertEqual(self.bench.off_lattice(self.block.solid, instead).factor, 1)
             self.bench.undo()
-        self.bench.scale(cut.factor)
-        self.bench.split(self.block.solid, cut.scaled_plane)
+        self.bench.refine(cut.factor)
+        self.bench.split(self.block.solid, plane)
 
     def test_planes_out_of_range(self):
         """What split refuses for the plane itself is no cut off the lattice."""
@@ -95,7 +95,7 @@ class Measures(unittest.TestCase):
     def test_things_of_another_kind_or_bench(self):
         with self.assertRaises(TypeError):
             self.bench.centroid(self.bench.face(self.block.top))
-        with Workbench(library()) as second:
+        with Workbench(library(), step=STEP) as second:
             second.block((0, 0, 0), (1, 1, 1))
             with self.assertRaises(ValueError):
                 self.bench.centroid(second.solid(1))

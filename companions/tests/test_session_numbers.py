@@ -114,7 +114,7 @@ class Numbers(unittest.TestCase):
     def test_random_commands(self):
         left, seed = int(os.environ.get('RANDOM_COMMANDS', 2000)), 0
         while left > 0:
-            with Workbench(library()) as bench:
+            with Workbench(library(), step=1) as bench:
                 left, seed = left - self.play(bench, seed, min(left, 25)), seed + 1
 
     def play(self, bench, seed, count):
@@ -157,7 +157,7 @@ class Steps(unittest.TestCase):
     """Undo and redo by features and by commands."""
 
     def setUp(self):
-        self.bench = Workbench(library())
+        self.bench = Workbench(library(), step=1)
         self.addCleanup(self.bench.close)
 
     def test_a_feature_is_one_step(self):

@@ -91,7 +91,7 @@ class Room(unittest.TestCase):
         wanted, made, met, seed = int(os.environ.get('RANDOM_ROOM', 100)), 0, 0, 0
         while made + met < wanted:
             seed += 1
-            with Workbench(library()) as bench:
+            with Workbench(library(), step=1) as bench:
                 parts = Parts(bench, Random(seed))
                 parts.make()
                 for _ in range(60):

@@ -34,8 +34,8 @@ class Shaped(Stepwise):
     def test_a_slot(self):
         made = self.one_step(lambda: self.bench.slot(self.top, (20, 0, 10), (20, 20, 10), 6, 4))
         self.assertEqual((self.missing(), self.count(1)), (480, (16, 24, 10, 0)))
-        self.assertEqual(self.bench.plane(made.floor[0])[:4], (0, 0, 240, -1440))
-        self.assertEqual({self.bench.face(wall).normal for wall in made.walls}, {(160, 0, 0), (-160, 0, 0)})
+        self.assertEqual(self.bench.plane(made.floor[0])[:4], (0, 0, 1, -6))
+        self.assertEqual({self.bench.face(wall).normal for wall in made.walls}, {(1, 0, 0), (-1, 0, 0)})
 
     def test_a_slot_askew_that_ends_inside(self):
         made = self.one_step(lambda: self.bench.slot(self.top, (8, 5, 10), (20, 14, 10), 10, 5))
@@ -96,7 +96,7 @@ class Shaped(Stepwise):
     def test_a_chamfer(self):
         edge = self.edge((40, 0, 10), (40, 20, 10))
         made = self.one_step(lambda: self.bench.chamfer(edge, 3))
-        self.assertEqual((self.missing(), self.count(1), self.bench.face(made).normal), (90, (10, 15, 7, 0), (120, 0, 120)))
+        self.assertEqual((self.missing(), self.count(1), self.bench.face(made).normal), (90, (10, 15, 7, 0), (1, 0, 1)))
         self.bench.undo()
         self.one_step(lambda: self.bench.chamfer(edge, 2, 5))
         self.assertEqual(self.missing(), 100)
@@ -114,7 +114,7 @@ class Shaped(Stepwise):
     def test_an_inner_edge_is_filled(self):
         self.bench.shoulder(self.top, self.edge((40, 0, 10), (40, 20, 10)), 6, 4)
         made = self.one_step(lambda: self.bench.chamfer(self.edge((34, 0, 6), (34, 20, 6)), 2))
-        self.assertEqual((self.missing(), self.bench.face(made).normal), (440, (80, 0, 80)))
+        self.assertEqual((self.missing(), self.bench.face(made).normal), (440, (1, 0, 1)))
 
     def test_few_commands_whatever_else_there_is(self):
         for x in range(2, 38, 4):

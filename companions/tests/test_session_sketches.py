@@ -3,7 +3,7 @@
 import unittest
 from fractions import Fraction
 
-from support import library
+from support import STEP, library
 
 from gwb import Refused, Workbench
 from gwb.geometry.measures import area_vector
@@ -14,7 +14,7 @@ class Sketched(unittest.TestCase):
     """A block of 40 by 20 by 10."""
 
     def setUp(self):
-        self.bench = Workbench(library())
+        self.bench = Workbench(library(), step=STEP)
         self.addCleanup(self.bench.close)
         self.block = self.bench.block((100, 200, 300), (40, 20, 10))
 
@@ -56,17 +56,18 @@ class Sketches(Sketched):
         slope = self.bench.profile([(0, 0, 0), (30, 0, 0), (30, 40, 0)], along=(0, 0, 9))
         face = self.bench.faces(solid=slope.solid, containing=(15, 20, 4)).one()
         sketch = self.bench.sketch(face)
-        self.assertEqual((sketch.origin, sketch.right, sketch.up), ((0, 0, 0), (0, 0, 5), (3, 4, 0)))
+        self.assertEqual((sketch.origin, sketch.right, sketch.up), ((0, 0, 0), (0, 0, 1), (Fraction(3, 5), Fraction(4, 5), 0)))
         sketch = self.bench.sketch(face, origin=(3, 4, 2), right=(3, 4, 0))
-        self.assertEqual((sketch.right, sketch.up), ((3, 4, 0), (0, 0, -5)))
-        self.bench.pocket(face, sketch.rectangle((1, -1), (2, 1)), 5)
+        self.assertEqual((sketch.right, sketch.up), ((Fraction(3, 5), Fraction(4, 5), 0), (0, 0, -1)))
+        self.bench.pocket(face, sketch.rectangle((5, -5), (10, 5)), 5)
         self.assertEqual(self.bench.volume(slope), 5400 - 250)
 
     def test_what_is_no_sketch(self):
         self.refused('NoFace', 99)
         self.refused('NotInPlane', self.block.top, origin=(100, 200, 300))
         self.refused('NotInPlane', self.block.top, right=(0, 0, 1))
-        self.refused('NotInPlane', self.block.top, right=(0, 0, 0))
+        self.refused('NotInPlane', self.block.top, up=(0, 0, 1))
+        self.assertRaisesRegex(ValueError, '^right: it is zero$', self.bench.sketch, self.block.top, right=(0, 0, 0))
         corner = self.bench.profile([(0, 0, 0), (9, 0, 0), (0, 9, 0)], along=(0, 0, 9)).solid
         self.bench.split(corner, (1, 1, 1, -9))
         cap = self.bench.faces(solid=corner, normal=(1, 1, 1)).one()
@@ -80,10 +81,10 @@ class Sketches(Sketched):
         sketch = self.bench.sketch(1)
         for error, words, draw in (
                 (TypeError, r'^spots: a sequence is wanted, not the int 5$', lambda: sketch.points(5)),
-                (ValueError, r'^spots\[1\]: 2 whole numbers are wanted, not 3$', lambda: sketch.points([(0, 0), (1, 2, 3)])),
+                (ValueError, r'^spots\[1\]: 2 numbers are wanted, not 3$', lambda: sketch.points([(0, 0), (1, 2, 3)])),
                 (TypeError, r'^corner: a sequence is wanted, not None$', lambda: sketch.rectangle(None, (1, 1))),
-                (TypeError, r'^sizes\[1\]: a whole number is wanted, not the float 2.0$', lambda: sketch.rectangle((0, 0), (1, 2.0))),
-                (ValueError, r'^center: 2 whole numbers are wanted, not 1$', lambda: sketch.polygon((1,), 5, 6))):
+                (TypeError, r'^sizes\[1\]: a number .* is wanted, not the str .wide.$', lambda: sketch.rectangle((0, 0), (1, 'wide'))),
+                (ValueError, r'^center: 2 numbers are wanted, not 1$', lambda: sketch.polygon((1,), 5, 6))):
             self.assertRaisesRegex(error, words, draw)
 
 

@@ -4,7 +4,7 @@ import random
 import unittest
 from fractions import Fraction
 
-from support import library
+from support import library, step_of
 
 from gwb import Refused, Workbench
 
@@ -13,7 +13,7 @@ class Slopes(unittest.TestCase):
     """A workbench for each test."""
 
     def setUp(self):
-        self.bench = Workbench(library())
+        self.bench = Workbench(library(), step=step_of(self, 'test_what_is_refused'))
         self.addCleanup(self.bench.close)
 
     def edges(self, *ends):

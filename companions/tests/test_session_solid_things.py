@@ -2,7 +2,7 @@
 
 import unittest
 
-from support import library
+from support import STEP, library
 
 from gwb import Workbench
 
@@ -11,7 +11,7 @@ class Things(unittest.TestCase):
     """Two benches."""
 
     def setUp(self):
-        self.bench, self.other = Workbench(library()), Workbench(library())
+        self.bench, self.other = Workbench(library(), step=STEP), Workbench(library(), step=STEP)
         self.addCleanup(self.bench.close)
         self.addCleanup(self.other.close)
         self.block = self.bench.block((0, 0, 0), (8, 6, 4))

@@ -2,7 +2,7 @@
 
 import unittest
 
-from support import library, scripts
+from support import library, scripts, step_of
 from voxel_parts import loaded
 
 from gwb import Lone, Refused, Workbench
@@ -34,7 +34,8 @@ class Whole(unittest.TestCase):
     """Each way, and what it leaves."""
 
     def setUp(self):
-        self.bench = Workbench(library())
+        self.bench = Workbench(library(), step=step_of(self, 'test_a_copy_says_what_became_of_each_thing', 'test_a_wire_and_a_bare_solid',
+                                                       'test_points_follow', 'test_where_no_point_can_lie'))
         self.addCleanup(self.bench.close)
 
     def six_volume(self, solid):
@@ -111,7 +112,7 @@ class Whole(unittest.TestCase):
         loop = self.bench.face(block.top).outer.half_edges
         self.bench.mirror(block.solid, (1, 0, 0, 0))
         self.assertEqual(set(self.bench.face(block.top).outer.half_edges), {-half for half in loop})
-        self.assertEqual(self.bench.face(block.top).normal, (0, 0, 4))
+        self.assertEqual(self.bench.face(block.top).normal, (0, 0, 1))
 
     def test_a_copy_says_what_became_of_each_thing(self):
         block = with_hole(self.bench)

@@ -36,7 +36,7 @@ class Followed(unittest.TestCase):
     def test_random_splits(self):
         told = Counter()
         for seed in range(int(os.environ.get('RANDOM_SPLITS', 40))):
-            with self.subTest(seed=seed), Workbench(library()) as bench:
+            with self.subTest(seed=seed), Workbench(library(), step=1) as bench:
                 self.split_all(bench, Random(seed), told)
         for name in ('ok', 'rings', 'TouchedFace', 'CutOften', 'several pairs'):
             self.assertGreater(told[name], 0, name)

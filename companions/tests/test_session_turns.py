@@ -2,7 +2,7 @@
 
 import unittest
 
-from support import library
+from support import STEP, library
 
 from gwb import Refused, Workbench
 from gwb.checks.check import check
@@ -13,7 +13,7 @@ class Turns(unittest.TestCase):
     """A block of 30 by 40 by 20."""
 
     def setUp(self):
-        self.bench = Workbench(library())
+        self.bench = Workbench(library(), step=STEP)
         self.addCleanup(self.bench.close)
         self.block = self.bench.block((0, 0, 0), (30, 40, 20))
 
@@ -60,7 +60,7 @@ class Turns(unittest.TestCase):
         with self.assertRaises(Refused) as caught:
             self.bench.turn(self.block, 'z', to=(12, 5))
         self.assertEqual(caught.exception.name, 'OffLattice')
-        self.assertRegex(str(caught.exception), 'between whole coordinates; times 13 all points are whole$')
+        self.assertRegex(str(caught.exception), 'between whole coordinates; in a step 13 times finer, which refine')
 
     def test_a_ring(self):
         self.bench.label(self.bench.solid(self.block.solid), 'Blade')

@@ -5,7 +5,7 @@ import unittest
 from itertools import product
 from random import Random
 
-from support import library
+from support import STEP, library
 
 from gwb import Impossible, Workbench
 from gwb.checks.check import check
@@ -98,7 +98,7 @@ class Voxels(unittest.TestCase):
     def test_random_parts(self):
         made = tried = 0
         for seed in range(int(os.environ.get('VOXEL_PARTS', 300))):
-            with self.subTest(seed=seed), Workbench(library()) as bench:
+            with self.subTest(seed=seed), Workbench(library(), step=STEP) as bench:
                 part = Part(bench, Random(seed))
                 for turn in range(16):
                     tried, made = tried + 1, made + self.attempt(bench, part, (seed, turn))

@@ -46,10 +46,10 @@ def part(width: int, holes: List[Tuple[int, int]], corner: List[int]) -> Fractio
         bench.kev(bench.edge(spur.edge))
         bench.mev(Lone(bench.loop(1)), Lone(1), (0, 0, len(some)))
         bench.glue_all([plate, bench.solid(2), 3])
-        upper: int = bench.split(plate, [2, 3, 0, -11], scale=True).solid
-        bench.trim(upper, bench.plane(top), scale=True)
-        bench.delete(bench.import_file('part.step', scale=1 / bench.unit, rounded=True).one())
-        return bench.volume(plate) + bench.six_volume(bench.solid(1))
+        upper: int = bench.split(plate, [2, 3, 0, -11], refine=True).solid
+        bench.trim(upper, bench.plane(top), refine=True)
+        bench.delete(bench.import_file('part.step', scale=1 / bench.step, rounded=True).one())
+        return bench.volume(plate) + 6 * bench.volume(bench.solid(1))
 '''
 # What is a fault for mypy stands on the lines with a `#`.
 NOT_TAKEN = '''
@@ -59,7 +59,8 @@ with Workbench() as bench:
     bench.pocket(bench.edge(1), [(0, 0, 0)], 1)  #
     bench.volume(bench.face(1))  #
     bench.kev(bench.vertex(1))  #
-    bench.block((0.5, 0, 0), (1, 1, 1))  #
+    bench.block((None, 0, 0), (1, 1, 1))  #
+    bench.unit  #
 '''
 
 

@@ -13,7 +13,7 @@ from pathlib import Path
 from random import Random
 from tempfile import TemporaryDirectory
 
-from support import COMPANIONS
+from support import COMPANIONS, STEP
 
 sys.path.insert(0, str(COMPANIONS))
 
@@ -399,7 +399,7 @@ def _inner_way(axis, way, along, run):
 def try_part(program, seed, steps=10):
     """One random part: what was made and refused, by name."""
     random = Random(seed)
-    with Workbench(program) as bench:
+    with Workbench(program, step=STEP) as bench:
         world = World(bench, random)
         sizes = [random.randint(3, 6) for _ in AXES]
         made = bench.block((0, 0, 0), tuple(2 * size for size in sizes))

@@ -36,9 +36,9 @@ def moving(by: Vector) -> Change:
     return Change(lambda point: add(point, by))
 
 
-def scaling(factor: int) -> Change:
+def scaling(factor: Exact) -> Change:
     """Multiplies the coordinates of points."""
-    return Change(lambda point: scaled(point, factor))
+    return Change(lambda point: (point[0] * factor, point[1] * factor, point[2] * factor))
 
 
 def turning(axis: str, times: int = 1, about: Vector = ZERO) -> Change:

@@ -34,13 +34,14 @@ class NotParallel(Unfit):
 class BoundingBox:
     """The least box with sides along the axes around a solid."""
 
-    low: Vector
-    high: Vector
+    low: ExactVector
+    high: ExactVector
 
     @property
-    def sizes(self) -> Vector:
+    def sizes(self) -> ExactVector:
         """Its sizes along x, y and z."""
-        return subtract(self.high, self.low)
+        (x, y, z), (u, v, w) = self.low, self.high
+        return (u - x, v - y, w - z)
 
 
 @dataclass(frozen=True)

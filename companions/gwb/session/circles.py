@@ -5,9 +5,9 @@ from fractions import Fraction
 from math import acos, hypot, pi, sqrt
 from typing import List, NamedTuple, Optional, Sequence, Tuple
 
-from ..geometry.plane_figures import Exact
 from . import arguments
 from .bench import warn
+from .lengths import Length, Lengths
 from .library import Library
 
 FITS = ('corners', 'flats', 'area')
@@ -17,7 +17,7 @@ _FEWEST_CHOSEN = 8
 
 
 class Circle(NamedTuple):
-    """A circle that is wanted as a polygon: its diameter in coordinates, the number of sides, and which of its corners, flats and area are the circle's."""
+    """A circle that is wanted as a polygon: its diameter in steps, the number of sides, and which of its corners, flats and area are the circle's."""
 
     diameter: int
     sides: int
@@ -30,18 +30,18 @@ class Circle(NamedTuple):
             raise ValueError(f'a circle {self.diameter} wide is out of range')
         return list(zip(found[::2], found[1::2]))
 
-    def reached(self, word: str, center: Sequence[Exact], corners: Sequence[Sequence[Exact]], unit: Fraction) -> Tuple[float, float]:
-        """How far from its center the nearest side and the farthest corner of the polygon lie. Warns where what is to lie on the circle lies farther
-        beside it than a hundredth of its radius."""
+    def reached(self, word: str, center: Sequence[int], corners: Sequence[Sequence[int]], step: Fraction) -> Tuple[float, float]:
+        """How far from its center, in millimetres, the nearest side and the farthest corner of the polygon lie, whose corners are given in steps. Warns
+        where what is to lie on the circle lies farther beside it than a hundredth of its radius."""
         ways = [[float(part - middle) for part, middle in zip(corner, center)] for corner in corners]
         sides = [_side(start, end) for start, end in zip(ways, [*ways[1:], ways[0]])]
         least, greatest, radius = min(side.distance for side in sides), max(hypot(*way) for way in ways), self.diameter / 2
         area = sum(side.area for side in sides)
         on = {'corners': [hypot(*way) for way in ways], 'flats': [least], 'area': [sqrt(area / pi)]}[self.fit]
-        least, greatest, scale = (length * float(unit) for length in (least, greatest, 1))
+        least, greatest, scale = (length * float(step) for length in (least, greatest, 1))
         if max(abs(found - radius) for found in on) > radius / 100:
-            warn(f'{word}: sides and corners lie {least:.4g} to {greatest:.4g} from the center of a circle of radius {radius * scale:.4g}; '
-                 'a finer unit brings them nearer to it')
+            warn(f'{word}: sides and corners lie {least:.4g} to {greatest:.4g} from the center of a circle of radius {radius * scale:.4g} mm; '
+                 'a finer step brings them nearer to it')
         return least, greatest
 
 
@@ -52,14 +52,14 @@ class _Side(NamedTuple):
     area: float
 
 
-def wanted(unit: Fraction, radius: Optional[int], diameter: Optional[int], sides: Optional[int], fit: str, within: Exact) -> Circle:
-    """The circle of a radius or a diameter, in coordinates, with so many sides, or as many as its flats need to lie within so many millimetres of it."""
+def wanted(lengths: Lengths, radius: Optional[Length], diameter: Optional[Length], sides: Optional[int], fit: str, within: Length) -> Circle:
+    """The circle of a radius or a diameter, with so many sides, or as many as its flats need to lie within so many millimetres of it."""
     if radius is None and diameter is None:
         raise TypeError('radius: a radius or a diameter is wanted')
     if radius is not None and diameter is not None:
         raise TypeError('diameter: the radius is given already')
-    wide = 2 * arguments.positive('radius', radius) if diameter is None else arguments.positive('diameter', diameter)
-    most = arguments.factor('within', within) / unit
+    wide = 2 * lengths.positive('radius', radius) if diameter is None else lengths.positive('diameter', diameter)
+    most = arguments.factor('within', within, wanted='a length') / lengths.step
     many = _sides_within(wide / 2, float(max(most, Fraction(1)))) if sides is None else arguments.sides('sides', sides)
     return Circle(wide, many, arguments.word('circle', fit, FITS))
 

@@ -17,7 +17,7 @@ class Commands(Methods):
     def mvfs(self, point: arguments.Point, *, solid: Optional[int] = None, face: Optional[int] = None,
              loop: Optional[int] = None, vertex: Optional[int] = None) -> NewSolid:
         """A new solid of one face, whose outer loop is one vertex at the point."""
-        place = arguments.point('point', point)
+        place = self._kernel.lengths.point('point', point)
         made = NewSolid(self._new('solid', solid), self._new('face', face), self._new('loop', loop), self._new('vertex', vertex))
         self._kernel.do('mvfs', *made, *place)
         return made
@@ -30,7 +30,7 @@ class Commands(Methods):
             edge: Optional[int] = None, vertex: Optional[int] = None) -> NewEdge:
         """A new edge from the vertex of both corners to a new one at the point."""
         corners = self._corner('first', first), self._corner('second', second)
-        place = arguments.point('point', point)
+        place = self._kernel.lengths.point('point', point)
         made = NewEdge(self._new('edge', edge), self._new('vertex', vertex))
         self._kernel.do('mev', *corners, *made, *place)
         return made
@@ -79,7 +79,7 @@ class Commands(Methods):
 
     def lamina(self, points: arguments.Points, *, solid: Optional[int] = None) -> Lamina:
         """A new solid of two faces, back to back, through up to 64 points. The front is seen with the points counterclockwise."""
-        places = arguments.points('points', points, arguments.MOST_LAMINA_POINTS)
+        places = self._kernel.lengths.points('points', points, arguments.MOST_LAMINA_POINTS)
         number = self._new('solid', solid)
         self._kernel.do('lamina', number, *(part for place in places for part in place))
         fresh = self._kernel.lines.fresh
@@ -88,7 +88,7 @@ class Commands(Methods):
 
     def block(self, point: arguments.Point, sizes: arguments.Point, *, solid: Optional[int] = None) -> Block:
         """A new solid: the block from the point on with edges along the axes, so long as the sizes say."""
-        place, lengths = arguments.point('point', point), arguments.point('sizes', sizes)
+        place, lengths = self._kernel.lengths.point('point', point), self._kernel.lengths.point('sizes', sizes)
         number = self._new('solid', solid)
         self._kernel.do('block', number, *place, *lengths)
         fresh = self._kernel.lines.fresh
@@ -99,7 +99,7 @@ class Commands(Methods):
         """The face moves by the vector and leaves a side behind each of its half-edges.
 
         A lamina's front is swept along its normal, its back along the opposite one: the other way the solid is inside out."""
-        number, way = self._number('face', face), arguments.point('vector', vector)
+        number, way = self._number('face', face), self._kernel.lengths.point('vector', vector)
         self._kernel.do('sweep', number, *way)
         fresh = self._kernel.lines.fresh
         edges = iter(fresh('edge'))
@@ -128,18 +128,14 @@ class Commands(Methods):
         self._kernel.step('redo', arguments.flag('command', command))
 
     def plane(self, face: arguments.Face) -> Plane:
-        """The plane of the face, which `split` and `faces` take."""
+        """The plane of the face, which `split` and `faces` take, with the shortest whole normal, of points in millimetres."""
         reply = self._asked('plane', 'face', face)
         a, b, c, d = reply.numbers
-        return Plane(a, b, c, d, reply.lines[0].endswith(' flat'))
+        return Plane(*self._kernel.lengths.plane_out((a, b, c, d)), reply.lines[0].endswith(' flat'))
 
     def volume(self, solid: arguments.Solid) -> Fraction:
-        """The volume of the solid, exactly: in cubes of the unit, a fraction whose denominator is 1, 2, 3 or 6."""
-        return Fraction(self.six_volume(solid), 6)
-
-    def six_volume(self, solid: arguments.Solid) -> int:
-        """Six times the volume of the solid, which is whole: what the command `volume` says."""
-        return self._asked('volume', 'solid', solid).numbers[0]
+        """The volume of the solid, exactly, in cubic millimetres."""
+        return Fraction(self._asked('volume', 'solid', solid).numbers[0], 6) * self._kernel.lengths.step ** 3
 
     def count(self, solid: arguments.Solid) -> Count:
         """How many things of each kind the solid has."""

@@ -1,4 +1,4 @@
-"""Names and colours of solids and faces in a session, its unit, and the files that are made of what it holds, or taken in.
+"""Names and colours of solids and faces in a session, its step, and the files that are made of what it holds, or taken in.
 
 Pages and forms of files are imported in the methods that need them: together they take as long to load as all the rest.
 """
@@ -16,6 +16,7 @@ from ..geometry.plane_figures import Exact
 from ..geometry.touching_solids import touching_solids
 from . import arguments
 from .bench import Methods, warn
+from .lengths import Length, exact, nearest
 from .reading import FacePart, Selection, SolidPart
 from .steps import Block
 
@@ -58,14 +59,18 @@ class Exporting(Methods):
         self._kernel.notes.put(((thing.kind, number), None if look == Appearance() else look))
 
     @property
-    def unit(self) -> Fraction:
-        """How many millimetres a coordinate stands for: as the session began, but where coordinates were multiplied for a finer unit."""
+    def step(self) -> Fraction:
+        """How fine lengths are, in millimetres: all points are multiples of it. As the session began, but where `refine` made it finer."""
         return self._kernel.notes.now.unit
+
+    def near(self, length: Length) -> Exact:
+        """The multiple of the step that is nearest to a length, in millimetres: the one way to round."""
+        return nearest(exact('length', length), self.step)
 
     def page(self) -> str:
         """A page in HTML to turn the model and to pick from it, as `gwb-view` makes it, with the labels."""
         from ..drawing.page import page_of
-        return page_of(self._kernel.listing(), 'gwb' if self.unit == 1 else f'gwb, unit {self.unit}', looks=self._kernel.labels())
+        return page_of(self._kernel.listing(), 'gwb' if self.step == 1 else f'gwb, unit {self.step}', looks=self._kernel.labels())
 
     def export(self, path: arguments.Path) -> None:
         """Writes what is held to a file, by the ending of its name: .step or .stp, .3mf, .glb, .obj (colours in a .mtl beside it), .off, .stl, .html.
@@ -86,24 +91,24 @@ class Exporting(Methods):
         if touching:
             warn('solids {} and {} touch or overlap, and {} does not keep solids apart: many programs will read one wrong body; .3mf and .step keep them '
                  'apart'.format(*touching, file.suffix))
-        file.write_bytes(self.page().encode() if form == 'html' else written(model, Said(self._kernel.labels(), self.unit), file))
+        file.write_bytes(self.page().encode() if form == 'html' else written(model, Said(self._kernel.labels(), self.step), file))
 
-    def import_file(self, path: arguments.Path, *, form: str = '', scale: Exact = 1, rounded: bool = False, keep_triangles: bool = False,
-                    repair: bool = False, within: Exact = 0, flat: bool = False) -> 'ImportedSolids':
+    def import_file(self, path: arguments.Path, *, form: str = '', scale: Length = 1, rounded: bool = False, keep_triangles: bool = False,
+                    repair: bool = False, within: Length = 0, flat: bool = False) -> 'ImportedSolids':
         """The solids of a file, as `gwb-import` reads it, beside what is held, with numbers that are free: these, with the names and colours that
         the file has as labels. `moved` of them says how far a point was moved at most, in millimetres.
 
         `form` is 'step', 'stl', 'obj', 'off', 'ply', 'amf', '3mf' or 'glb' where the file doesn't look like it. Coordinates, in millimetres where the
-        file says a unit, are multiplied by `scale`, a whole number or a fraction, and must then be whole in `unit`; `rounded` rounds them, and
-        `within` only those of a point that lies no farther than so many units beside a whole place. Faces of one plane become one but with `keep_triangles`;
-        `repair` mends what can be; `flat` takes of STEP the flat solids alone. Warns of what is wrong with the solids, of what is left out, and of points
-        that were moved.
+        file says a unit, are multiplied by `scale`, and must then be multiples of the step; `rounded` rounds them, and
+        `within` only those of a point that lies no farther than so many millimetres beside a point of the lattice. Faces of one plane become one but with
+        `keep_triangles`; `repair` mends what can be; `flat` takes of STEP the flat solids alone. Warns of what is wrong with the solids, of what is left
+        out, and of points that were moved.
         Raises OSError; NotAMesh where it is no such file; Unfit where its surfaces aren't closed, or a point isn't whole or past the range.
         Refused: NumbersSpent."""
         from ..formats.forms import READ
         from ..formats.importing import read_file
         kind = arguments.text('form', form) and arguments.word('form', form, READ)
-        size, most = arguments.factor('scale', scale) / self.unit, arguments.factor('within', within, or_zero=True)
+        size, most = arguments.factor('scale', scale) / self.step, arguments.factor('within', within, or_zero=True, wanted='a length') / self.step
         round_all, keep, mend, flat_alone = (arguments.flag(name, value) for name, value in (
             ('rounded', rounded), ('keep_triangles', keep_triangles), ('repair', repair), ('flat', flat)))
         file = arguments.path('path', path)
@@ -111,7 +116,7 @@ class Exporting(Methods):
                           rounded=round_all, keep_triangles=keep, repair=mend, flat=flat_alone, within=most)
         for wrong in found.wrong:
             warn(f'{file}: {wrong}')
-        moved = float(found.square_moved) ** 0.5 * float(self.unit)
+        moved = float(found.square_moved) ** 0.5 * float(self.step)
         if moved:
             warn(f'{file}: points were moved by {moved:.3g} mm at most')
         new = self._kernel.numbers.instead_of(found.model)

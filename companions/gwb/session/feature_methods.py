@@ -1,14 +1,15 @@
 """The methods of a workbench that make features of outlines, and shape solids up to the edges of their faces."""
 
 from dataclasses import dataclass, field
-from math import isqrt
-from typing import Any, Iterable, List, Optional, Sequence, Tuple
+from fractions import Fraction
+from math import isqrt, lcm
+from typing import Any, Iterable, List, Mapping, Optional, Sequence, Tuple
 
 from ..geometry.free_numbers import LARGEST
 from ..geometry.measures import why_unfit
 from ..geometry.outlines import Impossible
 from ..geometry.plane_figures import Exact
-from ..geometry.vectors import Vector, ZERO, add, cross, dot, reduced, scaled
+from ..geometry.vectors import Vector, cross, dot, reduced
 from ..protocol.complaints import refused
 from ..protocol.language import NUMBERS
 from . import arguments
@@ -16,43 +17,46 @@ from .bench import Methods
 from .c_calls import FLOOR, WALLS, WORD, Pair, Point, rows, words
 from .circles import WITHIN, Circle, wanted
 from .kernel import Kernel
+from .lengths import ExactPlace, Length, along_way, direction, exact, place, plain
 from .reading import EdgePart, FacePart
 from .results import Hole, Notch, Numbers, Pocket, Polyhedron, Profile, Ring
 
 
 @dataclass(frozen=True)
 class Sketch:
-    """Two coordinates in the plane of a face: (u, v) is the origin, u steps to the right and v steps up, as one looks at the face from outside.
+    """Two coordinates in the plane of a face: (u, v) is the origin, u times the vector to the right and v times the one upwards, in millimetres.
 
-    What it gives are points in space. Coordinates are whole numbers."""
+    What it gives are points in space, in millimetres; features take those that are multiples of the step."""
 
-    origin: Vector
-    right: Vector
-    up: Vector
+    origin: ExactPlace
+    right: ExactPlace
+    up: ExactPlace
     _kernel: Kernel = field(repr=False, compare=False)
 
-    def point(self, u: int, v: int) -> Vector:
+    def point(self, u: Length, v: Length) -> ExactPlace:
         """The point at two coordinates."""
-        across, along = scaled(self.right, arguments.whole('u', u)), scaled(self.up, arguments.whole('v', v))
-        return add(self.origin, add(across, along))
+        right, upwards = exact('u', u), exact('v', v)
+        x, y, z = (plain(at + right * across + upwards * along) for at, across, along in zip(self.origin, self.right, self.up))
+        return (x, y, z)
 
-    def points(self, spots: Iterable[Sequence[int]]) -> List[Vector]:
+    def points(self, spots: Iterable[Sequence[Length]]) -> List[ExactPlace]:
         """The points at these coordinates: an outline of straight sides."""
-        return [self.point(*arguments.coordinates(f'spots[{place}]', spot, 2)) for place, spot in enumerate(arguments.items('spots', spots))]
+        return [self.point(*arguments.pair(f'spots[{place}]', spot)) for place, spot in enumerate(arguments.items('spots', spots))]
 
-    def rectangle(self, corner: Sequence[int], sizes: Sequence[int]) -> List[Vector]:
+    def rectangle(self, corner: Sequence[Length], sizes: Sequence[Length]) -> List[ExactPlace]:
         """A rectangle from its lower left corner on, so wide and high."""
-        (u, v), (width, height) = arguments.coordinates('corner', corner, 2), arguments.coordinates('sizes', sizes, 2)
+        (u, v), (width, height) = arguments.pair('corner', corner), arguments.pair('sizes', sizes)
         return [self.point(*spot) for spot in ((u, v), (u + width, v), (u + width, v + height), (u, v + height))]
 
-    def polygon(self, center: Sequence[int], radius: Optional[int] = None, sides: Optional[int] = None, *, diameter: Optional[int] = None,
-                circle: str = 'corners', within: Exact = WITHIN) -> List[Vector]:
-        """A polygon for a circle around a center, with the corners that `drill` gives it, the first one to the right."""
-        (u, v), unit = arguments.coordinates('center', center, 2), self._kernel.notes.now.unit
-        found = wanted(unit, radius, diameter, sides, circle, within)
-        corners = found.corners(self._kernel.lines)
-        found.reached('polygon', (0, 0), corners, unit)
-        return [self.point(u + a, v + b) for a, b in corners]
+    def polygon(self, center: Sequence[Length], radius: Optional[Length] = None, sides: Optional[int] = None, *, diameter: Optional[Length] = None,
+                circle: str = 'corners', within: Length = WITHIN) -> List[ExactPlace]:
+        """A polygon for a circle around a center, with the corners that `drill` gives it, the first one to the right. On a slope they lie at such
+        coordinates as give points of the lattice."""
+        (u, v), lengths = arguments.pair('center', center), self._kernel.lengths
+        found = wanted(lengths, radius, diameter, sides, circle, within)
+        corners = found.corners(self._kernel.lines, lcm(*(Fraction(part).denominator for part in (*self.right, *self.up))))
+        found.reached('polygon', (0, 0), corners, lengths.step)
+        return [self.point(u + a * lengths.step, v + b * lengths.step) for a, b in corners]
 
 
 class FeatureMethods(Methods):
@@ -63,7 +67,7 @@ class FeatureMethods(Methods):
 
         Refused: FewPoints, RepeatedPoint; NoArea: the outline has no area; NotInPlane: a point lies off the plane of the others;
         OutlineCrossed: the outline crosses or touches itself; AlongPlane: the vector lies in the plane of the points."""
-        outline, way = arguments.points('points', points), Point(*arguments.point('along', along))
+        outline, way = self._kernel.lengths.points('points', points), Point(*self._kernel.lengths.point('along', along))
         number = self._new('solid', solid)
         return Profile(number, *self._kernel.outline('profile', number, outline, way))
 
@@ -73,7 +77,7 @@ class FeatureMethods(Methods):
 
         Refused: FewPoints: a face has fewer than 3 corners; NotClosed: a side of a face, by its place from 1 on, hasn't one side, of one face, that
         runs the other way; PointRange. ValueError: a point is of no face, or of faces that meet in it alone."""
-        corners = arguments.points('points', points)
+        corners = self._kernel.lengths.points('points', points)
         places = arguments.corners('faces', faces, len(corners))
         number, made = self._new('solid', solid), Pair()
         if not 1 <= number <= LARGEST:
@@ -82,30 +86,27 @@ class FeatureMethods(Methods):
                                   words([len(face) for face in places]), len(places), made)
         return Polyhedron(number, tuple(range(made.second, made.second + len(places))), tuple(range(made.first, made.first + len(corners))))
 
-    def sketch(self, face: arguments.Face, *, origin: Optional[arguments.Point] = None, right: Optional[arguments.Point] = None) -> Sketch:
-        """Two coordinates in the plane of a flat face, as one looks at it from outside, in which outlines are drawn: from the origin on, in steps of
-        the vector to the right and of one as long upwards. Without them the origin is the least corner of the face, by x, y and z, and `right` the
-        first of the axes x, y, z that lies in its plane: a step is 1 long across an axis, and on a slope as long as its normal, such as 5.
+    def sketch(self, face: arguments.Face, *, origin: Optional[arguments.Point] = None, right: Optional[arguments.Point] = None,
+               up: Optional[arguments.Point] = None, plan: Optional[str] = None) -> Sketch:
+        """Two coordinates in the plane of a flat face, as one looks at it from outside, in which outlines are drawn: in millimetres from the origin on, to
+        the right and upwards. Without them the origin is the least corner of the face, by x, y and z, and `right` the direction of the first of the axes
+        x, y, z that lies in its plane. On a slope where no such vectors of length 1 are fractions, `up` may be given, whose length is then that of a
+        step upwards; or with plan='z', 'x' or 'y' the coordinates are those that one sees looking against the axis, and the face gives the third.
 
-        Refused: NoFace; NotFlat; NotInPlane: the origin or `right` lies off the plane, or no axis lies in it; OffLattice: no whole vector in the
-        plane is as long as `right` and across it."""
-        part = FacePart(self._kernel, self._number('face', face))
-        start, wanted = (None if value is None else arguments.point(name, value) for name, value in (('origin', origin), ('right', right)))
+        Refused: NoFace; NotFlat; NotInPlane: the origin, `right` or `up` lies off the plane, no axis lies in it, or with `plan` the axis lies in it;
+        OffLattice: a vector of length 1 isn't of fractions."""
+        part, axis = FacePart(self._kernel, self._number('face', face)), None if plan is None else 'xyz'.index(arguments.word('plan', plan, ('x', 'y', 'z')))
+        start = None if origin is None else self._kernel.lengths.place(self._kernel.lengths.point('origin', origin))
+        ways = {name: direction(name, way) if name == 'right' else place(name, way) for name, way in (('right', right), ('up', up)) if way is not None}
         points, why = part.points, why_unfit(self._kernel.lines.model([part.number]), part.number)
         if why is not None:
             raise refused('sketch', NUMBERS['NotFlat'], part.number, why)
-        across, start = reduced(part.normal), start or min(points)
-        if dot(across, start) != dot(across, points[0]):
-            raise Impossible('NotInPlane', part.number, f'the origin {start} lies off the plane of face {part.number}')
-        axis = next((axis for axis in ((1, 0, 0), (0, 1, 0), (0, 0, 1)) if dot(across, axis) == 0), ZERO)
-        to_right = wanted or axis
-        if to_right == ZERO or dot(across, to_right) != 0:
-            raise Impossible('NotInPlane', part.number, f'a direction in the plane of face {part.number} is wanted, not {to_right}')
-        way, upward = scaled(to_right, 1 if wanted else isqrt(dot(across, across))), reduced(cross(across, to_right))
-        up = scaled(upward, isqrt(dot(way, way) // dot(upward, upward)))
-        if dot(up, up) != dot(way, way):
-            raise Impossible('OffLattice', part.number, f'no whole vector in face {part.number} is as long as {way} and across it')
-        return Sketch(start, way, up, self._kernel)
+        across, start = part.normal, start or min(points)
+        if along_way(across, start) != along_way(across, points[0]):
+            raise Impossible('NotInPlane', part.number, f'the origin {_told(start)} lies off the plane of face {part.number}')
+        if axis is not None:
+            return Sketch(start, *_seenalong_way(axis, across, part.number), self._kernel)
+        return Sketch(start, *_steps(across, ways, part.number), self._kernel)
 
     def ring(self, face: arguments.Face, points: arguments.Points) -> Ring:
         """A face inside the face, with the outline through the points, and a ring around it.
@@ -113,25 +114,25 @@ class FeatureMethods(Methods):
         Refused: NoFace; NotFlat: the face isn't flat; FewPoints, RepeatedPoint; NoArea: the outline has no area; NotInPlane: a point lies off
         the plane of the face; OutlineCrossed: the outline crosses or touches itself; OutlineOutside: it crosses or touches the boundary of the
         face, or doesn't lie inside; OutlineAroundRing: a ring of the face lies inside the outline."""
-        number, outline = self._number('face', face), arguments.points('points', points)
+        number, outline = self._number('face', face), self._kernel.lengths.points('points', points)
         vertices = (WORD * len(outline))()
         return Ring(*self._kernel.outline('ring', number, outline, beside=[vertices]), tuple(vertices))
 
-    def pocket(self, face: arguments.Face, points: arguments.Points, depth: int) -> Pocket:
+    def pocket(self, face: arguments.Face, points: arguments.Points, depth: Length) -> Pocket:
         """A pocket so deep behind the outline in the face.
 
         Refused as ring is; OffLattice: no whole vector along the normal is so long; Meets: the pocket would come through, or meet
         or touch something of the solid."""
-        number, outline = self._number('face', face), arguments.points('points', points)
-        return Pocket(*self._kernel.outline('pocket', number, outline, arguments.positive('depth', depth)))
+        number, outline = self._number('face', face), self._kernel.lengths.points('points', points)
+        return Pocket(*self._kernel.outline('pocket', number, outline, self._kernel.lengths.positive('depth', depth)))
 
-    def boss(self, face: arguments.Face, points: arguments.Points, height: int) -> Pocket:
+    def boss(self, face: arguments.Face, points: arguments.Points, height: Length) -> Pocket:
         """A boss so high on the outline in the face.
 
         Refused as ring is; OffLattice: no whole vector along the normal is so long; Meets: the boss would meet or touch something
         of the solid."""
-        number, outline = self._number('face', face), arguments.points('points', points)
-        return Pocket(*self._kernel.outline('boss', number, outline, arguments.positive('height', height)))
+        number, outline = self._number('face', face), self._kernel.lengths.points('points', points)
+        return Pocket(*self._kernel.outline('boss', number, outline, self._kernel.lengths.positive('height', height)))
 
     def hole(self, face: arguments.Face, points: arguments.Points) -> Hole:
         """A hole from the outline in the face through to the opposite face.
@@ -139,13 +140,13 @@ class FeatureMethods(Methods):
         Refused as ring is, also for the boundary and the rings of the opposite face; NoOpposite: there is nothing behind the outline; NotParallel: the
         face behind it isn't parallel; OffLattice: its plane lies off the lattice behind the face; Meets: the hole would meet or touch something else of
         the solid."""
-        number, outline = self._number('face', face), arguments.points('points', points)
-        return Hole(*self._kernel.outline('hole', number, outline), tuple(outline))
+        number, outline = self._number('face', face), self._kernel.lengths.points('points', points)
+        return Hole(*self._kernel.outline('hole', number, outline), tuple(map(self._kernel.lengths.place, outline)))
 
-    def drill(self, face: arguments.Face, center: arguments.Point, radius: Optional[int] = None, sides: Optional[int] = None, *,
-              diameter: Optional[int] = None, circle: str = 'corners', within: Exact = WITHIN, depth: Optional[int] = None) -> Hole:
-        """A hole with a polygon for a circle of this radius or diameter around the center: through, or so deep. The corners lie on whole numbers, as near
-        to those of a regular polygon as they can, of two as near on the one farther out: `reach` of what it returns says how far from the center the
+    def drill(self, face: arguments.Face, center: arguments.Point, radius: Optional[Length] = None, sides: Optional[int] = None, *,
+              diameter: Optional[Length] = None, circle: str = 'corners', within: Length = WITHIN, depth: Optional[Length] = None) -> Hole:
+        """A hole with a polygon for a circle of this radius or diameter around the center: through, or so deep. The corners are points of the lattice, as
+        near to those of a regular polygon as they can, of two as near the one farther out: `reach` of what it returns says how far from the center the
         nearest side and the farthest corner lie. Warns where they lie farther beside the circle than a hundredth of the radius.
 
         On the circle lie the corners; with circle='flats' the sides, none of which comes inside, so that a bolt passes; with 'area' neither, and the
@@ -156,16 +157,18 @@ class FeatureMethods(Methods):
         face or of the opposite one, or doesn't lie inside; OutlineAroundRing: a ring of either face lies inside the polygon; NoOpposite: there
         is nothing behind it; NotParallel: the face behind it isn't parallel; Meets: the hole would meet or touch something else of the solid,
         or with a depth come through it."""
-        number, middle, unit = self._number('face', face), arguments.point('center', center), self._kernel.notes.now.unit
-        deep, found = 0 if depth is None else arguments.positive('depth', depth), wanted(unit, radius, diameter, sides, circle, within)
+        number, lengths = self._number('face', face), self._kernel.lengths
+        middle, deep = lengths.point('center', center), 0 if depth is None else lengths.positive('depth', depth)
+        found = wanted(lengths, radius, diameter, sides, circle, within)
         if found.fit == 'corners' and found.diameter % 2 == 0:
             made, along, corners = Pair(), (WORD * found.sides)(), (Point * found.sides)()
             self._kernel.give('drill', number, Point(*middle), found.diameter // 2, found.sides, deep, made, along, corners)
-            hole = Hole(made.first, made.second, tuple(along), tuple((at.x, at.y, at.z) for at in corners))
+            outline = [(at.x, at.y, at.z) for at in corners]
+            numbers = made.first, made.second, tuple(along)
         else:
             outline = self._around(number, middle, found)
-            hole = Hole(*self._kernel.outline('pocket' if deep else 'hole', number, outline, *([deep] if deep else [])), tuple(outline))
-        return hole._replace(reach=found.reached('drill', middle, hole.points, unit))
+            numbers = self._kernel.outline('pocket' if deep else 'hole', number, outline, *([deep] if deep else []))
+        return Hole(*numbers, tuple(map(lengths.place, outline)), found.reached('drill', middle, outline, lengths.step))
 
     def _around(self, face: int, center: Vector, circle: Circle) -> List[Vector]:
         """The corners of a polygon in a face across an axis, from the axis after its own on. Refused: NoFace. Not possible: NotAcross."""
@@ -185,7 +188,7 @@ class FeatureMethods(Methods):
         self._kernel.give('glue_all', words(numbers), len(numbers))
         return numbers[0]
 
-    def notch(self, face: arguments.Face, points: arguments.Points, depth: int) -> Notch:
+    def notch(self, face: arguments.Face, points: arguments.Points, depth: Length) -> Notch:
         """A pocket so deep behind the face whose outline may reach the edges of the face; there it is open, and where it is as deep as the
         solid it goes through.
 
@@ -193,49 +196,49 @@ class FeatureMethods(Methods):
         OutlineCrossed for the points; OutlineOutside: the outline reaches beyond the face; OffLattice: no whole vector along the normal is
         so long, or edges would cross between whole coordinates; Meets: what is cut out reaches out of the solid elsewhere, or the solid
         would touch itself."""
-        number, outline = self._number('face', face), arguments.points('points', points)
+        number, outline = self._number('face', face), self._kernel.lengths.points('points', points)
         return self._shaped('notch', number, rows(outline), len(outline), depth=depth)
 
-    def slot(self, face: arguments.Face, start: arguments.Point, end: arguments.Point, width: int, depth: int) -> Notch:
+    def slot(self, face: arguments.Face, start: arguments.Point, end: arguments.Point, width: Length, depth: Length) -> Notch:
         """A slot with a flat floor, so wide and deep, whose middle line runs in the face from one point to another. Refused as notch is;
         OffLattice: half of the width isn't whole across the line."""
         return self._shaped('slot', face, start=start, end=end, width=width, depth=depth)
 
-    def groove(self, face: arguments.Face, start: arguments.Point, end: arguments.Point, width: int, depth: int) -> Notch:
+    def groove(self, face: arguments.Face, start: arguments.Point, end: arguments.Point, width: Length, depth: Length) -> Notch:
         """A groove like a V, so wide at the face and so deep under its middle line, which runs from one point to another; it has no floor.
         Refused as notch is; OffLattice: half of the width isn't whole across the line."""
         return self._shaped('groove', face, start=start, end=end, width=width, depth=depth)
 
-    def shoulder(self, face: arguments.Face, edge: arguments.Edge, width: int, depth: int) -> Notch:
+    def shoulder(self, face: arguments.Face, edge: arguments.Edge, width: Length, depth: Length) -> Notch:
         """A step along an edge of the face: so wide in the face, from the edge on, and so deep behind it. Refused as notch is; NoEdge,
         NotOfFace: the edge isn't one of the face."""
         number, along = self._number('face', face), self._number('edge', edge)
         return self._shaped('shoulder', number, along, width=width, depth=depth)
 
-    def chamfer(self, edge: arguments.Edge, width: int, other: Optional[int] = None) -> int:
+    def chamfer(self, edge: arguments.Edge, width: Length, other: Optional[Length] = None) -> int:
         """The edge becomes a sloping face, which begins so far from it in the face of its half-edge `+e`, and in the other one as far, or so
         far as `other` says: the number of the face. At an edge that bends inwards the room is filled.
 
         Refused: NoEdge; NotFlat: a face of the edge isn't flat, or the slope wouldn't be; FlatEdge: both lie in one plane; OffLattice: a
         corner wouldn't be whole; OutlineOutside, Meets: there is no room for it."""
-        number, wide = self._number('edge', edge), arguments.positive('width', width)
-        far = wide if other is None else arguments.positive('other', other)
+        number, wide = self._number('edge', edge), self._kernel.lengths.positive('width', width)
+        far = wide if other is None else self._kernel.lengths.positive('other', other)
         return self._sloped('chamfer', [number], number, wide, far)[0]
 
-    def chamfer_edges(self, edges: Sequence[arguments.Edge], width: int) -> Tuple[int, ...]:
+    def chamfer_edges(self, edges: Sequence[arguments.Edge], width: Length) -> Tuple[int, ...]:
         """Different edges become sloping faces at once, which begin so far from them in the faces on both sides: the face of each. Where two or three
         of the edges that end at a vertex are among them, their slopes meet there.
 
         Refused: as chamfer is; NoCorner: slopes of edges that end at a vertex don't meet in one point, or more than three edges end there; NotAlike: an
         edge is of another solid than the first, or bends the other way."""
-        numbers, wide = self._different('edges', edges, 'edge'), arguments.positive('width', width)
+        numbers, wide = self._different('edges', edges, 'edge'), self._kernel.lengths.positive('width', width)
         return self._sloped('chamfer_edges', numbers, words(numbers), len(numbers), wide)
 
     def _shaped(self, word: str, face: arguments.Face, *values: Any, **more: Any) -> Notch:
         """Gives a feature in a face, with its ends and sizes by name, that leaves a floor and walls in its solid, whose labels the parts of its faces
         get. Refused: NoFace."""
-        number = self._number('face', face)
-        sizes = [Point(*arguments.point(name, size)) if name in ('start', 'end') else arguments.positive(name, size) for name, size in more.items()]
+        number, lengths = self._number('face', face), self._kernel.lengths
+        sizes = [Point(*lengths.point(name, size)) if name in ('start', 'end') else lengths.positive(name, size) for name, size in more.items()]
         with self._parting(FacePart(self._kernel, number).solid.number) as new:
             self._kernel.give(word, number, *values, *sizes)
             made = Notch(self._kernel.made(FLOOR), self._kernel.made(WALLS))
@@ -250,3 +253,44 @@ class FeatureMethods(Methods):
             self._kernel.give(word, *values, made)
             new.update(made)
         return tuple(made)
+
+
+def _told(point: Sequence[Exact]) -> str:
+    """A point as it is said."""
+    return f'({", ".join(map(str, point))})'
+
+
+def _seenalong_way(axis: int, across: Vector, face: int) -> Tuple[ExactPlace, ExactPlace]:
+    """The vectors in a face that are 1 long along the two other axes as one looks against this one. Not possible: NotInPlane."""
+    if across[axis] == 0:
+        raise Impossible('NotInPlane', face, f"face {face} isn't seen along {'xyz'[axis]}, which lies in its plane")
+    ways: List[List[Exact]] = []
+    for other in ((axis + 1) % 3, (axis + 2) % 3):
+        way: List[Exact] = [0, 0, 0]
+        way[other], way[axis] = 1, plain(Fraction(-across[other], across[axis]))
+        ways.append(way)
+    (a, b, c), (u, v, w) = ways
+    return (a, b, c), (u, v, w)
+
+
+def _steps(across: Vector, given: Mapping[str, ExactPlace], face: int) -> Tuple[ExactPlace, ExactPlace]:
+    """The vectors to the right and upwards in a face, those that are given, or such as are 1 long. Not possible: NotInPlane, OffLattice."""
+    axis = next((axis for axis in ((1, 0, 0), (0, 1, 0), (0, 0, 1)) if dot(across, axis) == 0), (0, 0, 0))
+    to_right = given.get('right', axis)
+    for way in (to_right, given.get('up', to_right)):
+        if not any(way) or along_way(across, way) != 0:
+            raise Impossible('NotInPlane', face, f'a direction in the plane of face {face} is wanted, not {_told(way)}')
+    right = (int(to_right[0]), int(to_right[1]), int(to_right[2]))
+    up = reduced(cross(across, right))
+    return _one_long('right', right, up, face), given['up'] if 'up' in given else _one_long('up', up, up, face)
+
+
+def _one_long(name: str, way: Vector, up: Vector, face: int) -> ExactPlace:
+    """The vector in this direction that is 1 long. Not possible: OffLattice."""
+    length = isqrt(dot(way, way))
+    if length * length != dot(way, way):
+        steps = f', and up={_told(up)} steps as long as it is' if name == 'up' else ''
+        raise Impossible('OffLattice', face, f'in face {face} no vector of fractions along {_told(way)} is 1 long: '
+                                             f"plan='z' takes coordinates as seen from above{steps}")
+    x, y, z = (plain(Fraction(part, length)) for part in way)
+    return (x, y, z)

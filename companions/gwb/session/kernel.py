@@ -17,6 +17,7 @@ from ..protocol.language import NUMBERS, first_word, refusal
 from ..protocol.listing import listing_lines
 from ..protocol.replies import Reply
 from .c_calls import ADDRESS, IMPOSSIBLE, MEMORY, NO_CALL, OK, REFUSED, SIZE, WORD, CutPlane, Pair, Refusal, rows
+from .lengths import Lengths
 from .library import Library, filled
 from .notes import Notes
 from .results import Numbers
@@ -63,8 +64,16 @@ class Kernel:
         # Whether a command is being given, whether this turn has given one, and whether things may have gone that have labels.
         self._is_giving = self._has_given = self._may_have_gone = False
         self._listing: Dict[Tuple[int, ...], Model] = {}
+        self._lengths = Lengths(unit)
         # The commands that were held when the session ended, and the labels.
         self._ended: Optional[Tuple[List[str], Dict[Thing, Appearance]]] = None
+
+    @property
+    def lengths(self) -> Lengths:
+        """Lengths in the step that there is now."""
+        if self._lengths.step != self.notes.now.unit:
+            self._lengths = Lengths(self.notes.now.unit)
+        return self._lengths
 
     def close(self) -> None:
         """Ends the session. Its script and its labels are kept."""

@@ -7,9 +7,11 @@ from typing import Callable, ClassVar, FrozenSet, Iterable, Iterator, Optional, 
 
 from ..errors import NotOne, Refused
 from ..geometry.solid_measures import root, square_area
-from ..geometry.vectors import Vector, dot, subtract
+from ..geometry.plane_figures import Exact
+from ..geometry.vectors import Vector, reduced
 from ..protocol.language import NUMBERS
 from .kernel import Kernel
+from .lengths import ExactPlace, Place, along_way, direction as whole_direction, place
 from .turns import TakesTurns
 
 Found = TypeVar('Found', bound='Part')
@@ -37,8 +39,8 @@ class Part(TakesTurns):
         raise NotImplementedError
 
     @property
-    def points(self) -> Tuple[Vector, ...]:
-        """The points of its vertices, in their order."""
+    def points(self) -> Tuple[ExactPlace, ...]:
+        """The points of its vertices, in their order, in millimetres."""
         return tuple(vertex.point for vertex in self.vertices)
 
     def _there(self, found: Optional[Read]) -> Read:
@@ -117,17 +119,16 @@ class Selection(Sequence[Found]):
         found = f'{len(self)} were found: {", ".join(map(str, self.numbers))}' if self else 'none was found'
         raise NotOne(f'one {self._kind}{self._wanted} was wanted; {found}')
 
-    def farthest(self, direction: Sequence[int]) -> 'Selection[Found]':
+    def farthest(self, direction: Place) -> 'Selection[Found]':
         """Those whose nearest point lies farthest along the direction; more than one where they are level."""
-        from .arguments import vector    # (which takes parts, so it stands above them)
-        way = vector('direction', direction)
-        return self._best(lambda part: min(dot(way, point) for point in part.points), f', farthest along {way}')
+        way = whole_direction('direction', direction)
+        return self._best(lambda part: min(along_way(way, point) for point in part.points), f', farthest along {way}')
 
-    def nearest(self, point: Sequence[int]) -> 'Selection[Found]':
+    def nearest(self, point: Place) -> 'Selection[Found]':
         """Those with the corner that lies nearest to the point; more than one where they are as near."""
-        from .arguments import point as taken
-        place = taken('point', point)
-        return self._best(lambda part: max(-dot(way, way) for corner in part.points for way in [subtract(corner, place)]), f', nearest to {place}')
+        spot = place('point', point)
+        word = f', nearest to ({", ".join(map(str, spot))})'
+        return self._best(lambda part: max(-sum((at - to) ** 2 for at, to in zip(corner, spot)) for corner in part.points), word)
 
     def top(self) -> 'Selection[Found]':
         """Those that lie highest, along z."""
@@ -137,7 +138,7 @@ class Selection(Sequence[Found]):
         """Those that lie lowest, along z."""
         return self.farthest((0, 0, -1))
 
-    def _best(self, reach: Callable[[Part], int], word: str) -> 'Selection[Found]':
+    def _best(self, reach: Callable[[Part], Exact], word: str) -> 'Selection[Found]':
         reaches = [reach(part) for part in self._parts]
         most = max(reaches, default=0)
         return Selection(self._kind, self._wanted + word, [part for part, own in zip(self._parts, reaches) if own == most])
@@ -149,9 +150,9 @@ class VertexPart(Part):
     kind = 'vertex'
 
     @property
-    def point(self) -> Vector:
-        """Where it lies."""
-        return self._there(self._kernel.lines.vertex(self.number))
+    def point(self) -> ExactPlace:
+        """Where it lies, in millimetres."""
+        return self._kernel.lengths.place(self._there(self._kernel.lines.vertex(self.number)))
 
     @property
     def vertices(self) -> 'Sequence[VertexPart]':
@@ -184,10 +185,9 @@ class EdgePart(Part):
 
     @property
     def length(self) -> Union[Fraction, float]:
-        """Its length in coordinates: a fraction where it is one, as `edges(length=)` takes it, else rounded."""
+        """Its length in millimetres: a fraction where it is one, as `edges(length=)` takes it, else rounded."""
         start, end = self.points
-        along = subtract(end, start)
-        return root(Fraction(dot(along, along)))
+        return root(Fraction(sum((to - at) ** 2 for at, to in zip(start, end))))
 
 
 class LoopPart(Part):
@@ -254,15 +254,15 @@ class FacePart(Part):
 
     @property
     def normal(self) -> Vector:
-        """Its normal, twice its area long: the first three numbers of its plane."""
-        return self._there(self._kernel.lines.normal(self.number))
+        """Its normal, as the shortest whole vector: the first three numbers of its plane."""
+        found = self._there(self._kernel.lines.normal(self.number))
+        return reduced(found) if any(found) else found
 
     @property
     def area(self) -> Union[Fraction, float]:
-        """Its area in squares of coordinates: a fraction where it is one, as `faces(area=)` takes it, else rounded. Raises Unfit where it isn't
-        flat."""
+        """Its area in square millimetres: a fraction where it is one, as `faces(area=)` takes it, else rounded. Raises Unfit where it isn't flat."""
         self._there(self._kernel.lines.solid_of(self.number))
-        return root(square_area(self._kernel.lines.model([self.number]), self.number))
+        return root(square_area(self._kernel.lines.model([self.number]), self.number) * self._kernel.lengths.step ** 4)
 
 
 class SolidPart(Part):

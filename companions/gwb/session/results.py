@@ -1,6 +1,10 @@
 """The numbers that commands of a workbench return."""
 
+from fractions import Fraction
 from typing import Dict, NamedTuple, Optional, Tuple
+
+from ..geometry.plane_figures import Exact
+from .lengths import ExactPlace, Length, Place, direction, exact, place, plain
 
 Numbers = Tuple[int, ...]
 
@@ -81,14 +85,41 @@ class Cut(NamedTuple):
     upper_caps: Numbers
 
 
-class Plane(NamedTuple):
-    """The plane a x + b y + c z + d = 0 of a face, and whether the face is flat."""
+class _Plane(NamedTuple):
+    """A plane by its numbers."""
 
-    a: int
-    b: int
-    c: int
-    d: int
+    a: Exact
+    b: Exact
+    c: Exact
+    d: Exact
     flat: bool
+
+
+class Plane(_Plane):
+    """The plane a x + b y + c z + d = 0 of points in millimetres, and of a face whether it is flat.
+
+    Plane(z=8) lies across an axis, Plane(2, 3, 0, -11) is given by its numbers, and Plane.through(point, normal) by a point of it. What lies above is on the
+    side to which (a, b, c) points; -plane has the other side above."""
+
+    def __new__(cls, a: Length = 0, b: Length = 0, c: Length = 0, d: Length = 0, flat: bool = True, *, x: Optional[Length] = None,
+                y: Optional[Length] = None, z: Optional[Length] = None) -> 'Plane':
+        levels = [exact(name, level) for name, level in (('x', x), ('y', y), ('z', z)) if level is not None]
+        numbers = [plain(exact(name, number, 'a number')) for name, number in (('a', a), ('b', b), ('c', c), ('d', d))]
+        if len(levels) > 1 or levels and any(numbers):
+            raise TypeError('Plane: four numbers are wanted, or one of x, y and z')
+        if levels:
+            numbers = [*(int(level is not None) for level in (x, y, z)), plain(-levels[0])]
+        return super().__new__(cls, numbers[0], numbers[1], numbers[2], numbers[3], flat)
+
+    @classmethod
+    def through(cls, point: Place, normal: Place) -> 'Plane':
+        """The plane through a point, across a direction."""
+        spot, way = place('point', point), direction('normal', normal)
+        return cls(*way, -sum(Fraction(along) * at for along, at in zip(way, spot)))
+
+    def __neg__(self) -> 'Plane':
+        """The same plane, seen from its other side."""
+        return Plane(-self.a, -self.b, -self.c, -self.d, self.flat)
 
 
 class Count(NamedTuple):
@@ -137,12 +168,12 @@ class Pocket(NamedTuple):
 
 class Hole(NamedTuple):
     """What hole and drill make: the face it ends in, the ring at its start, the points of the outline, and for each the side from it to the
-    next; of a drill how far from its center the nearest side and the farthest corner lie."""
+    next; of a drill how far from its center the nearest side and the farthest corner lie. All in millimetres."""
 
     other: int
     loop: int
     sides: Numbers
-    points: Tuple[Tuple[int, int, int], ...]
+    points: Tuple[ExactPlace, ...]
     reach: Optional[Tuple[float, float]] = None
 
 

@@ -2,27 +2,64 @@
 (lattice_cuts.py), and arrays."""
 
 from ctypes import pointer, sizeof
+from dataclasses import dataclass
 from fractions import Fraction
-from typing import Any, Iterable, List, Optional, Tuple, Type
+from typing import Any, Iterable, List, Optional, Sequence, Tuple, Type
 
 from ..geometry import lattice_cuts, sections, solid_measures
-from ..geometry.flat_face import ExactVector
-from ..geometry.model import Model
 from ..geometry.plane_figures import Exact
 from . import arguments
 from .bench import Methods
 from .c_calls import LENGTH, WORD, CutPlane, EdgeQuery, FaceQuery, Point, ratio
+from .lengths import ExactPlace, Lengths, direction, place, plain
 from .reading import EdgePart, FacePart, Found, LoopPart, Selection, SolidPart, VertexPart
+from .results import Plane
+
+
+@dataclass(frozen=True)
+class Crossing:
+    """Where the plane of a cut meets an edge, in millimetres, and whether that is on the lattice."""
+
+    edge: int
+    point: ExactPlace
+    is_whole: bool
+
+
+@dataclass(frozen=True)
+class OffLatticeCut:
+    """A cut of a solid by a plane, of which some points may not be multiples of the step."""
+
+    crossings: Tuple[Crossing, ...]
+    factor: int
+    """How many times finer the step must be at least, as `refine` makes it; 1 where no point lies between."""
+    fits: bool
+    """Whether the model is in range in such a step."""
+    parallel: Optional[Plane]
+    """The nearest plane with the same normal that cuts at multiples of the step, where there is one."""
+    tilted: Tuple[Plane, ...]
+    """Other planes that do, the nearest first."""
+
+    @classmethod
+    def of(cls, found: lattice_cuts.OffLatticeCut, lengths: Lengths) -> 'OffLatticeCut':
+        """What was found in steps."""
+        crossings = tuple(Crossing(at.edge, lengths.place(at.point), at.is_whole) for at in found.crossings)
+        parallel, *tilted = (near and Plane(*lengths.plane_out(near.plane)) for near in (found.parallel, *found.tilted))
+        return cls(crossings, found.factor, found.fits, parallel, tuple(plane for plane in tilted if plane))
+
+    @property
+    def off_lattice(self) -> Tuple[Crossing, ...]:
+        """The cut edges whose points aren't multiples of the step, rising."""
+        return tuple(crossing for crossing in self.crossings if not crossing.is_whole)
 
 
 class Reading(Methods):
     """Parts of the model by their numbers, and by where they lie.
 
-    Exact measures, each of the part that it names, in coordinates as they are: a length times `unit`, an area times its square and a volume times
-    its cube is in the unit that the session began with. Where a face isn't flat they raise Unfit.
+    Exact measures, each of the part that it names, in millimetres, square millimetres and so on: an int where it is whole, else a Fraction, and a float
+    where it is a root. Where a face isn't flat they raise Unfit.
 
-    Arrays are rows of numbers, as a memoryview in two dimensions, which `tolist()` makes lists of. Of nothing there are no rows. It stays what it is when
-    the model changes."""
+    Arrays are rows of numbers, as a memoryview in two dimensions, which `tolist()` makes lists of; their coordinates are steps of the lattice, as those of
+    scripts are: times `step` they are millimetres. Of nothing there are no rows. An array stays what it is when the model changes."""
 
     def solid(self, solid: arguments.Solid) -> SolidPart:
         """The solid of this number. If there is none, what is asked of it raises Refused; the same holds for the four kinds below."""
@@ -50,20 +87,20 @@ class Reading(Methods):
 
     def faces(self, *, solid: Optional[arguments.Solid] = None, plane: Optional[arguments.Point] = None,
               normal: Optional[arguments.Point] = None, containing: Optional[arguments.Point] = None,
-              area: Optional[Exact] = None) -> 'Selection[FacePart]':
+              area: Optional[arguments.Length] = None) -> 'Selection[FacePart]':
         """The faces that fit: of the solid; wholly in the plane a x + b y + c z + d = 0, four numbers or what `plane` returns, whichever way
         they look; flat, and looking the way of the normal; flat, with the point inside or on the outline; flat, and so large, exactly."""
         query = FaceQuery(
             solid=self._sought_in(solid),
-            plane=None if plane is None else pointer(CutPlane(*arguments.plane_across('plane', plane))),
-            normal=None if normal is None else pointer(Point(*arguments.vector('normal', normal))),
-            containing=None if containing is None else pointer(Point(*arguments.point('containing', containing))),
-            area=None if area is None else pointer(ratio(arguments.factor('area', area))))
+            plane=None if plane is None else pointer(CutPlane(*self._kernel.lengths.plane_across('plane', plane))),
+            normal=None if normal is None else pointer(Point(*direction('normal', normal))),
+            containing=None if containing is None else pointer(Point(*self._kernel.lengths.point('containing', containing))),
+            area=None if area is None else pointer(ratio(arguments.factor('area', area) / self._kernel.lengths.step ** 2)))
         found = self._kernel.find('find_faces', query)
         return self._selected(FacePart, found, solid=solid, plane=plane, normal=normal, containing=containing, area=area)
 
     def edges(self, *, solid: Optional[arguments.Solid] = None, between: Optional[Tuple[arguments.Face, arguments.Face]] = None,
-              along: Optional[arguments.Point] = None, length: Optional[Exact] = None) -> 'Selection[EdgePart]':
+              along: Optional[arguments.Point] = None, length: Optional[arguments.Length] = None) -> 'Selection[EdgePart]':
         """The edges that fit: of the solid; between two faces; along the vector, one way or the other; so long, exactly."""
         pair = self._several('between', (0, 0) if between is None else between, 'face')
         if len(pair) != 2:
@@ -71,75 +108,79 @@ class Reading(Methods):
         query = EdgeQuery(
             solid=self._sought_in(solid),
             between=(WORD * 2)(*([] if between is None else [arguments.positive('between', face) for face in pair])),
-            along=None if along is None else pointer(Point(*arguments.vector('along', along))),
-            length=None if length is None else pointer(ratio(arguments.factor('length', length))))
+            along=None if along is None else pointer(Point(*direction('along', along))),
+            length=None if length is None else pointer(ratio(arguments.factor('length', length) / self._kernel.lengths.step)))
         return self._selected(EdgePart, self._kernel.find('find_edges', query), solid=solid, between=between, along=along, length=length)
 
     def vertices(self, *, solid: Optional[arguments.Solid] = None, at: Optional[arguments.Point] = None) -> 'Selection[VertexPart]':
         """The vertices of the solid, or all; `at` a point."""
-        place = None if at is None else arguments.point('at', at)
+        spot = None if at is None else self._kernel.lengths.point('at', at)
         numbers = self._kernel.lines.numbers('vertex') if solid is None else self.solid(solid).vertices.numbers
-        fitting = [number for number in numbers if place is None or self._kernel.lines.vertex(number) == place]
+        fitting = [number for number in numbers if spot is None or self._kernel.lines.vertex(number) == spot]
         return self._selected(VertexPart, fitting, solid=solid, at=at)
 
     def bounding_box(self, solid: arguments.Solid) -> solid_measures.BoundingBox:
         """The least box with sides along the axes around the solid. Refused: NoSolid."""
-        return solid_measures.bounding_box(*self._alone(solid))
+        found, lengths = solid_measures.bounding_box(*self._alone(solid)), self._kernel.lengths
+        return solid_measures.BoundingBox(lengths.place(found.low), lengths.place(found.high))
 
-    def centroid(self, solid: arguments.Solid) -> solid_measures.ExactPoint:
+    def centroid(self, solid: arguments.Solid) -> ExactPlace:
         """The centre of mass of the solid, of even density. Refused: NoSolid. Raises NoVolume where it encloses none."""
-        return solid_measures.centroid(*self._alone(solid))
+        return self._kernel.lengths.place(solid_measures.centroid(*self._alone(solid)))
 
-    def inertia(self, solid: arguments.Solid, about: Optional[ExactVector] = None) -> solid_measures.Inertia:
+    def inertia(self, solid: arguments.Solid, about: Optional[arguments.Point] = None) -> solid_measures.Inertia:
         """The moments of inertia of the solid, of density one, about a point or else its centroid. Refused: NoSolid. Raises NoVolume where it
         encloses none and no point is given."""
-        place = None if about is None else arguments.exact_point('about', about)
-        return solid_measures.inertia(*self._alone(solid), place)
+        step = self._kernel.lengths.step
+        middle = None if about is None else _times(place('about', about), 1 / step)
+        found = solid_measures.inertia(*self._alone(solid), middle)
+        return solid_measures.Inertia(*(_times(row, step ** power) for row, power in ((found.about, 1), (found.moments, 5), (found.products, 5))))
 
     def surface_area(self, solid: arguments.Solid) -> float:
         """The area of all faces of the solid, rounded. Refused: NoSolid."""
-        return solid_measures.surface_area(*self._alone(solid))
+        return float(solid_measures.surface_area(*self._alone(solid)) * self._kernel.lengths.step ** 2)
 
     def area(self, face: arguments.Face) -> float:
         """The area of the face, rounded: the root of square_area. Refused: NoFace."""
-        return solid_measures.area(*self._faces(face=face))
+        return float(solid_measures.area(*self._faces(face=face)) * self._kernel.lengths.step ** 2)
 
     def square_area(self, face: arguments.Face) -> Fraction:
         """The square of the area of the face. Refused: NoFace."""
-        return solid_measures.square_area(*self._faces(face=face))
+        return solid_measures.square_area(*self._faces(face=face)) * self._kernel.lengths.step ** 4
 
     def length(self, edge: arguments.Edge) -> float:
         """The length of the edge, rounded: the root of square_length. Refused: NoEdge."""
-        return solid_measures.length(*self._edge(edge))
+        return float(solid_measures.root(Fraction(self.square_length(edge))))
 
-    def square_length(self, edge: arguments.Edge) -> int:
+    def square_length(self, edge: arguments.Edge) -> Exact:
         """The square of the length of the edge. Refused: NoEdge."""
-        return solid_measures.square_length(*self._edge(edge))
+        start, end = EdgePart(self._kernel, abs(self._half_edge('edge', edge))).points
+        return plain(Fraction(sum((to - at) ** 2 for at, to in zip(start, end))))
 
     def distance(self, face: arguments.Face, other: arguments.Face) -> float:
         """The distance of the planes of two parallel faces, rounded: the root of square_distance. Refused: NoFace. Raises NotParallel."""
-        return solid_measures.distance(*self._faces(face=face, other=other))
+        return float(solid_measures.distance(*self._faces(face=face, other=other)) * self._kernel.lengths.step)
 
     def square_distance(self, face: arguments.Face, other: arguments.Face) -> Fraction:
         """The square of the distance of the planes of two parallel faces. Refused: NoFace. Raises NotParallel."""
-        return solid_measures.square_distance(*self._faces(face=face, other=other))
+        return solid_measures.square_distance(*self._faces(face=face, other=other)) * self._kernel.lengths.step ** 2
 
     def section(self, solid: arguments.Solid, plane: arguments.Point) -> List[sections.Polygon]:
         """The polygons in which the plane a x + b y + c z + d = 0 cuts the solid, seen from above the plane: outlines run counterclockwise,
         holes clockwise; none where it misses the solid. Refused: NoSolid. Raises ValueError where a, b and c are zero."""
-        coefficients = arguments.plane('plane', plane)
-        return sections.section(*self._alone(solid), coefficients)
+        coefficients = self._kernel.lengths.plane('plane', plane)
+        return [tuple(map(self._kernel.lengths.place, polygon)) for polygon in sections.section(*self._alone(solid), coefficients)]
 
-    def off_lattice(self, solid: arguments.Solid, plane: arguments.Point) -> lattice_cuts.OffLatticeCut:
-        """Where the plane cuts the edges of the solid, by which factor all of these points would be whole, and planes nearby that `split`
-        takes. Refused: NoSolid; PlaneRange: a coefficient is out of range. Raises ValueError where a, b and c are zero."""
-        coefficients = arguments.plane('plane', plane)
+    def off_lattice(self, solid: arguments.Solid, plane: arguments.Point) -> OffLatticeCut:
+        """Where the plane cuts the edges of the solid, how many times finer the step must be for all of these points to be multiples of it, and planes
+        nearby that `split` takes. Refused: NoSolid; PlaneRange: a coefficient is out of range. Raises ValueError where a, b and c are zero."""
+        coefficients = self._kernel.lengths.plane('plane', plane)
         found, number = self._alone(solid)
         self._kernel.whole_factor(number, coefficients)    # (refused where one is out of range)
-        return lattice_cuts.off_lattice_cut(found, number, coefficients)
+        return OffLatticeCut.of(lattice_cuts.off_lattice_cut(found, number, coefficients), self._kernel.lengths)
 
     def vertices_array(self) -> memoryview:
-        """A row for each vertex, rising: its number, x, y and z, in 64 bits each."""
+        """A row for each vertex, rising: its number, and x, y and z in steps, in 64 bits each."""
         return self._rows('read_vertices', [], self._kernel.lines.greatest('vertex'), 4, 'q')
 
     def half_edges_array(self, solid: Optional[arguments.Solid] = None) -> memoryview:
@@ -169,12 +210,6 @@ class Reading(Methods):
             FacePart(self._kernel, number).loops
         return (self._kernel.lines.model(numbers), *numbers)
 
-    def _edge(self, edge: arguments.Edge) -> Tuple[Model, int]:
-        """The edge alone, and its number. Refused: NoEdge."""
-        number = abs(self._half_edge('edge', edge))
-        ends = EdgePart(self._kernel, number).vertices
-        return Model((), {}, {}, {number: (ends[0].number, ends[1].number)}, {end.number: end.point for end in ends}), number
-
     def _of(self, solid: Optional[arguments.Solid]) -> int:
         """The number of a solid that is there, 0 for all. Refused: NoSolid."""
         return 0 if solid is None else self.solid(solid).faces[0].solid.number
@@ -188,3 +223,9 @@ class Reading(Methods):
             raise MemoryError(f'{name}: memory was refused')
         flat = memoryview(rows).cast('B')[:count * width * sizeof(kind)]
         return flat.cast(letter, (count, width)) if count else flat.cast(letter)
+
+
+def _times(point: Sequence[Exact], factor: Fraction) -> Tuple[Fraction, Fraction, Fraction]:
+    """Three numbers, each times the factor."""
+    x, y, z = (part * factor for part in point)
+    return (Fraction(x), Fraction(y), Fraction(z))

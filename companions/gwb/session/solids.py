@@ -2,16 +2,15 @@
 
 import ctypes
 from dataclasses import dataclass, field
-from math import atan2, pi
+from math import atan2, lcm, pi
 from typing import Any, Dict, List, Mapping, Optional, Sequence, Tuple
 
 from ..errors import Refused
 from ..geometry.crossings import Plane, without_common_factor
 from ..geometry.free_numbers import KINDS, LARGEST, renumbered
 from ..geometry.model import Model
-from ..geometry.moved import FARTHEST, Change, Displaced, changed, mirroring, moving, turning_to, whole_factor
+from ..geometry.moved import FARTHEST, Change, Displaced, changed, mirroring, moving, scaling, turning_to, whole_factor
 from ..geometry.outlines import Impossible
-from ..geometry.plane_figures import Exact
 from ..geometry.vectors import ZERO, negative
 from ..geometry.whole_turns import WholeTurn, nearest_turn, whole_turn
 from ..protocol.complaints import refused
@@ -21,11 +20,13 @@ from . import arguments
 from .bench import Methods, warn
 from .c_calls import EDGES, FACES, INTO, LOOPS, LOWER_CAPS, SOLIDS, UPPER_CAPS, VERTICES, WORD, CutPlane, FaceQuery, Motion, Point, words
 from .kernel import NewNumbers
+from .lengths import Length, exact
 from .reading import Found, Part
 from .results import Cut, Numbers, Renumbered, Split
 from .steps import Block
 
 _AXES = ('x', 'y', 'z')
+_REFINES = 'refine=True cuts in a finer step, in which all solids are as large as before'
 # Where the first axis lies after no turn, a quarter, two and three.
 _QUARTERS = ((1, 0), (0, 1), (-1, 0), (0, -1))
 
@@ -88,25 +89,25 @@ class SolidMethods(Methods):
 
         Refused: NoSolid; PointRange: a point would leave the range; OffLattice: one would be mirrored between whole coordinates;
         NumbersSpent: there are no free numbers."""
-        number, by = self._number('solid', solid), arguments.point('move', move)
-        return self._copied(number, moving(by) if mirror is None else mirroring(arguments.plane_across('mirror', mirror), by))
+        number, by = self._number('solid', solid), self._kernel.lengths.point('move', move)
+        return self._copied(number, moving(by) if mirror is None else mirroring(self._kernel.lengths.plane_across('mirror', mirror), by))
 
     def pattern(self, solid: arguments.Solid, count: int, step: arguments.Point) -> Tuple[Copy, ...]:
         """Copies of the solid, each a step farther than the one before, so that there are `count` of it with itself. Refused as copy is. Raises
         ValueError where the count is below 2 or the step is zero."""
-        number, many, way = self._number('solid', solid), arguments.positive('count', count), arguments.vector('step', step)
+        number, many, way = self._number('solid', solid), arguments.positive('count', count), self._kernel.lengths.vector('step', step)
         if many < 2:
             raise ValueError(f'count: {many} is below 2')
         if many > LARGEST:
             raise refused('pattern', NUMBERS['NumbersSpent'], 1, f'there are {LARGEST:,} numbers for solids, not {many:,}')
         return self._in_a_row('pattern', number, many - 1, many, Point(*way))
 
-    def pattern_around(self, solid: arguments.Solid, count: int, axis: str, times: None = None, *, degrees: Exact = 90,
-                       to: Optional[Sequence[int]] = None, about: arguments.Point = ZERO) -> Tuple[Copy, ...]:
+    def pattern_around(self, solid: arguments.Solid, count: int, axis: str, times: None = None, *, degrees: Length = 90,
+                       to: Optional[Sequence[Length]] = None, about: arguments.Point = ZERO) -> Tuple[Copy, ...]:
         """Copies of the solid around the axis 'x', 'y' or 'z' through a point, each turned on from the one before it, by degrees or `to` a vector as
         `turn` says, so that there are `count` of it with itself. Refused as copy is; OffLattice: a point would not be whole. Raises ValueError as turn
         does, and where one would come to lie where another is."""
-        number, round_axis, middle = self._number('solid', solid), arguments.word('axis', axis, _AXES), arguments.point('about', about)
+        number, round_axis, middle = self._number('solid', solid), arguments.word('axis', axis, _AXES), self._kernel.lengths.point('about', about)
         turn, many = _wanted_turn('pattern_around', times, degrees, to), arguments.whole('count', count, 2)
         if turn.length == 1:
             quarters = _QUARTERS.index(turn.way)
@@ -121,9 +122,9 @@ class SolidMethods(Methods):
     def move(self, solid: arguments.Solid, vector: arguments.Point) -> int:
         """The solid moves by the vector: its number, which stays, as all of its numbers do. Refused: NoSolid; PointRange: a point would
         leave the range."""
-        return self._placed(solid, moving(arguments.point('vector', vector)))
+        return self._placed(solid, moving(self._kernel.lengths.point('vector', vector)))
 
-    def turn(self, solid: arguments.Solid, axis: str, times: None = None, *, degrees: Exact = 90, to: Optional[Sequence[int]] = None,
+    def turn(self, solid: arguments.Solid, axis: str, times: None = None, *, degrees: Length = 90, to: Optional[Sequence[Length]] = None,
              about: arguments.Point = ZERO) -> int:
         """The solid turns about the axis 'x', 'y' or 'z' through a point, counterclockwise as seen from where the axis points: its number. It turns by
         degrees, which are a multiple of 90; or so that the next of the axes comes to lie along `to`, two whole numbers whose length is whole, such as
@@ -132,17 +133,35 @@ class SolidMethods(Methods):
         Refused as move is; OffLattice: a point would not be whole, and in a step how many times finer all would be. Raises ValueError for other angles
         and vectors, which names one that is near."""
         round_axis, turn = arguments.word('axis', axis, _AXES), _wanted_turn('turn', times, degrees, to)
-        return self._placed(solid, turning_to(round_axis, *turn, arguments.point('about', about)))
+        return self._placed(solid, turning_to(round_axis, *turn, self._kernel.lengths.point('about', about)))
 
     def mirror(self, solid: arguments.Solid, plane: arguments.Point) -> int:
-        """The solid becomes its image in the plane a x + b y + c z + d = 0: its number. Each loop runs the other way, by the mates of its
-        half-edges. Refused as move is; OffLattice: a point would come between whole coordinates, as none does in planes across an axis or a
+        """The solid becomes its image in the plane a x + b y + c z + d = 0 of points in millimetres: its number. Each loop runs the other way, by the
+        mates of its half-edges. Refused as move is; OffLattice: a point would come between whole coordinates, as none does in planes across an axis or a
         diagonal of two axes that lie well."""
-        return self._placed(solid, mirroring(arguments.plane_across('plane', plane)))
+        return self._placed(solid, mirroring(self._kernel.lengths.plane_across('plane', plane)))
 
-    def scale(self, factor: int) -> None:
-        """All coordinates of all solids are multiplied by a whole number from 1 on. Refused: PointRange."""
-        self._kernel.give('scale', arguments.positive('factor', factor))
+    def scale(self, factor: arguments.Length) -> None:
+        """All solids become so many times larger, from the origin on: by a number above zero, such as 3 or '1/2'. Refused: PointRange; OffLattice: a point
+        would be no multiple of the step, and in a step how many times finer all would be."""
+        times = arguments.factor('factor', factor)
+        if times.denominator == 1:
+            self._kernel.give('scale', arguments.whole('factor', times.numerator))
+        else:
+            with Block(self._kernel, False):
+                before = self._kernel.listing()
+                after = _changed('scale', before, scaling(times))
+                for solid in before.solids:
+                    self._kernel.give('kill_solid', solid)
+                self._kernel.load(after)
+
+    def refine(self, times: int) -> None:
+        """The step becomes so many times finer, and all solids stay as large as they are, as one command. Refused: PointRange: a point would lie more than
+        1,000,000,000 steps out."""
+        finer = arguments.positive('times', times)
+        with Block(self._kernel, False):
+            self._kernel.give('scale', finer)
+            self._kernel.notes.now.unit /= finer
 
     def renumber(self) -> Renumbered:
         """All numbers become as low as they can be, from 1 on in the order that they have, and may be taken again when they are free: where none is left.
@@ -156,36 +175,40 @@ class SolidMethods(Methods):
         self._kernel.numbers = NewNumbers(self._kernel.lines)
         return made
 
-    def split(self, solid: arguments.Solid, plane: arguments.Point, *, above: Optional[int] = None, scale: bool = False) -> Split:
-        """The solid is cut by the plane a x + b y + c z + d = 0, four numbers or what `plane` returns; what lies above it becomes a new solid.
+    def split(self, solid: arguments.Solid, plane: arguments.Point, *, above: Optional[int] = None, refine: bool = False, scale: None = None) -> Split:
+        """The solid is cut by the plane a x + b y + c z + d = 0 of points in millimetres, four numbers or what `plane` returns, or Plane(z=8); what lies
+        above it becomes a new solid.
 
-        With scale=True a cut that is refused NotLattice is made in a finer unit: all coordinates of the bench are multiplied by the least whole
-        number that makes the points of the cut whole, and `unit` is divided by it, as one command with the cut. Refused besides: PointRange: a
-        point would then lie past 1,000,000,000."""
-        new, made = self._cut_by('split', self._number('solid', solid), arguments.plane('plane', plane), scale, above)
+        With refine=True a cut that is refused NotLattice is made in a finer step: as many times finer as makes the points of the cut multiples of it,
+        as one command with the cut. Refused besides: PointRange: a point would then lie more than 1,000,000,000 steps out."""
+        arguments.gone('scale', scale, _REFINES)
+        new, made = self._cut_by('split', self._number('solid', solid), self._kernel.lengths.plane('plane', plane), refine, above)
         return Split(new, *made)
 
-    def cut(self, solid: arguments.Solid, plane: arguments.Point, *, keep: str = 'both', above: Optional[int] = None, scale: bool = False) -> Cut:
+    def cut(self, solid: arguments.Solid, plane: arguments.Point, *, keep: str = 'both', above: Optional[int] = None, refine: bool = False,
+            scale: None = None) -> Cut:
         """The solid is cut by the plane a x + b y + c z + d = 0. What lies below it stays the solid, and what lies above it becomes a new one,
         of the number `above` where one is given. With keep='below' or 'above' the other part is thrown away, and the part that is kept keeps
-        the number of the solid. With scale=True it is cut in a finer unit where its points ask for one, as `split` does.
+        the number of the solid. With refine=True it is cut in a finer step where its points ask for one, as `split` does.
 
         Where split refuses the plane for what it touches or how it runs through faces and holes, the solid is cut face by face, and faces in
         the plane are one with the caps beside them. Refused: what split says of the solid, the plane and its points: NoSolid,
         SolidTaken, LoneLoop, NotFlat, PlaneMisses, NotLattice; Meets: a part would touch itself."""
-        number, level, wanted = self._number('solid', solid), arguments.plane('plane', plane), arguments.word('keep', keep, ('both', 'below', 'above'))
+        arguments.gone('scale', scale, _REFINES)
+        number, level = self._number('solid', solid), self._kernel.lengths.plane('plane', plane)
+        wanted = arguments.word('keep', keep, ('both', 'below', 'above'))
         if above is not None and wanted != 'both':
             raise ValueError(f'above: the part above the plane gets no number of its own where {keep!r} alone is kept')
         if wanted == 'above':
-            _, (lower, upper) = self._cut_by('trim', number, (*negative(level[:3]), -level[3]), scale, None)
+            _, (lower, upper) = self._cut_by('trim', number, (*negative(level[:3]), -level[3]), refine, None)
             return Cut(None, number, upper, lower)
-        new, (lower, upper) = self._cut_by('cut' if wanted == 'both' else 'trim', number, level, scale, above)
+        new, (lower, upper) = self._cut_by('cut' if wanted == 'both' else 'trim', number, level, refine, above)
         return Cut(number, new if wanted == 'both' else None, lower, upper)
 
-    def trim(self, solid: arguments.Solid, plane: arguments.Point, *, scale: bool = False) -> Numbers:
-        """What lies above the plane is cut off and thrown away: the faces that close what is left. With scale=True it is cut in a finer unit
+    def trim(self, solid: arguments.Solid, plane: arguments.Point, *, refine: bool = False, scale: None = None) -> Numbers:
+        """What lies above the plane is cut off and thrown away: the faces that close what is left. With refine=True it is cut in a finer step
         where its points ask for one. Refused as cut is."""
-        return self.cut(solid, plane, keep='below', scale=scale).lower_caps
+        return self.cut(solid, plane, keep='below', refine=refine, scale=scale).lower_caps
 
     def union(self, solids: Sequence[arguments.Solid]) -> int:
         """The solids, which may cross, touch or lie apart, become one: the number of the first of them. Faces of one plane beside each other
@@ -277,10 +300,10 @@ class SolidMethods(Methods):
                 self._kernel.load(after)
         return number
 
-    def _cut_by(self, word: str, solid: int, plane: Plane, scale: object, above: object) -> Tuple[int, Sequence[Numbers]]:
+    def _cut_by(self, word: str, solid: int, plane: Plane, refine: object, above: object) -> Tuple[int, Sequence[Numbers]]:
         """Cuts a solid by a plane: the number for what is above it, and what is made. Where points of the cut aren't whole, it is refused with the
-        least factor by which they are, or made once the unit is so much finer. Refused besides: PointRange: a point would then leave the range."""
-        may_scale = arguments.flag('scale', scale)
+        least factor by which they are, or made once the step is so much finer. Refused besides: PointRange: a point would then leave the range."""
+        may_refine = arguments.flag('refine', refine)
         new = self._new('solid', None) if above is None else self._number('above', above, 'solid')
         try:
             return new, self._parted(word, solid, plane, new)
@@ -291,14 +314,15 @@ class SolidMethods(Methods):
             if refused.name != 'NotLattice':
                 raise
             factor = self._kernel.whole_factor(solid, plane)
-            if not may_scale:
-                refused.args = (f'{refused.args[0]}; times {factor} all its points are whole, as scale=True makes them; off_lattice() names planes near by',)
+            if not may_refine:
+                refused.args = (f'{refused.args[0]}; in a step {factor} times finer all its points are multiples of it, as refine=True makes it; '
+                                'off_lattice() names planes near by',)
                 raise
         with Block(self._kernel, False):
             try:
                 self._kernel.give('scale', factor)
             except Refused as refused:
-                refused.args = (f'times {factor} all points of the cut are whole, but {refused}',)
+                refused.args = (f'in a step {factor} times finer all points of the cut are multiples of it, but {refused}',)
                 raise
             self._kernel.notes.now.unit /= factor
             # (its offset stays in range, since it meets edges whose ends do)
@@ -326,17 +350,18 @@ class SolidMethods(Methods):
 
 def _wanted_turn(word: str, times: object, degrees: object, to: object) -> WholeTurn:
     """The turn that is wanted, by degrees or along a vector. Raises ValueError where it isn't by quarters, or the vector's length isn't whole."""
-    if times is not None:
-        raise TypeError(f'times: {word} takes degrees=90, a multiple of 90, or to=(4, 3), along which the next of the axes comes to lie')
+    arguments.gone('times', times, f'{word} takes degrees=90, a multiple of 90, or to=(4, 3), along which the next of the axes comes to lie')
     if to is not None:
         if degrees != 90:
             raise ValueError('to: an angle in degrees is given already')
-        u, v = arguments.coordinates('to', to, 2)
+        across, along = arguments.pair('to', to)
+        below = lcm(across.denominator, along.denominator)
+        u, v = int(across * below), int(along * below)
         found = whole_turn(u, v)
         if found is None:
             raise ValueError(f'to: the length of ({u}, {v}) is not whole{_near_by(atan2(v, u) * 180 / pi) if (u, v) != (0, 0) else ""}')
         return found
-    angle = arguments.rational('degrees', degrees)
+    angle = exact('degrees', degrees, 'an angle')
     if angle % 90:
         raise ValueError(f'degrees: {float(angle):g} is no multiple of 90, and turns no whole points to whole ones{_near_by(float(angle))}')
     return WholeTurn(_QUARTERS[int(angle // 90) % 4], 1)
@@ -366,5 +391,5 @@ def _changed(word: str, model: Model, change: Change) -> Model:
     except Displaced as error:
         if error.name == 'PointRange':
             raise refused(word, NUMBERS[error.name], error.vertex, str(error)) from None
-        text = f'{error}; times {whole_factor(model, change)} all points are whole'
+        text = f'{error}; in a step {whole_factor(model, change)} times finer, which refine() makes, all points would be multiples of it'
         raise Impossible(error.name, error.vertex, text) from None

@@ -40,15 +40,16 @@ class _Work:
                     del blocks[blocks.index(self):]
 
     def _keep(self) -> None:
-        """What was given stays: of a draft as one command. The labels of one without steps go with the command before it, and those that were given
-        before the first command of a group with that."""
-        kernel, notes, looks = self._kernel, self._kernel.notes, self._kernel.notes.now.looks
+        """What was given stays: of a draft as one command. The labels and the unit of one without steps go with the command before it, and labels that
+        were given before the first command of a group with that."""
+        kernel, notes, looks, unit = self._kernel, self._kernel.notes, self._kernel.notes.now.looks, self._kernel.notes.now.unit
         is_empty = self.is_draft and kernel.lines.mark() == 0
         if self.is_draft:
             (kernel.lines.abandon if is_empty else kernel.lines.commit)()
         kernel.settle()
         if is_empty:
             notes.put(*looks)
+            notes.now.unit = unit
         elif self._outer is None and notes.at > self._before:
             early = notes.all[self._before].looks
             notes.all[self._before + 1].looks[:0] = early[self._looks:]

@@ -17,27 +17,30 @@ from fractions import Fraction
 from html import escape
 from pathlib import Path
 from sys import maxsize
-from typing import ContextManager, Iterator, List, NoReturn, Optional, Tuple
+from typing import TYPE_CHECKING, ContextManager, Iterator, List, NoReturn, Optional, Tuple
 
 from ..errors import CompanionError, Complaint, InDraft
 from ..formats.appearance import appearances_in, comments
 from ..geometry.model import Model
-from ..geometry.plane_figures import Exact
 from ..protocol.language import COMMANDS, first_answered, first_word, is_answered, is_comment
 from ..protocol.listing import read_model
 from ..protocol.replies import Reply, is_listed
-from ..scripts.unit_comments import unit_in, unit_line
+from ..scripts.unit_comments import unit_in, unit_line, unit_lines
 from . import arguments
 from .commands import Commands
 from .exporting import Exporting
 from .feature_methods import FeatureMethods
 from .kernel import Kernel
+from .lengths import DEFAULT_STEP
 from .library import find_path
 from .results import Numbers
 from .selection import Reading
 from .solids import SolidMethods
 from .steps import Block
 
+# What is said of names that went.
+_GONE = {'unit': 'lengths are millimetres now, and step says how fine they are',
+         'six_volume': "volume(solid) is exact, and ask('volume 1') says six times it in steps"}
 # In a saved script the mark before the commands that are one step to undo, or one draft; gwb reads over it.
 _MARK = re.compile(rb'# (step|draft) of ([1-9][0-9]{0,8}) commands')
 
@@ -45,16 +48,23 @@ _MARK = re.compile(rb'# (step|draft) of ([1-9][0-9]{0,8}) commands')
 class Workbench(SolidMethods, FeatureMethods, Commands, Reading, Exporting):
     """A running gwb. Each command is a method; one that isn't accepted raises Refused, Faulted or MemoryRefused."""
 
-    def __init__(self, library: Optional[arguments.Path] = None, *, unit: Exact = 1) -> None:
+    def __init__(self, library: Optional[arguments.Path] = None, *, step: arguments.Length = DEFAULT_STEP, unit: None = None) -> None:
         """Opens a session of the library at the path, or the one that the environment variable GWB, the package or the system has.
 
-        `unit` is how many millimetres a coordinate stands for, a whole number or a fraction, as `Fraction(1, 60)`.
+        Methods take and give millimetres, and all points are multiples of `step`: thousandths, or another number above zero, such as '1/60'. Scripts, replies
+        to `ask`, listings and arrays count steps.
         """
-        size = arguments.factor('unit', unit)
+        arguments.gone('unit', unit, _GONE['unit'])
+        size = arguments.factor('step', step, wanted='a length')
         self._kernel = Kernel(find_path() if library is None else arguments.path('library', library), size)
 
     def __reduce__(self) -> NoReturn:
         raise TypeError('a workbench holds a running session, so it is neither copied nor pickled: save() writes its script')
+
+    if not TYPE_CHECKING:
+        def __getattr__(self, name: str) -> NoReturn:
+            """Names that went say what is there instead."""
+            raise AttributeError(f'{name}: {_GONE[name]}' if name in _GONE else f'a workbench has no {name}')
 
     def __enter__(self) -> 'Workbench':
         return self
@@ -68,8 +78,8 @@ class Workbench(SolidMethods, FeatureMethods, Commands, Reading, Exporting):
         return 0
 
     def ask(self, line: str) -> Reply:
-        """The reply to one line of the script language, whatever it is. What it makes, undoes or redoes is taken account of; of a draft
-        all is undone or redone."""
+        """The reply to one line of the script language, whatever it is, in which coordinates are steps of the lattice. What it makes, undoes or redoes is
+        taken account of; of a draft all is undone or redone."""
         return self._kernel.ask(arguments.text('line', line))
 
     def draft(self) -> ContextManager[None]:
@@ -87,7 +97,7 @@ class Workbench(SolidMethods, FeatureMethods, Commands, Reading, Exporting):
         return Block(self._kernel, True)
 
     def listing(self) -> Model:
-        """The model held."""
+        """The model held, its points in steps of the lattice."""
         return self._kernel.listing()
 
     def half_edges(self, loop: arguments.LoopNumber) -> Numbers:
@@ -101,12 +111,17 @@ class Workbench(SolidMethods, FeatureMethods, Commands, Reading, Exporting):
         return f'<Workbench, {held} command{"" if held == 1 else "s"} held>'
 
     def script(self) -> str:
-        """The script of what is held: the accepted commands, a line each; undone ones are left out."""
-        return ''.join(self._kernel.commands(maxsize))
+        """The script of what is held: the accepted commands, a line each; undone ones are left out. Its coordinates are steps, and a comment says the step in
+        millimetres, where it isn't 1, and where it changes."""
+        kernel = self._kernel
+        units = {note.unit for note in (*kernel.notes.all[:kernel.notes.at + 1], kernel.notes.now)}
+        if len(units) == 1:
+            return ''.join([*(f'{line}\n' for line in unit_lines(units.pop())), *kernel.commands(maxsize)])
+        return ''.join(f'{line}\n' for line in _lines(kernel))
 
     def save(self, path: arguments.Path) -> None:
-        """Writes the script to a file. Comments in it say which commands are one step, the unit, and the labels, so that `load` knows them
-        again. Raises ValueError for an ending of what `export` writes."""
+        """Writes the script to a file. Comments in it say which commands are one step to undo, how fine lengths are, and the labels, so that `load`
+        knows them again. Raises ValueError for an ending of what `export` writes."""
         from ..formats.forms import EXPORTED, by_ending
         file = Path(arguments.path('path', path))
         if by_ending(file.suffix) in EXPORTED:
@@ -115,16 +130,17 @@ class Workbench(SolidMethods, FeatureMethods, Commands, Reading, Exporting):
         file.write_text(''.join(f'{line}\n' for line in lines), encoding='ascii')
 
     @classmethod
-    def load(cls, path: arguments.Path, library: Optional[arguments.Path] = None) -> 'Workbench':
-        """A workbench that holds what the file says: a script, each of whose lines has to be accepted, or a listing. The steps of a script that
-        `save` wrote are those that were saved; of another script each command is one.
+    def load(cls, path: arguments.Path, library: Optional[arguments.Path] = None, *, step: arguments.Length = 1) -> 'Workbench':
+        """A workbench that holds what the file says: a script, each of whose lines has to be accepted, or a listing. The steps to undo of a script that
+        `save` wrote are those that were saved; of another script each command is one. How fine lengths are the script says, as `# unit 1/1000`; where it
+        doesn't, a coordinate is `step` millimetres.
 
         A line that isn't accepted raises Refused, Faulted or MemoryRefused, with the file and the line; a file of a form that `import_file` reads
         ValueError."""
         file = Path(arguments.path('path', path))
         data = file.read_bytes()
         script = _script_in(file, data)
-        bench = cls(library)
+        bench = cls(library, step=step)
         try:
             bench._take(file, enumerate(script.split(b'\n'), 1))
             bench._kernel.notes.begin_with(appearances_in(data.decode('utf-8', 'replace').splitlines()))
@@ -178,8 +194,7 @@ class Workbench(SolidMethods, FeatureMethods, Commands, Reading, Exporting):
 def _saved_lines(kernel: Kernel) -> Iterator[str]:
     """The lines of what is held, the steps of a draft too. Before those that are one step, or one draft, stands a mark, and the unit where it
     changes."""
-    commands: List[List[str]] = [[], *(text.splitlines() for text in kernel.commands())]
-    notes, unit = kernel.notes.all[:kernel.notes.at + 1], Fraction(1)
+    commands, notes, unit = _commands(kernel), kernel.notes.all[:kernel.notes.at + 1], Fraction(1)
     starts = [place for place, note in enumerate(notes) if place > 0 and (place == 1 or note.begins)]
     steps = {first: commands[first:last] for first, last in zip(starts, [*starts[1:], len(notes)])}
     for place, (lines, note) in enumerate(zip(commands, [*notes, kernel.notes.now])):
@@ -199,6 +214,21 @@ def _require_no_form(file: Path, data: bytes) -> None:
     form = by_beginning(data, file.name)
     if form:
         raise ValueError(f'{file}: this is a file of {FORMS[form].title}, which import_file() and gwb-import read')
+
+
+def _commands(kernel: Kernel) -> List[List[str]]:
+    """The lines of each command that is held, after those of none."""
+    return [[], *(text.splitlines() for text in kernel.commands())]
+
+
+def _lines(kernel: Kernel) -> Iterator[str]:
+    """The lines of what is held, with the unit where it changes."""
+    unit = Fraction(1)
+    for lines, note in zip(_commands(kernel), [*kernel.notes.all[:kernel.notes.at + 1], kernel.notes.now]):
+        yield from lines
+        if note.unit != unit:
+            yield unit_line(note.unit)
+        unit = note.unit
 
 
 def _script_in(file: Path, data: bytes) -> bytes:
