@@ -365,14 +365,19 @@ class Scripts(unittest.TestCase):
         with tempfile.TemporaryDirectory() as folder:
             for name, text, words in (
                     ('part.gwb', 'block 1 0 0 0 1 1 1\n\n# note\nkvfs 1\n', r'part.gwb, line 4: kvfs 1: refused 12 1: NotBare: .*edge$'),
-                    ('cube.obj', '# a cube\nv 0 0 0\n', r'cube.obj, line 2: v 0 0 0: fault 1: .*gwb-import'),
-                    ('cube', 'OFF\n8 6 12\n', r'cube, line 1: OFF: fault 1: .*gwb-import'),
                     ('part.gwb', '# draft of 2 commands\nmvfs 1 1 1 1 0 0 0\nkvfs x\n', r'part.gwb, line 3: kvfs x: fault 2'),
                     ('part.gwb', '# draft of 2 commands\nblock 1 0 0 0 1 1 1\nsweep 9 0 0 1\n', r'part.gwb, line 3: sweep .*: refused 3 9'),
                     ('part.gwb', '# draft of 1 commands\nundo\n', r'part.gwb, line 2: undo: a draft is open'),
                     ('replies', 'solid 1\nface 1 1 1\n', r'replies: ')):
                 Path(folder, name).write_text(text)
                 with self.subTest(text), self.assertRaisesRegex(CompanionError, words):
+                    Workbench.load(f'{folder}/{name}', library())
+
+    def test_a_file_of_another_form_is_refused_with_what_reads_it(self):
+        with tempfile.TemporaryDirectory() as folder:
+            for name, text, form in (('cube.obj', '# a cube\nv 0 0 0\n', 'OBJ'), ('cube', 'OFF\n8 6 12\n', 'OFF')):
+                Path(folder, name).write_text(text)
+                with self.subTest(name), self.assertRaisesRegex(ValueError, rf'{name}: this is a file of {form}, which import_file\(\)'):
                     Workbench.load(f'{folder}/{name}', library())
 
     def test_save_and_load(self):
