@@ -8,6 +8,8 @@ from support import COMPANIONS
 
 # Whole packages of Python that a session needs for no command. (pathlib loads urllib.parse in some versions.)
 UNNEEDED = ('email', 'http', 'socket', 'ssl', 'subprocess', 'tempfile', 'webbrowser', 'xml', 'zipfile')
+# What lies beside the forms and is none: colours with names, and numbers as people write them.
+NO_FORMS = {'gwb.formats.appearance', 'gwb.formats.exact_numbers'}
 MOST = 58
 
 
@@ -25,7 +27,7 @@ class Loading(unittest.TestCase):
         before, found = loaded(''), loaded('import gwb')
         self.assertEqual({name for name in found - before if name.partition('.')[0] in UNNEEDED or name == 'urllib.request'}, set())
         own = {name for name in found if name.partition('.')[0] == 'gwb'}
-        self.assertEqual({name for name in own if name.startswith(('gwb.formats.', 'gwb.drawing'))}, {'gwb.formats.appearance'})
+        self.assertEqual({name for name in own if name.startswith(('gwb.formats.', 'gwb.drawing'))}, NO_FORMS)
         self.assertLessEqual(len(own), MOST, sorted(own))
 
     def test_no_program_loads_what_the_net_needs(self):
