@@ -205,7 +205,7 @@ class Unit(unittest.TestCase):
         self.assertIn(b'\nv 0 3.666666667 0\n', texts['.obj'])
         self.assertIn(b'\n0 3.666666667 0\n', texts['.off'])
         self.assertIn(b'\nvertex 0 3.666666667 0\n', texts['.stl'])
-        self.assertIn(b'gwb, unit 1/6', texts['.html'])
+        self.assertIn(b'"unit":["1","6"]', texts['.html'])
         with zipfile.ZipFile(self.folder / 'part.3mf') as package:
             self.assertIn(b'transform="0.16666666666666666 0 0 0 0.16666666666666666 0 0 0 0.16666666666666666 0 0 0"',
                           package.read('3D/3dmodel.model'))

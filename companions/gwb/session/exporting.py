@@ -68,9 +68,9 @@ class Exporting(Methods):
         return nearest(exact('length', length), self.step)
 
     def page(self) -> str:
-        """A page in HTML to turn the model and to pick from it, as `gwb-view` makes it, with the labels."""
+        """A page in HTML to turn the model and to pick from it in millimetres, as `gwb-view` makes it, with the labels."""
         from ..drawing.page import page_of
-        return page_of(self._kernel.listing(), 'gwb' if self.step == 1 else f'gwb, unit {self.step}', looks=self._kernel.labels())
+        return page_of(self._kernel.listing(), looks=self._kernel.labels(), unit=self.step)
 
     def export(self, path: arguments.Path) -> None:
         """Writes what is held to a file, by the ending of its name: .step or .stp, .3mf, .glb, .obj (colours in a .mtl beside it), .off, .stl, .html.
