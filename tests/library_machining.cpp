@@ -605,7 +605,8 @@ static void try_refusals()
         (void)pocket(bench, Face(1), square, 8);
         check(false, "a pocket that comes through is refused");
     } catch (const Impossible &why) {
-        check(std::string(why.what()) == "pocket: Meets 1" && why.misfit() == Misfit::meets && why.value() == 1, "why, and where");
+        const std::string text = why.text();
+        check(std::string(why.what()) == "pocket: Meets 1" && why.misfit() == Misfit::meets && why.value() == 1 && !text.empty(), "why, and where");
     }
     check(bench.listing() == before && bench.depth() == 1, "refusals change nothing");
     Attempts none = Workbench().attempt();

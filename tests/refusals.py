@@ -1,25 +1,63 @@
 #!/usr/bin/env python3
-"""The names of refusals everywhere are the kernel's: `Why::code` in crates/euler_operators/src/lib.rt, whose numbers are proved.
+"""All that is said of refusals is that of bindings/refusals.table, and the names of conditions are the kernel's: `Why::code` in
+crates/euler_operators/src/lib.rt, whose numbers are proved.
 
     tests/refusals.py [--write]
 
-Compares with them what is made from them, and what says them by hand: the help text of gwb, the last one in gwb.hpp, and the tables of
-docs/SCRIPT.md and docs/REFUSALS.md, the latter also of what features say. --write first makes anew companions/gwb/protocol/refusals.py, bindings/include/gwb_names.h and
-bindings/rust/src/refusal.rs. The texts are those of companions/gwb/protocol/language.py. The last line counts.
+Compares with the table what is made of it (companions/gwb/protocol/refusals.py, bindings/include/gwb_names.h, bindings/rust/src/refusal.rs and the
+tables of docs/REFUSALS.md), which --write makes anew first, and the names that stand elsewhere: in the kernel, in the help text of gwb, in the table of
+docs/SCRIPT.md, and the last condition in gwb.hpp. The last line counts.
 """
 import re
 import sys
-from pathlib import Path
-from typing import Dict, Iterator, List, Tuple
+from typing import Callable, Dict, Iterator, List, NamedTuple, Tuple
 
 from counts import TOP, command_line, told
 
-sys.path.insert(0, str(TOP / 'companions'))
-
-from gwb.protocol.language import FAULTS, condition_text
-
 Names = Dict[int, str]
-MADE = 'Made by tests/refusals.py --write from the names of the kernel; edit nothing here.'
+MADE = 'Made by tests/refusals.py --write of bindings/refusals.table; edit nothing here.'
+TABLE = 'bindings/refusals.table'
+PAGE = 'docs/REFUSALS.md'
+
+
+class Block(NamedTuple):
+    """What is said of a condition, a fault or a misfit: texts by their keys."""
+
+    kind: str
+    number: int
+    name: str
+    said: Dict[str, str]
+
+    @property
+    def text(self) -> str:
+        """What it says wherever nothing else is said."""
+        return self.said['text']
+
+    @property
+    def row(self) -> str:
+        """Its row in the page."""
+        name = self.name if self.kind == 'misfit' else f'{self.number} {self.name}'
+        return ' | '.join([f'| {name}', self.said['happened'], self.said['try']]) + ' |' if 'try' in self.said else f"| {name} | {self.said['happened']} | |"
+
+
+class Table:
+    """The blocks of the table, by their kinds."""
+
+    def __init__(self, text: str) -> None:
+        blocks = [block for block in text.split('\n\n') if not block.startswith('#')]
+        found = [self._block(*block.strip('\n').split('\n')) for block in blocks]
+        self.conditions, self.faults, self.misfits = ([block for block in found if block.kind == kind] for kind in ('condition', 'fault', 'misfit'))
+        self.is_whole = [list(range(1, len(of) + 1)) for of in self.kinds] == [[block.number for block in of] for of in self.kinds]
+
+    @property
+    def kinds(self) -> Tuple[List[Block], ...]:
+        """The blocks of each kind."""
+        return self.conditions, self.faults, self.misfits
+
+    @staticmethod
+    def _block(head: str, *lines: str) -> Block:
+        kind, number, name = head.split(' ')
+        return Block(kind, int(number), name, dict(line.split(': ', 1) for line in lines))
 
 
 def text_of(file: str) -> str:
@@ -28,79 +66,151 @@ def text_of(file: str) -> str:
     return path.read_text() if path.exists() else ''
 
 
+def names_of(blocks: List[Block]) -> Names:
+    """Their names by their numbers."""
+    return {block.number: block.name for block in blocks}
+
+
 def kernel_names() -> Names:
     """The kernel's names by their numbers."""
     found = re.findall(r'Why::(\w+) => (\d+),', text_of('crates/euler_operators/src/lib.rt'))
     return {int(number): name for name, number in found}
 
 
+def snake(name: str) -> str:
+    """NumberRange is number_range."""
+    return re.sub(r'(?<=[a-z])(?=[A-Z])', '_', name).lower()
+
+
 def capitals(name: str) -> str:
     """A name as C writes constants: NumberRange is NUMBER_RANGE."""
-    return re.sub(r'(?<=[a-z])(?=[A-Z])', '_', name).upper()
+    return snake(name).upper()
 
 
-def python_text(names: Names) -> str:
+# ---- what is made
+
+def python_text(table: Table) -> str:
     """companions/gwb/protocol/refusals.py."""
-    rows = ''.join(f'    {number}: {name!r},\n' for number, name in names.items())
-    return f'"""The names of refusals by their numbers. {MADE}"""\n\nfrom typing import Dict\n\nNAMES: Dict[int, str] = {{\n{rows}}}\n'
+    def rows(pairs: Dict[object, object]) -> str:
+        return ''.join(f'    {key!r}: {value!r},\n' for key, value in pairs.items())
+
+    otherwise = {(key[len('text of '):], block.number): text for block in table.conditions for key, text in block.said.items() if key.startswith('text of ')}
+    parts = (('NAMES: Dict[int, str]', 'The conditions of commands.', names_of(table.conditions)),
+             ('TEXTS: Dict[int, str]', 'What they say, in which X stands for the value.', {block.number: block.text for block in table.conditions}),
+             ('OTHERWISE: Dict[Tuple[str, int], str]', "Where a command, a feature or the value '0' says it otherwise.", otherwise),
+             ('REMEDIES: Dict[int, str]', 'What would do, as far as that can be said without the model.',
+              {block.number: block.said['shell'] for block in table.conditions if 'shell' in block.said}),
+             ('FAULTS: Dict[int, Tuple[str, str]]', 'The names and texts of faults.', {block.number: (block.name, block.text) for block in table.faults}),
+             ('MISFITS: Dict[str, str]', "Why features aren't possible.", {block.name: block.text for block in table.misfits}))
+    made = ''.join(f'\n# {what}\n{name} = {{\n{rows(dict(pairs))}}}\n' for name, what, pairs in parts)
+    return f'"""What is said of refusals. {MADE}"""\n\nfrom typing import Dict, Tuple\n{made}'
 
 
-def c_text(names: Names) -> str:
+def c_function(name: str, what: str, cases: Dict[str, str]) -> str:
+    """A function in C that has a text for each number."""
+    rows = ''.join(f'    case {case}: return "{text}";\n' for case, text in cases.items())
+    return f"""
+/** {what} */
+static inline const char *{name}(uint32_t number)
+{{
+    switch (number) {{
+{rows}    default: return "";
+    }}
+}}
+"""
+
+
+def c_enum(blocks: List[Block], prefix: str) -> str:
+    """The members of an enumeration in C."""
+    return ',\n'.join(f'    /** {block.text} */\n    {prefix}{capitals(block.name)} = {block.number}' for block in blocks)
+
+
+def c_text(table: Table) -> str:
     """bindings/include/gwb_names.h."""
-    rows = ''.join(f'    /* {condition_text(number)} */\n    GWB_WHY_{capitals(name)} = {number},\n' for number, name in names.items())
-    cases = ''.join(f'    case GWB_WHY_{capitals(name)}: return "{name}";\n' for name in names.values())
-    texts = ''.join(f'    case GWB_WHY_{capitals(name)}: return "{condition_text(number)}";\n' for number, name in names.items())
+    why = {f'GWB_WHY_{capitals(block.name)}': block for block in table.conditions}
+    misfits = {f'GWB_MISFIT_{capitals(block.name)}': block for block in table.misfits}
+    functions = ''.join((
+        c_function('gwb_why_name', 'The name of the condition with a number, or "" where there is none.', {case: block.name for case, block in why.items()}),
+        c_function('gwb_why_text', 'What it says, in which X stands for the value that goes with it.', {case: block.text for case, block in why.items()}),
+        c_function('gwb_misfit_text', 'What the misfit with a number says, alike.', {case: block.text for case, block in misfits.items()})))
+    in_cpp = ',\n'.join(f'    {snake(block.name)} = {case} /**< {block.text} */' for case, block in misfits.items())
+    cases = ''.join(f'    case Misfit::{snake(block.name)}: return "{block.name}";\n' for block in table.misfits)
     return f"""/* The names of refusals. {MADE} */
 #ifndef GWB_NAMES_H
 #define GWB_NAMES_H
 #include <stdint.h>
 
-/* The number of a refusal: the first condition that is false. X is the value that goes with it. Some commands give it a meaning of their
+/** The number of a refusal: the first condition that is false. X is the value that goes with it. Some commands give it a meaning of their
  * own (docs/SCRIPT.md). */
 enum gwb_why {{
-{rows.rstrip().rstrip(',')}
+{c_enum(table.conditions, 'GWB_WHY_')}
 }};
 
-/* The name of the condition with a number, or "" where there is none. */
-static inline const char *gwb_why_name(uint32_t number)
+/** Why a feature isn't possible, where it is no condition of a command. X is the value that goes with it. */
+enum gwb_misfit {{
+{c_enum(table.misfits, 'GWB_MISFIT_')}
+}};
+{functions}
+#ifdef __cplusplus
+namespace gwb_session {{
+
+/// Why a feature isn't possible, where it is no condition of a command. X is the value that goes with it.
+enum class Misfit : uint32_t {{
+{in_cpp}
+}};
+
+/// The name of what isn't possible, as Python's session has it.
+[[nodiscard]] constexpr const char *misfit_name(Misfit misfit)
 {{
-    switch (number) {{
-{cases}    default: return "";
-    }}
+    switch (misfit) {{
+{cases}    }}
+    return "";
 }}
 
-/* What the condition with a number says, in which X stands for the value that goes with it, or "" where there is none. */
-static inline const char *gwb_why_text(uint32_t number)
-{{
-    switch (number) {{
-{texts}    default: return "";
-    }}
-}}
+}} // namespace gwb_session
+#endif
 
 #endif
 """
 
 
-def rust_text(names: Names) -> str:
+def rust_text(table: Table) -> str:
     """bindings/rust/src/refusal.rs."""
-    rows = ''.join(f'    {name} = {number}: "{condition_text(number)}",\n' for number, name in names.items())
+    conditions, misfits = (''.join(f'    {block.name} = {block.number}: "{block.text}",\n' for block in of) for of in (table.conditions, table.misfits))
     return f"""//! The names of refusals. {MADE}
 use crate::named::named;
 
 named! {{
 /// Which condition of a command is false. In the texts X is the value that goes with it; some commands give it a meaning of their own.
 Refusal {{
-{rows}}}
+{conditions}}}
+}}
+
+named! {{
+/// Why a feature isn't possible, where it is no condition of a command. X is the value that goes with it.
+Misfit {{
+{misfits}}}
 }}
 """
 
 
-MAKERS = {
+def page_text(table: Table) -> str:
+    """docs/REFUSALS.md, with the rows of its three tables."""
+    parts = re.split(r'(^\|---\|---\|---\|\n)(?:\|.*\n)*', text_of(PAGE), flags=re.MULTILINE)
+    for place, blocks in enumerate(table.kinds):
+        parts[2 * place + 1] += ''.join(f'{block.row}\n' for block in blocks)
+    return ''.join(parts)
+
+
+MAKERS: Dict[str, Callable[[Table], str]] = {
     'companions/gwb/protocol/refusals.py': python_text,
     'bindings/include/gwb_names.h': c_text,
     'bindings/rust/src/refusal.rs': rust_text,
+    PAGE: page_text,
 }
 
+
+# ---- names that stand elsewhere
 
 def help_names(title: str) -> Names:
     """The names in a table of the help text."""
@@ -112,30 +222,12 @@ def _first(pair: Tuple[str, str]) -> int:
     return int(pair[0])
 
 
-def page_names() -> Names:
-    """The names in the table of the page: one number and one name a row, or several of each."""
+def script_names() -> Names:
+    """The names in the table of docs/SCRIPT.md: one number and one name a row, or several of each."""
     found: Names = {}
     for numbers, names in re.findall(r'^\| ([0-9, ]+) \| ([A-Z][A-Za-z, ]+) \|', text_of('docs/SCRIPT.md'), re.MULTILINE):
         found.update(zip(map(int, numbers.split(',')), names.split(', ')))
     return found
-
-
-def advice_names(title: str) -> Names:
-    """The names in a table of the page that says what to do about a refusal."""
-    part = text_of('docs/REFUSALS.md').partition(f'# {title}\n')[2].partition('\n#')[0]
-    return {int(number): name for number, name in re.findall(r'^\| (\d+) (\w+) \|', part, re.MULTILINE)}
-
-
-def feature_names() -> List[str]:
-    """The names in the table of the page that says why features are refused."""
-    part = text_of('docs/REFUSALS.md').partition('# What features say\n')[2].partition('|---|')[2]
-    return re.findall(r'^\| ([A-Z]\w+) \|', part, re.MULTILINE)
-
-
-def misfit_names() -> List[str]:
-    """The names of why features are refused, by gwb_features.h: GWB_MISFIT_NO_AREA is NoArea."""
-    found = re.findall(r'^    GWB_MISFIT_(\w+)', text_of('bindings/include/gwb_features.h'), re.MULTILINE)
-    return [''.join(map(str.capitalize, name.split('_'))) for name in found]
 
 
 def header_names() -> List[str]:
@@ -143,30 +235,26 @@ def header_names() -> List[str]:
     return re.findall(r'<GWB_WHY_(\w+)>\(\)', text_of('bindings/include/gwb.hpp'))
 
 
-def findings(names: Names) -> Iterator[str]:
+def findings(table: Table) -> Iterator[str]:
     """For each place what is wrong with it, or nothing."""
-    yield '' if list(names) == list(range(1, len(names) + 1)) and names else 'crates/euler_operators: the numbers have gaps, or are not found'
+    names, faults = names_of(table.conditions), names_of(table.faults)
+    yield '' if table.is_whole and names else f'{TABLE}: the numbers have gaps'
+    yield '' if kernel_names() == names else f'{TABLE}: the conditions of crates/euler_operators are others'
     for file, make in MAKERS.items():
-        yield '' if text_of(file) == make(names) else f'{file} is not the one that --write makes'
+        yield '' if text_of(file) == make(table) else f'{file} is not the one that --write makes'
     yield '' if help_names('Refusals') == names else 'crates/command_line/src/words.rt: the help text has other names'
-    yield '' if page_names() == names else 'docs/SCRIPT.md: the table of refusals has other names'
-    yield '' if advice_names('What to do about a refusal') == names else 'docs/REFUSALS.md: the table of refusals has other names'
-    last = [capitals(name) for name in list(names.values())[-1:]]
-    yield '' if header_names() == last else 'bindings/include/gwb.hpp: its last condition is another'
-    yield '' if feature_names() == misfit_names() != [] else 'docs/REFUSALS.md: the table of what features say has other names'
-    faults = {number: meaning.name for number, meaning in FAULTS.items()}
-    yield '' if advice_names('Faults') == faults else 'docs/REFUSALS.md: the table of faults has other names'
-    yield '' if help_names('Faults') == faults else 'crates/command_line/src/words.rt: its faults are not those of companions/gwb/protocol/language.py'
+    yield '' if help_names('Faults') == faults else 'crates/command_line/src/words.rt: the help text has other faults'
+    yield '' if script_names() == names else 'docs/SCRIPT.md: the table of refusals has other names'
+    yield '' if header_names() == [capitals(table.conditions[-1].name)] else 'bindings/include/gwb.hpp: its last condition is another'
 
 
 def main() -> int:
     given = command_line(__doc__, '--write')
-    names = kernel_names()
+    table = Table(text_of(TABLE))
     if given.write:
         for file, make in MAKERS.items():
-            (TOP / file).parent.mkdir(parents=True, exist_ok=True)
-            (TOP / file).write_text(make(names))
-    return told(findings(names))
+            (TOP / file).write_text(make(table))
+    return told(findings(table))
 
 
 if __name__ == '__main__':

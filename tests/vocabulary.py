@@ -150,19 +150,6 @@ def python_wanted(name: str, wanted: Arguments) -> Arguments:
     return tuple(argument for argument in wanted if (name, argument) not in PYTHON_LEFT_OUT)
 
 
-def misfits() -> Dict[str, List[str]]:
-    """The names of what isn't possible in their order, by where they stand."""
-    header, cpp, rust = text_of(C_HEADER), text_of('bindings/include/gwb.hpp'), text_of('bindings/rust/src/error.rs')
-    words = [name.lower().split('_') for name in re.findall(r'^    GWB_MISFIT_(\w+)', header, re.MULTILINE)]
-    in_cpp = re.search(r'^enum class Misfit[^{]*\{(.*?)^\};', cpp, re.MULTILINE | re.DOTALL)
-    return {
-        'C': [''.join(word.capitalize() for word in name) for name in words],
-        'C++': [''.join(word.capitalize() for word in name.split('_')) for name in re.findall(r'^    (\w+)', in_cpp.group(1) if in_cpp else '', re.MULTILINE)],
-        'names in C++': re.findall(r'case Misfit::\w+: return "(\w+)";', cpp),
-        'Rust': [name for name, _ in sorted(re.findall(r'^    (\w+) = (\d+): "', rust, re.MULTILINE), key=lambda pair: int(pair[1]))],
-    }
-
-
 def cpp_fields(name: str) -> Arguments:
     """The members of a structure in C++."""
     body = re.search(rf'^struct {name} \{{\n(.*?)^\}};', text_of(*CPP_HEADERS), re.MULTILINE | re.DOTALL)
@@ -193,7 +180,6 @@ def findings() -> Iterator[str]:
         yield '' if language == 'Rust' or not calls else f'{language}: the table of bindings/README.md lacks {sorted(calls)}'
     for name, arguments in wanted.items():
         yield python_complaint(name, arguments, methods)
-    yield from alike('misfits', misfits())
     for name in STRUCTURES:
         yield from alike(name, {'C++': cpp_fields(name), 'Rust': rust_fields(name), 'Python': python_fields(name)})
 

@@ -185,60 +185,6 @@ enum class Problem {
     version,  ///< the library that is linked is of another version than this header (GWB_VERSION)
 };
 
-/// Why a feature isn't possible, where it is no condition of a command. X is the value that goes with it.
-enum class Misfit : std::uint32_t {
-    no_area = 1,         ///< the outline has no area, or crosses itself
-    not_in_plane,        ///< point X of the outline lies off the plane of the others, or of the face
-    outline_crossed,     ///< side X of the outline crosses or touches another one
-    along_plane,         ///< the vector lies in the plane of the points
-    outline_outside,     ///< the outline crosses or touches the boundary of face X, or doesn't lie inside
-    outline_around_ring, ///< a ring of face X lies inside the outline
-    off_lattice,         ///< a point or a vector at face X would not be whole; of a Boolean: all must be X times as large, or more where X is 0
-    meets,               ///< what is made at face X would meet or touch the solid elsewhere; of a cut or a Boolean: solid X would touch itself
-    no_opposite,         ///< there is no face behind the outline in face X
-    not_parallel,        ///< face X, behind the outline, isn't parallel
-    not_of_face,         ///< edge X is none of the face
-    flat_edge,           ///< the faces of edge X lie in one plane
-    nothing_left,        ///< nothing of solid X would be left
-    no_match,            ///< no face of solid X matches one of those that are joined
-    glued_twice,         ///< face X matches another one besides, which it would touch after the gluing
-    not_across,          ///< face X doesn't lie across an axis
-    no_contact,          ///< no longer said: solids may lie apart in a union
-    overlap,             ///< no longer said: solids may have room in common in a union
-    no_corner,           ///< the slopes of edges that end at vertex X don't meet in one point, or more than three edges end there
-    not_alike,           ///< edge X is of another solid than the first, or bends the other way
-    not_closed,          ///< a side of the X-th face hasn't one side, of one face, that runs the other way
-};
-
-/// The name of what isn't possible, as Python's session has it.
-[[nodiscard]] constexpr const char *misfit_name(Misfit misfit)
-{
-    switch (misfit) {
-    case Misfit::no_area: return "NoArea";
-    case Misfit::not_in_plane: return "NotInPlane";
-    case Misfit::outline_crossed: return "OutlineCrossed";
-    case Misfit::along_plane: return "AlongPlane";
-    case Misfit::outline_outside: return "OutlineOutside";
-    case Misfit::outline_around_ring: return "OutlineAroundRing";
-    case Misfit::off_lattice: return "OffLattice";
-    case Misfit::meets: return "Meets";
-    case Misfit::no_opposite: return "NoOpposite";
-    case Misfit::not_parallel: return "NotParallel";
-    case Misfit::not_of_face: return "NotOfFace";
-    case Misfit::flat_edge: return "FlatEdge";
-    case Misfit::nothing_left: return "NothingLeft";
-    case Misfit::no_match: return "NoMatch";
-    case Misfit::glued_twice: return "GluedTwice";
-    case Misfit::not_across: return "NotAcross";
-    case Misfit::no_contact: return "NoContact";
-    case Misfit::overlap: return "Overlap";
-    case Misfit::no_corner: return "NoCorner";
-    case Misfit::not_alike: return "NotAlike";
-    case Misfit::not_closed: return "NotClosed";
-    }
-    return "";
-}
-
 /// Why a call has no value, with its numbers. The model is as it was.
 struct Failure {
     Problem problem = Problem::closed;
@@ -256,8 +202,13 @@ struct Failure {
             return misfit_name(static_cast<Misfit>(number));
         return problem == Problem::refused ? gwb_why_name(number) : "";
     }
-    /// What the condition says, in which X stands for the value; "" where it is none.
-    [[nodiscard]] const char *text() const { return problem == Problem::refused ? gwb_why_text(number) : ""; }
+    /// What it says, in which X stands for the value; "" where it is none.
+    [[nodiscard]] const char *text() const
+    {
+        if (problem == Problem::impossible)
+            return gwb_misfit_text(number);
+        return problem == Problem::refused ? gwb_why_text(number) : "";
+    }
 };
 
 /// What a call gave: a value, or why there is none.
@@ -400,6 +351,8 @@ public:
     [[nodiscard]] Misfit misfit() const { return misfit_; }
     [[nodiscard]] std::uint32_t value() const { return value_; }
     [[nodiscard]] const char *name() const { return misfit_name(misfit_); }
+    /// What it says, in which X stands for the value.
+    [[nodiscard]] const char *text() const { return gwb_misfit_text(static_cast<std::uint32_t>(misfit_)); }
 
 private:
     Misfit misfit_;

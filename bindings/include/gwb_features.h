@@ -16,34 +16,10 @@
 #ifndef GWB_FEATURES_H
 #define GWB_FEATURES_H
 #include "gwb.h"
+#include "gwb_names.h"
 #ifdef __cplusplus
 extern "C" {
 #endif
-
-/** Why a feature isn't possible, where it is no condition of a command. X is the value that goes with it. */
-enum gwb_misfit {
-    GWB_MISFIT_NO_AREA = 1,         /**< the outline has no area, or crosses itself */
-    GWB_MISFIT_NOT_IN_PLANE,        /**< point X of the outline lies off the plane of the others, or of the face */
-    GWB_MISFIT_OUTLINE_CROSSED,     /**< side X of the outline crosses or touches another one */
-    GWB_MISFIT_ALONG_PLANE,         /**< the vector lies in the plane of the points */
-    GWB_MISFIT_OUTLINE_OUTSIDE,     /**< the outline crosses or touches the boundary of face X, or doesn't lie inside */
-    GWB_MISFIT_OUTLINE_AROUND_RING, /**< a ring of face X lies inside the outline */
-    GWB_MISFIT_OFF_LATTICE,         /**< a point or a vector at face X would not be whole; of a Boolean: all must be X times as large, or more where X is 0 */
-    GWB_MISFIT_MEETS,               /**< what is made at face X would meet or touch the solid elsewhere; of a cut or a Boolean: solid X would touch itself */
-    GWB_MISFIT_NO_OPPOSITE,         /**< there is no face behind the outline in face X */
-    GWB_MISFIT_NOT_PARALLEL,        /**< face X, behind the outline, isn't parallel */
-    GWB_MISFIT_NOT_OF_FACE,         /**< edge X is none of the face */
-    GWB_MISFIT_FLAT_EDGE,           /**< the faces of edge X lie in one plane */
-    GWB_MISFIT_NOTHING_LEFT,        /**< nothing of solid X would be left */
-    GWB_MISFIT_NO_MATCH,            /**< no face of solid X matches one of those that are joined */
-    GWB_MISFIT_GLUED_TWICE,         /**< face X matches another one besides, which it would touch after the gluing */
-    GWB_MISFIT_NOT_ACROSS,          /**< face X doesn't lie across an axis */
-    GWB_MISFIT_NO_CONTACT,          /**< no longer said: solids may lie apart in a union */
-    GWB_MISFIT_OVERLAP,             /**< no longer said: solids may have room in common in a union */
-    GWB_MISFIT_NO_CORNER,           /**< the slopes of edges that end at vertex X don't meet in one point, or more than three edges end there */
-    GWB_MISFIT_NOT_ALIKE,           /**< edge X is of another solid than the first, or bends the other way */
-    GWB_MISFIT_NOT_CLOSED           /**< a side of the X-th face hasn't one side, of one face, that runs the other way */
-};
 
 /** The name of a misfit, as "OffLattice": "" where there is none. */
 const char *gwb_misfit_name(uint32_t misfit);

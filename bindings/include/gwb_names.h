@@ -1,102 +1,148 @@
-/* The names of refusals. Made by tests/refusals.py --write from the names of the kernel; edit nothing here. */
+/* The names of refusals. Made by tests/refusals.py --write of bindings/refusals.table; edit nothing here. */
 #ifndef GWB_NAMES_H
 #define GWB_NAMES_H
 #include <stdint.h>
 
-/* The number of a refusal: the first condition that is false. X is the value that goes with it. Some commands give it a meaning of their
+/** The number of a refusal: the first condition that is false. X is the value that goes with it. Some commands give it a meaning of their
  * own (docs/SCRIPT.md). */
 enum gwb_why {
-    /* the number X is outside 1 to 1,000,000 */
+    /** the number X is outside 1 to 1,000,000 */
     GWB_WHY_NUMBER_RANGE = 1,
-    /* there is no solid X */
+    /** there is no solid X */
     GWB_WHY_NO_SOLID = 2,
-    /* there is no face X */
+    /** there is no face X */
     GWB_WHY_NO_FACE = 3,
-    /* there is no loop X */
+    /** there is no loop X */
     GWB_WHY_NO_LOOP = 4,
-    /* there is no edge X */
+    /** there is no edge X */
     GWB_WHY_NO_EDGE = 5,
-    /* solid X is in use */
+    /** solid X is in use */
     GWB_WHY_SOLID_TAKEN = 6,
-    /* face X is in use */
+    /** face X is in use */
     GWB_WHY_FACE_TAKEN = 7,
-    /* loop X is in use */
+    /** loop X is in use */
     GWB_WHY_LOOP_TAKEN = 8,
-    /* edge X is in use */
+    /** edge X is in use */
     GWB_WHY_EDGE_TAKEN = 9,
-    /* vertex X is in use */
+    /** vertex X is in use */
     GWB_WHY_VERTEX_TAKEN = 10,
-    /* vertex X would lie past 1,000,000,000 */
+    /** vertex X would lie past 1,000,000,000 */
     GWB_WHY_POINT_RANGE = 11,
-    /* solid X has more than one face, a ring or an edge */
+    /** solid X has more than one face, a ring or an edge */
     GWB_WHY_NOT_BARE = 12,
-    /* loop X has edges, so a corner in it is named by a half-edge */
+    /** loop X has edges, so a corner in it is named by a half-edge */
     GWB_WHY_NOT_LONE = 13,
-    /* the second corner is at vertex X, the first one at another */
+    /** the second corner is at vertex X, the first one at another */
     GWB_WHY_DIFFERENT_TAILS = 14,
-    /* edge X has the same two ends */
+    /** edge X has the same two ends */
     GWB_WHY_PARALLEL_EDGE = 15,
-    /* only this edge leaves vertex X, which is kept, and others leave the one that goes */
+    /** only this edge leaves vertex X, which is kept, and others leave the one that goes */
     GWB_WHY_KEPT_END_BARE = 16,
-    /* the second half-edge stands in loop X, the first one in another */
+    /** the second half-edge stands in loop X, the first one in another */
     GWB_WHY_DIFFERENT_LOOPS = 17,
-    /* both corners are at vertex X */
+    /** both corners are at vertex X */
     GWB_WHY_SAME_TAIL = 18,
-    /* both are face X */
+    /** both are face X */
     GWB_WHY_SAME_FACE = 19,
-    /* face X has rings */
+    /** face X has rings */
     GWB_WHY_HAS_RINGS = 20,
-    /* both corners are in loop X */
+    /** both corners are in loop X */
     GWB_WHY_SAME_LOOP = 21,
-    /* the second corner is in face X, the first one in another */
+    /** the second corner is in face X, the first one in another */
     GWB_WHY_DIFFERENT_FACES = 22,
-    /* loop X is an outer loop */
+    /** loop X is an outer loop */
     GWB_WHY_NOT_RING = 23,
-    /* the second one is of solid X, the first one of another */
+    /** the second one is of solid X, the first one of another */
     GWB_WHY_DIFFERENT_SOLIDS = 24,
-    /* there is nothing to undo */
+    /** there is nothing to undo */
     GWB_WHY_NOTHING_TO_UNDO = 25,
-    /* there is nothing to redo */
+    /** there is nothing to redo */
     GWB_WHY_NOTHING_TO_REDO = 26,
-    /* too few fresh numbers are left (kind X: 2 faces, 3 loops, 4 edges, 5 vertices) */
+    /** too few fresh numbers are left (kind X: 2 faces, 3 loops, 4 edges, 5 vertices) */
     GWB_WHY_NUMBERS_SPENT = 27,
-    /* there are X points, and 3 are needed */
+    /** there are X points, and 3 are needed */
     GWB_WHY_FEW_POINTS = 28,
-    /* face X would move by nothing */
+    /** face X would move by nothing */
     GWB_WHY_ZERO_SWEEP = 29,
-    /* loop X is a vertex without an edge */
+    /** loop X is a vertex without an edge */
     GWB_WHY_LONE_LOOP = 30,
-    /* both faces are of solid X */
+    /** both faces are of solid X */
     GWB_WHY_SAME_SOLID = 31,
-    /* face X isn't flat */
+    /** face X isn't flat */
     GWB_WHY_NOT_FLAT = 32,
-    /* two corners of face X lie at one point */
+    /** two corners of face X lie at one point */
     GWB_WHY_REPEATED_POINT = 33,
-    /* the points of face X, read backwards, aren't those of the first face; faces that are glued have the same corners, and look at each other */
+    /** the points of face X, read backwards, aren't those of the first face */
     GWB_WHY_NO_MATCH = 34,
-    /* coefficient X is out of range */
+    /** coefficient X is out of range */
     GWB_WHY_PLANE_RANGE = 35,
-    /* solid X has no vertex above the plane, or none below */
+    /** solid X has no vertex above the plane, or none below */
     GWB_WHY_PLANE_MISSES = 36,
-    /* the plane cuts edge X between whole coordinates; a finer unit would do, or a plane near by */
+    /** the plane cuts edge X between whole coordinates */
     GWB_WHY_NOT_LATTICE = 37,
-    /* the plane cuts face X and also touches it at a corner or along an edge */
+    /** the plane cuts face X and also touches it at a corner or along an edge */
     GWB_WHY_TOUCHED_FACE = 38,
-    /* the plane cuts face X but not its outer loop, or not one of its rings where there are more than two cuts */
+    /** the plane cuts face X but not its outer loop, or not one of its rings where there are more than two cuts */
     GWB_WHY_CUT_OFTEN = 39,
-    /* the cuts of face X don't pair up, or can't be drawn one after another */
+    /** the cuts of face X don't pair up, or can't be drawn one after another */
     GWB_WHY_CUT_CROSSED = 40,
-    /* more than two edges of the cut meet at vertex X */
+    /** more than two edges of the cut meet at vertex X */
     GWB_WHY_BRANCHED_VERTEX = 41,
-    /* the cut of solid X has a hole, and not exactly one outline around it */
+    /** the cut of solid X has a hole, and not exactly one outline around it */
     GWB_WHY_SECTION_HOLES = 42,
-    /* size X is below 1 */
+    /** size X is below 1 */
     GWB_WHY_SIZE_RANGE = 43,
-    /* the faces can't be parted from solid X */
+    /** the faces can't be parted from solid X */
     GWB_WHY_BAD_PART = 44
 };
 
-/* The name of the condition with a number, or "" where there is none. */
+/** Why a feature isn't possible, where it is no condition of a command. X is the value that goes with it. */
+enum gwb_misfit {
+    /** the outline has no area, or crosses itself */
+    GWB_MISFIT_NO_AREA = 1,
+    /** point X of the outline lies off the plane of the others, or of the face */
+    GWB_MISFIT_NOT_IN_PLANE = 2,
+    /** side X of the outline crosses or touches another one */
+    GWB_MISFIT_OUTLINE_CROSSED = 3,
+    /** the vector lies in the plane of the points */
+    GWB_MISFIT_ALONG_PLANE = 4,
+    /** the outline crosses or touches the boundary of face X, or doesn't lie inside */
+    GWB_MISFIT_OUTLINE_OUTSIDE = 5,
+    /** a ring of face X lies inside the outline */
+    GWB_MISFIT_OUTLINE_AROUND_RING = 6,
+    /** a point or a vector at face X would not be whole; of a Boolean: all must be X times as large, or more where X is 0 */
+    GWB_MISFIT_OFF_LATTICE = 7,
+    /** what is made at face X would meet or touch the solid elsewhere; of a cut or a Boolean: solid X would touch itself */
+    GWB_MISFIT_MEETS = 8,
+    /** there is no face behind the outline in face X */
+    GWB_MISFIT_NO_OPPOSITE = 9,
+    /** face X, behind the outline, isn't parallel */
+    GWB_MISFIT_NOT_PARALLEL = 10,
+    /** edge X is none of the face */
+    GWB_MISFIT_NOT_OF_FACE = 11,
+    /** the faces of edge X lie in one plane */
+    GWB_MISFIT_FLAT_EDGE = 12,
+    /** nothing of solid X would be left */
+    GWB_MISFIT_NOTHING_LEFT = 13,
+    /** no face of solid X matches one of those that are joined */
+    GWB_MISFIT_NO_MATCH = 14,
+    /** face X matches another one besides, which it would touch after the gluing */
+    GWB_MISFIT_GLUED_TWICE = 15,
+    /** face X doesn't lie across an axis */
+    GWB_MISFIT_NOT_ACROSS = 16,
+    /** no longer said: solids may lie apart in a union */
+    GWB_MISFIT_NO_CONTACT = 17,
+    /** no longer said: solids may have room in common in a union */
+    GWB_MISFIT_OVERLAP = 18,
+    /** the slopes of edges that end at vertex X don't meet in one point, or more than three edges end there */
+    GWB_MISFIT_NO_CORNER = 19,
+    /** edge X is of another solid than the first, or bends the other way */
+    GWB_MISFIT_NOT_ALIKE = 20,
+    /** a side of the X-th face hasn't one side, of one face, that runs the other way */
+    GWB_MISFIT_NOT_CLOSED = 21
+};
+
+/** The name of the condition with a number, or "" where there is none. */
 static inline const char *gwb_why_name(uint32_t number)
 {
     switch (number) {
@@ -148,7 +194,7 @@ static inline const char *gwb_why_name(uint32_t number)
     }
 }
 
-/* What the condition with a number says, in which X stands for the value that goes with it, or "" where there is none. */
+/** What it says, in which X stands for the value that goes with it. */
 static inline const char *gwb_why_text(uint32_t number)
 {
     switch (number) {
@@ -185,10 +231,10 @@ static inline const char *gwb_why_text(uint32_t number)
     case GWB_WHY_SAME_SOLID: return "both faces are of solid X";
     case GWB_WHY_NOT_FLAT: return "face X isn't flat";
     case GWB_WHY_REPEATED_POINT: return "two corners of face X lie at one point";
-    case GWB_WHY_NO_MATCH: return "the points of face X, read backwards, aren't those of the first face; faces that are glued have the same corners, and look at each other";
+    case GWB_WHY_NO_MATCH: return "the points of face X, read backwards, aren't those of the first face";
     case GWB_WHY_PLANE_RANGE: return "coefficient X is out of range";
     case GWB_WHY_PLANE_MISSES: return "solid X has no vertex above the plane, or none below";
-    case GWB_WHY_NOT_LATTICE: return "the plane cuts edge X between whole coordinates; a finer unit would do, or a plane near by";
+    case GWB_WHY_NOT_LATTICE: return "the plane cuts edge X between whole coordinates";
     case GWB_WHY_TOUCHED_FACE: return "the plane cuts face X and also touches it at a corner or along an edge";
     case GWB_WHY_CUT_OFTEN: return "the plane cuts face X but not its outer loop, or not one of its rings where there are more than two cuts";
     case GWB_WHY_CUT_CROSSED: return "the cuts of face X don't pair up, or can't be drawn one after another";
@@ -199,5 +245,94 @@ static inline const char *gwb_why_text(uint32_t number)
     default: return "";
     }
 }
+
+/** What the misfit with a number says, alike. */
+static inline const char *gwb_misfit_text(uint32_t number)
+{
+    switch (number) {
+    case GWB_MISFIT_NO_AREA: return "the outline has no area, or crosses itself";
+    case GWB_MISFIT_NOT_IN_PLANE: return "point X of the outline lies off the plane of the others, or of the face";
+    case GWB_MISFIT_OUTLINE_CROSSED: return "side X of the outline crosses or touches another one";
+    case GWB_MISFIT_ALONG_PLANE: return "the vector lies in the plane of the points";
+    case GWB_MISFIT_OUTLINE_OUTSIDE: return "the outline crosses or touches the boundary of face X, or doesn't lie inside";
+    case GWB_MISFIT_OUTLINE_AROUND_RING: return "a ring of face X lies inside the outline";
+    case GWB_MISFIT_OFF_LATTICE: return "a point or a vector at face X would not be whole; of a Boolean: all must be X times as large, or more where X is 0";
+    case GWB_MISFIT_MEETS: return "what is made at face X would meet or touch the solid elsewhere; of a cut or a Boolean: solid X would touch itself";
+    case GWB_MISFIT_NO_OPPOSITE: return "there is no face behind the outline in face X";
+    case GWB_MISFIT_NOT_PARALLEL: return "face X, behind the outline, isn't parallel";
+    case GWB_MISFIT_NOT_OF_FACE: return "edge X is none of the face";
+    case GWB_MISFIT_FLAT_EDGE: return "the faces of edge X lie in one plane";
+    case GWB_MISFIT_NOTHING_LEFT: return "nothing of solid X would be left";
+    case GWB_MISFIT_NO_MATCH: return "no face of solid X matches one of those that are joined";
+    case GWB_MISFIT_GLUED_TWICE: return "face X matches another one besides, which it would touch after the gluing";
+    case GWB_MISFIT_NOT_ACROSS: return "face X doesn't lie across an axis";
+    case GWB_MISFIT_NO_CONTACT: return "no longer said: solids may lie apart in a union";
+    case GWB_MISFIT_OVERLAP: return "no longer said: solids may have room in common in a union";
+    case GWB_MISFIT_NO_CORNER: return "the slopes of edges that end at vertex X don't meet in one point, or more than three edges end there";
+    case GWB_MISFIT_NOT_ALIKE: return "edge X is of another solid than the first, or bends the other way";
+    case GWB_MISFIT_NOT_CLOSED: return "a side of the X-th face hasn't one side, of one face, that runs the other way";
+    default: return "";
+    }
+}
+
+#ifdef __cplusplus
+namespace gwb_session {
+
+/// Why a feature isn't possible, where it is no condition of a command. X is the value that goes with it.
+enum class Misfit : uint32_t {
+    no_area = GWB_MISFIT_NO_AREA /**< the outline has no area, or crosses itself */,
+    not_in_plane = GWB_MISFIT_NOT_IN_PLANE /**< point X of the outline lies off the plane of the others, or of the face */,
+    outline_crossed = GWB_MISFIT_OUTLINE_CROSSED /**< side X of the outline crosses or touches another one */,
+    along_plane = GWB_MISFIT_ALONG_PLANE /**< the vector lies in the plane of the points */,
+    outline_outside = GWB_MISFIT_OUTLINE_OUTSIDE /**< the outline crosses or touches the boundary of face X, or doesn't lie inside */,
+    outline_around_ring = GWB_MISFIT_OUTLINE_AROUND_RING /**< a ring of face X lies inside the outline */,
+    off_lattice = GWB_MISFIT_OFF_LATTICE /**< a point or a vector at face X would not be whole; of a Boolean: all must be X times as large, or more where X is 0 */,
+    meets = GWB_MISFIT_MEETS /**< what is made at face X would meet or touch the solid elsewhere; of a cut or a Boolean: solid X would touch itself */,
+    no_opposite = GWB_MISFIT_NO_OPPOSITE /**< there is no face behind the outline in face X */,
+    not_parallel = GWB_MISFIT_NOT_PARALLEL /**< face X, behind the outline, isn't parallel */,
+    not_of_face = GWB_MISFIT_NOT_OF_FACE /**< edge X is none of the face */,
+    flat_edge = GWB_MISFIT_FLAT_EDGE /**< the faces of edge X lie in one plane */,
+    nothing_left = GWB_MISFIT_NOTHING_LEFT /**< nothing of solid X would be left */,
+    no_match = GWB_MISFIT_NO_MATCH /**< no face of solid X matches one of those that are joined */,
+    glued_twice = GWB_MISFIT_GLUED_TWICE /**< face X matches another one besides, which it would touch after the gluing */,
+    not_across = GWB_MISFIT_NOT_ACROSS /**< face X doesn't lie across an axis */,
+    no_contact = GWB_MISFIT_NO_CONTACT /**< no longer said: solids may lie apart in a union */,
+    overlap = GWB_MISFIT_OVERLAP /**< no longer said: solids may have room in common in a union */,
+    no_corner = GWB_MISFIT_NO_CORNER /**< the slopes of edges that end at vertex X don't meet in one point, or more than three edges end there */,
+    not_alike = GWB_MISFIT_NOT_ALIKE /**< edge X is of another solid than the first, or bends the other way */,
+    not_closed = GWB_MISFIT_NOT_CLOSED /**< a side of the X-th face hasn't one side, of one face, that runs the other way */
+};
+
+/// The name of what isn't possible, as Python's session has it.
+[[nodiscard]] constexpr const char *misfit_name(Misfit misfit)
+{
+    switch (misfit) {
+    case Misfit::no_area: return "NoArea";
+    case Misfit::not_in_plane: return "NotInPlane";
+    case Misfit::outline_crossed: return "OutlineCrossed";
+    case Misfit::along_plane: return "AlongPlane";
+    case Misfit::outline_outside: return "OutlineOutside";
+    case Misfit::outline_around_ring: return "OutlineAroundRing";
+    case Misfit::off_lattice: return "OffLattice";
+    case Misfit::meets: return "Meets";
+    case Misfit::no_opposite: return "NoOpposite";
+    case Misfit::not_parallel: return "NotParallel";
+    case Misfit::not_of_face: return "NotOfFace";
+    case Misfit::flat_edge: return "FlatEdge";
+    case Misfit::nothing_left: return "NothingLeft";
+    case Misfit::no_match: return "NoMatch";
+    case Misfit::glued_twice: return "GluedTwice";
+    case Misfit::not_across: return "NotAcross";
+    case Misfit::no_contact: return "NoContact";
+    case Misfit::overlap: return "Overlap";
+    case Misfit::no_corner: return "NoCorner";
+    case Misfit::not_alike: return "NotAlike";
+    case Misfit::not_closed: return "NotClosed";
+    }
+    return "";
+}
+
+} // namespace gwb_session
+#endif
 
 #endif

@@ -1,5 +1,4 @@
-use crate::named::named;
-use crate::Refusal;
+use crate::{Misfit, Refusal};
 use std::fmt;
 
 /// Why a command was not accepted. The model is as it was.
@@ -38,33 +37,6 @@ pub enum Error {
     OtherVersion(u32),
     /// The library answers with a kind or a condition of this number, which the crate does not know: they are of different versions.
     Unknown(u32),
-}
-
-named! {
-/// Why a feature isn't possible, where it is no condition of a command. X is the value that goes with it.
-Misfit {
-    NoArea = 1: "the outline has no area, or crosses itself",
-    NotInPlane = 2: "point X of the outline lies off the plane of the others, or of the face",
-    OutlineCrossed = 3: "side X of the outline crosses or touches another one",
-    AlongPlane = 4: "the vector lies in the plane of the points",
-    OutlineOutside = 5: "the outline crosses or touches the boundary of face X, or doesn't lie inside",
-    OutlineAroundRing = 6: "a ring of face X lies inside the outline",
-    OffLattice = 7: "a point or a vector at face X would not be whole; of a Boolean: all must be X times as large, or more where X is 0",
-    Meets = 8: "what is made at face X would meet or touch the solid elsewhere; of a cut or a Boolean: solid X would touch itself",
-    NoOpposite = 9: "there is no face behind the outline in face X",
-    NotParallel = 10: "face X, behind the outline, isn't parallel",
-    NotOfFace = 11: "edge X is none of the face",
-    FlatEdge = 12: "the faces of edge X lie in one plane",
-    NothingLeft = 13: "nothing of solid X would be left",
-    NoMatch = 14: "no face of solid X matches one of those that are joined",
-    GluedTwice = 15: "face X matches another one besides, which it would touch after the gluing",
-    NotAcross = 16: "face X doesn't lie across an axis",
-    NoContact = 17: "no longer said: solids may lie apart in a union",
-    Overlap = 18: "no longer said: solids may have room in common in a union",
-    NoCorner = 19: "the slopes of edges that end at vertex X don't meet in one point, or more than three edges end there",
-    NotAlike = 20: "edge X is of another solid than the first, or bends the other way",
-    NotClosed = 21: "a side of the X-th face hasn't one side, of one face, that runs the other way",
-}
 }
 
 impl fmt::Display for Error {

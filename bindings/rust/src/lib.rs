@@ -44,7 +44,7 @@ mod selection;
 mod session;
 
 pub use draft::{Draft, Mark};
-pub use error::{Error, Misfit};
+pub use error::Error;
 pub use exporting::ExportError;
 pub use features::{circle, Circle, Copied, Hole, Merger, Motion, Notch, Parts, Pocket, Polyhedron, Profile, Renumbered, Ring, Split};
 pub use gwb_sys::Heap;
@@ -53,7 +53,7 @@ pub use ids::{lone, minus, plus, Corner, Edge, Face, HalfEdge, Id, Loop, Solid, 
 pub use off_lattice::{EdgeCut, Fraction, NearPlane, OffLattice};
 pub use operators::Operators;
 pub use readers::{Numbers, Readers, Shared};
-pub use refusal::Refusal;
+pub use refusal::{Misfit, Refusal};
 pub use rows::{Block, Counts, EdgeRow, FaceRow, HalfEdgeRow, Lamina, NewFace, NewSolid, Plane, Point};
 pub use selection::{EdgeQuery, FaceQuery};
 pub use session::Session;

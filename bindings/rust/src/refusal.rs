@@ -1,4 +1,4 @@
-//! The names of refusals. Made by tests/refusals.py --write from the names of the kernel; edit nothing here.
+//! The names of refusals. Made by tests/refusals.py --write of bindings/refusals.table; edit nothing here.
 use crate::named::named;
 
 named! {
@@ -37,10 +37,10 @@ Refusal {
     SameSolid = 31: "both faces are of solid X",
     NotFlat = 32: "face X isn't flat",
     RepeatedPoint = 33: "two corners of face X lie at one point",
-    NoMatch = 34: "the points of face X, read backwards, aren't those of the first face; faces that are glued have the same corners, and look at each other",
+    NoMatch = 34: "the points of face X, read backwards, aren't those of the first face",
     PlaneRange = 35: "coefficient X is out of range",
     PlaneMisses = 36: "solid X has no vertex above the plane, or none below",
-    NotLattice = 37: "the plane cuts edge X between whole coordinates; a finer unit would do, or a plane near by",
+    NotLattice = 37: "the plane cuts edge X between whole coordinates",
     TouchedFace = 38: "the plane cuts face X and also touches it at a corner or along an edge",
     CutOften = 39: "the plane cuts face X but not its outer loop, or not one of its rings where there are more than two cuts",
     CutCrossed = 40: "the cuts of face X don't pair up, or can't be drawn one after another",
@@ -48,5 +48,32 @@ Refusal {
     SectionHoles = 42: "the cut of solid X has a hole, and not exactly one outline around it",
     SizeRange = 43: "size X is below 1",
     BadPart = 44: "the faces can't be parted from solid X",
+}
+}
+
+named! {
+/// Why a feature isn't possible, where it is no condition of a command. X is the value that goes with it.
+Misfit {
+    NoArea = 1: "the outline has no area, or crosses itself",
+    NotInPlane = 2: "point X of the outline lies off the plane of the others, or of the face",
+    OutlineCrossed = 3: "side X of the outline crosses or touches another one",
+    AlongPlane = 4: "the vector lies in the plane of the points",
+    OutlineOutside = 5: "the outline crosses or touches the boundary of face X, or doesn't lie inside",
+    OutlineAroundRing = 6: "a ring of face X lies inside the outline",
+    OffLattice = 7: "a point or a vector at face X would not be whole; of a Boolean: all must be X times as large, or more where X is 0",
+    Meets = 8: "what is made at face X would meet or touch the solid elsewhere; of a cut or a Boolean: solid X would touch itself",
+    NoOpposite = 9: "there is no face behind the outline in face X",
+    NotParallel = 10: "face X, behind the outline, isn't parallel",
+    NotOfFace = 11: "edge X is none of the face",
+    FlatEdge = 12: "the faces of edge X lie in one plane",
+    NothingLeft = 13: "nothing of solid X would be left",
+    NoMatch = 14: "no face of solid X matches one of those that are joined",
+    GluedTwice = 15: "face X matches another one besides, which it would touch after the gluing",
+    NotAcross = 16: "face X doesn't lie across an axis",
+    NoContact = 17: "no longer said: solids may lie apart in a union",
+    Overlap = 18: "no longer said: solids may have room in common in a union",
+    NoCorner = 19: "the slopes of edges that end at vertex X don't meet in one point, or more than three edges end there",
+    NotAlike = 20: "edge X is of another solid than the first, or bends the other way",
+    NotClosed = 21: "a side of the X-th face hasn't one side, of one face, that runs the other way",
 }
 }

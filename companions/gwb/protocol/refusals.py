@@ -1,7 +1,8 @@
-"""The names of refusals by their numbers. Made by tests/refusals.py --write from the names of the kernel; edit nothing here."""
+"""What is said of refusals. Made by tests/refusals.py --write of bindings/refusals.table; edit nothing here."""
 
-from typing import Dict
+from typing import Dict, Tuple
 
+# The conditions of commands.
 NAMES: Dict[int, str] = {
     1: 'NumberRange',
     2: 'NoSolid',
@@ -47,4 +48,109 @@ NAMES: Dict[int, str] = {
     42: 'SectionHoles',
     43: 'SizeRange',
     44: 'BadPart',
+}
+
+# What they say, in which X stands for the value.
+TEXTS: Dict[int, str] = {
+    1: 'the number X is outside 1 to 1,000,000',
+    2: 'there is no solid X',
+    3: 'there is no face X',
+    4: 'there is no loop X',
+    5: 'there is no edge X',
+    6: 'solid X is in use',
+    7: 'face X is in use',
+    8: 'loop X is in use',
+    9: 'edge X is in use',
+    10: 'vertex X is in use',
+    11: 'vertex X would lie past 1,000,000,000',
+    12: 'solid X has more than one face, a ring or an edge',
+    13: 'loop X has edges, so a corner in it is named by a half-edge',
+    14: 'the second corner is at vertex X, the first one at another',
+    15: 'edge X has the same two ends',
+    16: 'only this edge leaves vertex X, which is kept, and others leave the one that goes',
+    17: 'the second half-edge stands in loop X, the first one in another',
+    18: 'both corners are at vertex X',
+    19: 'both are face X',
+    20: 'face X has rings',
+    21: 'both corners are in loop X',
+    22: 'the second corner is in face X, the first one in another',
+    23: 'loop X is an outer loop',
+    24: 'the second one is of solid X, the first one of another',
+    25: 'there is nothing to undo',
+    26: 'there is nothing to redo',
+    27: 'too few fresh numbers are left (kind X: 2 faces, 3 loops, 4 edges, 5 vertices)',
+    28: 'there are X points, and 3 are needed',
+    29: 'face X would move by nothing',
+    30: 'loop X is a vertex without an edge',
+    31: 'both faces are of solid X',
+    32: "face X isn't flat",
+    33: 'two corners of face X lie at one point',
+    34: "the points of face X, read backwards, aren't those of the first face",
+    35: 'coefficient X is out of range',
+    36: 'solid X has no vertex above the plane, or none below',
+    37: 'the plane cuts edge X between whole coordinates',
+    38: 'the plane cuts face X and also touches it at a corner or along an edge',
+    39: 'the plane cuts face X but not its outer loop, or not one of its rings where there are more than two cuts',
+    40: "the cuts of face X don't pair up, or can't be drawn one after another",
+    41: 'more than two edges of the cut meet at vertex X',
+    42: 'the cut of solid X has a hole, and not exactly one outline around it',
+    43: 'size X is below 1',
+    44: "the faces can't be parted from solid X",
+}
+
+# Where a command, a feature or the value '0' says it otherwise.
+OTHERWISE: Dict[Tuple[str, int], str] = {
+    ('lamina', 11): 'point X lies past 1,000,000,000',
+    ('block', 11): 'corner X lies past 1,000,000,000 (1: the point, 2: the one opposite)',
+    ('sweep', 11): 'vertex X would move past 1,000,000,000',
+    ('feature', 11): 'a point would lie past 1,000,000,000',
+    ('kemr', 17): 'the other side of the edge stands in loop X',
+    ('kef', 19): 'both sides of the edge are face X',
+    ('ringmv', 19): 'the loop is a ring of face X already',
+    ('ringmv', 24): 'the face is of solid X, the loop of another',
+    ('feature', 27): 'too few numbers above all that are in use are left',
+    ('lamina', 33): 'point X is there twice',
+    ('feature', 33): 'point X is there twice',
+    ('0', 35): 'a, b and c are all zero',
+}
+
+# What would do, as far as that can be said without the model.
+REMEDIES: Dict[int, str] = {
+    34: 'faces that are glued have the same corners, and look at each other',
+    37: 'a finer unit would do, or a plane near by',
+}
+
+# The names and texts of faults.
+FAULTS: Dict[int, Tuple[str, str]] = {
+    1: ('BadWord', 'the command word, or the `in` or `out` of ringmv, is none that gwb knows'),
+    2: ('BadNumber', "a word can't be read as what stands at its place"),
+    3: ('MissingWord', "a word is missing, or the numbers of a lamina's points don't come in threes"),
+    4: ('ExtraWord', 'a word is left over'),
+    5: ('NotAscii', 'the line has a byte above 127'),
+    6: ('LongLine', 'the line has more than 65,536 bytes'),
+}
+
+# Why features aren't possible.
+MISFITS: Dict[str, str] = {
+    'NoArea': 'the outline has no area, or crosses itself',
+    'NotInPlane': 'point X of the outline lies off the plane of the others, or of the face',
+    'OutlineCrossed': 'side X of the outline crosses or touches another one',
+    'AlongPlane': 'the vector lies in the plane of the points',
+    'OutlineOutside': "the outline crosses or touches the boundary of face X, or doesn't lie inside",
+    'OutlineAroundRing': 'a ring of face X lies inside the outline',
+    'OffLattice': 'a point or a vector at face X would not be whole; of a Boolean: all must be X times as large, or more where X is 0',
+    'Meets': 'what is made at face X would meet or touch the solid elsewhere; of a cut or a Boolean: solid X would touch itself',
+    'NoOpposite': 'there is no face behind the outline in face X',
+    'NotParallel': "face X, behind the outline, isn't parallel",
+    'NotOfFace': 'edge X is none of the face',
+    'FlatEdge': 'the faces of edge X lie in one plane',
+    'NothingLeft': 'nothing of solid X would be left',
+    'NoMatch': 'no face of solid X matches one of those that are joined',
+    'GluedTwice': 'face X matches another one besides, which it would touch after the gluing',
+    'NotAcross': "face X doesn't lie across an axis",
+    'NoContact': 'no longer said: solids may lie apart in a union',
+    'Overlap': 'no longer said: solids may have room in common in a union',
+    'NoCorner': "the slopes of edges that end at vertex X don't meet in one point, or more than three edges end there",
+    'NotAlike': 'edge X is of another solid than the first, or bends the other way',
+    'NotClosed': "a side of the X-th face hasn't one side, of one face, that runs the other way",
 }

@@ -13,8 +13,9 @@ from ..geometry.outlines import Impossible
 from ..geometry.vectors import Vector
 from ..protocol.advice import advice
 from ..protocol.complaints import complaint, memory_refused, refused
-from ..protocol.language import NUMBERS, first_word, refusal
+from ..protocol.language import NUMBERS, first_word, refusal, with_value
 from ..protocol.listing import listing_lines
+from ..protocol.refusals import MISFITS
 from ..protocol.replies import Reply
 from .c_calls import ADDRESS, IMPOSSIBLE, MEMORY, NO_CALL, OK, REFUSED, SIZE, WORD, CutPlane, Pair, Refusal, rows
 from .lengths import Lengths
@@ -31,23 +32,6 @@ _MOST_EDGES = 20_000
 _FREEING = ('kvfs', 'kev', 'kef', 'kemr', 'mekr', 'kfmrh', 'glue', 'undo', 'redo', 'kill_solid', 'renumber', 'cut', 'trim', 'union', 'subtract',
             'intersect', 'separate', 'join_faces', 'glue_all', 'notch', 'slot', 'groove', 'shoulder', 'chamfer', 'chamfer_edges')
 _CUTS = ('cut', 'trim')
-# What misfits say, and conditions that say something else of a feature than of a command.
-_TEXTS = {
-    'RepeatedPoint': 'point {} is there twice', 'NoArea': 'the outline has no area, or crosses itself',
-    'NotInPlane': 'point {} lies off the plane', 'OutlineCrossed': 'side {} of the outline crosses or touches another one',
-    'AlongPlane': 'the vector lies in the plane of the points', 'OutlineOutside': "the outline doesn't lie inside face {}",
-    'OutlineAroundRing': 'a ring of face {} lies inside the outline', 'OffLattice': 'a point or a vector at {} would not be whole',
-    'Meets': 'what is made at face {} would meet or touch the solid elsewhere, or come through it',
-    'NoOpposite': 'there is no face behind the outline in face {}', 'NotParallel': "face {}, behind the outline, isn't parallel",
-    'NotOfFace': 'edge {} is none of the face', 'FlatEdge': 'the faces of edge {} lie in one plane',
-    'NotAcross': "face {} doesn't lie across an axis", 'NothingLeft': 'nothing of solid {} would be left',
-    'NoMatch': 'no face of solid {} matches one of those that are joined',
-    'GluedTwice': 'face {} matches another one too, which it would touch after the gluing', 'NoContact': 'no longer said: solids may lie apart in a union',
-    'Overlap': 'no longer said: solids may have room in common in a union', 'PointRange': 'a point would lie past 1,000,000,000',
-    'NoCorner': "the slopes of edges that end at vertex {} don't meet in one point, or more than three edges end there",
-    'NotAlike': 'edge {} is of another solid than the first, or bends the other way',
-    'NotClosed': "a side of face {} hasn't one side, of one face, that runs the other way",
-    'NumbersSpent': 'too few numbers above all that are in use are left'}
 
 
 class Kernel:
@@ -257,16 +241,14 @@ class Kernel:
         """The error of an answer, as it is said of a feature."""
         if said == IMPOSSIBLE:
             name = self.lines.library.misfit_name(why.number).decode()
-            text = 'a part of solid {} would touch itself in the plane' if name == 'Meets' and word in _CUTS else _TEXTS[name]
-            return Impossible(name, why.value, text.format(why.value))
+            return Impossible(name, why.value, with_value(MISFITS[name], why.value))
         if said == MEMORY:
             return memory_refused(word)
         if said != REFUSED:
             self.lines.require_open()
             assert said == NO_CALL, f'{word}: an answer of kind {said}'
             raise ValueError(f'{word}: what is given is no solid')
-        name = refusal(why.number, why.value).name
-        text = '' if word in _CUTS else _TEXTS.get(name, '').format(why.value)
+        name, text = refusal(why.number, why.value, word if word in _CUTS else 'feature')
         if name == 'NotFlat' and word not in _CUTS:
             model = self.lines.model([why.value])
             text = (why_unfit(model, why.value) if model.faces else None) or ('' if why.value else "a slope wouldn't be flat")
