@@ -63,7 +63,7 @@ END
     case $well$bad$left in
     *[!0-9]*) well=0 bad=1 left=0 ;;
     esac
-    grep '^skipped: ' "$dir/log"
+    grep -e '^skipped: ' -e ' in whole millimetres: ' "$dir/log"
     [ "$status" = 0 ] || [ "$bad" != 0 ] || bad=1
     if [ "$bad" != 0 ]; then
         echo "$name: status $status"

@@ -3,7 +3,8 @@
 
     GWB=LIBRARY [GWB_TEST_STEP=STEP] tests/library_companions.py
 
-With a step these are the tests alone that hold in any lattice, in one of that step, in millimetres.
+With a step these are those of the session alone, in a lattice of that step, in millimetres; but for tests that say steps of their own, and those of text and
+arrays, in which coordinates count steps: these run in whole millimetres, and are named.
 """
 import os
 import re
@@ -15,6 +16,7 @@ TESTS = TOP / 'companions' / 'tests'
 sys.path.insert(0, str(TESTS))
 
 from counting import tried  # noqa: E402
+from support import OF_THE_LATTICE, STEP  # noqa: E402
 
 
 def main():
@@ -26,7 +28,12 @@ def main():
     mark = re.compile(r'\bSTEP\b|\bstep_of\(|\bbench_and_folder\(self\)' if os.environ.get('GWB_TEST_STEP') else r'\blibrary\(\)')
     files = TESTS.glob('test_session*.py' if os.environ.get('GWB_TEST_STEP') else 'test_*.py')
     names = sorted(path.stem for path in files if mark.search(path.read_text(encoding='utf-8')))
-    return tried(unittest.defaultTestLoader.loadTestsFromNames(names))
+    return tried(unittest.defaultTestLoader.loadTestsFromNames(names), told=lambda: [whole_millimetres()] if STEP != 1 else [])
+
+
+def whole_millimetres():
+    """What is said of tests of text and arrays."""
+    return f'{len(OF_THE_LATTICE)} in whole millimetres: {", ".join(sorted(name.rpartition(".")[2] for name in OF_THE_LATTICE))}'
 
 
 if __name__ == '__main__':

@@ -2,7 +2,7 @@
 
 import sys
 import unittest
-from typing import Any, TextIO
+from typing import Any, Callable, Iterable, TextIO
 
 
 class _Counted(unittest.TextTestResult):
@@ -18,14 +18,16 @@ class _Counted(unittest.TextTestResult):
         self.passed += 1
 
 
-def tried(suite: unittest.TestSuite, stream: TextIO = sys.stdout) -> int:
-    """Runs the suite, names what was skipped, and counts in the last line. A test whose class or module was skipped counts as skipped, one whose
+def tried(suite: unittest.TestSuite, stream: TextIO = sys.stdout, told: Callable[[], Iterable[str]] = list) -> int:
+    """Runs the suite, names what was skipped, writes the lines that are told of it then, and counts in the last line. A test whose class or module was skipped counts as skipped, one whose
     class or module could not be set up as failed. Gives the status: 0 where none failed."""
     planned = suite.countTestCases()
     result = unittest.TextTestRunner(stream=stream, resultclass=_Counted).run(suite)
     assert isinstance(result, _Counted)
     for test, reason in result.skipped:
         print(f'skipped: {test}: {reason}', file=stream)
+    for line in told():
+        print(line, file=stream)
     failed = len({getattr(test, 'test_case', test) for test, _ in result.failures + result.errors})
     others = planned - result.passed - failed
     skipped = others if result.skipped else 0

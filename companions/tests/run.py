@@ -4,7 +4,7 @@
     companions/tests/run.py [PROGRAM [LIBRARY]]
 
 PROGRAM is what GWB names, or crates/gwb/out/gwb, where none is given; LIBRARY is bindings/out/libgwb.so. Where there is no library, what needs it, the
-session in Python, is named as skipped: tests/library_companions.py tries that.
+session in Python, is named as skipped: tests/library_companions.py tries that. GWB_TEST_STEP may name the step of sessions, such as 1/1000, which is 1 else.
 """
 
 import argparse

@@ -11,7 +11,7 @@ from contextlib import redirect_stderr, redirect_stdout
 from fractions import Fraction
 from importlib import import_module
 from pathlib import Path
-from typing import Dict, List, NamedTuple, Sequence, Tuple
+from typing import Dict, List, NamedTuple, Sequence, Set, Tuple
 
 TESTS = Path(__file__).resolve().parent
 COMPANIONS = TESTS.parent
@@ -170,9 +170,16 @@ def _halves(cycle: Cycle, edges: Dict[Tuple[int, int], int]) -> str:
     return ' '.join(f'{half:+d}' for half in halves[least:] + halves[:least])
 
 
+# The tests that ran in whole millimetres, whatever STEP is.
+OF_THE_LATTICE: Set[str] = set()
+
+
 def step_of(test: unittest.TestCase, *lattice: str) -> Fraction:
-    """The step for a test: 1 for those of these names, which count points of the lattice, or lie at its end."""
-    return Fraction(1) if test.id().rpartition('.')[2] in lattice else STEP
+    """The step for a test: 1 for those of these names, which compare text or arrays, in which coordinates count steps, or lie at the lattice's end."""
+    if test.id().rpartition('.')[2] not in lattice:
+        return STEP
+    OF_THE_LATTICE.add(test.id())
+    return Fraction(1)
 
 
 def bench_and_folder(test: unittest.TestCase, step: Fraction = STEP):
@@ -187,6 +194,11 @@ def bench_and_folder(test: unittest.TestCase, step: Fraction = STEP):
 def model_in(text: str):
     """The model of a listing."""
     return import_module('gwb').read_model(text.encode())
+
+
+def commands_of(bench):
+    """The lines of the script of a session that are commands."""
+    return [line for line in bench.script().splitlines() if not line.startswith('#')]
 
 
 def as_listed(bench):

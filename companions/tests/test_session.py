@@ -11,7 +11,7 @@ from math import gcd
 from pathlib import Path
 from unittest import mock
 
-from support import library, scripts
+from support import STEP, library, scripts, step_of
 
 from gwb import Complaint, Faulted, Lone, Refused, Workbench
 from gwb.errors import Ended, ProgramMissing
@@ -54,7 +54,7 @@ class Scripts(unittest.TestCase):
     def test_every_script(self):
         path = library()
         for script in scripts():
-            with self.subTest(script.stem), Workbench(path, step=1) as bench:
+            with self.subTest(script.stem), Workbench(path, step=step_of(self, 'test_every_script')) as bench:
                 replies = split_replies(script.with_suffix('.expected').read_bytes())
                 for answered in join(script.read_bytes(), replies):
                     if answered.reply is not None:
@@ -89,7 +89,7 @@ class Session(unittest.TestCase):
     """The workbench by itself."""
 
     def setUp(self):
-        self.bench = Workbench(library(), step=1)
+        self.bench = Workbench(library(), step=step_of(self, 'test_a_closed_session', 'test_words_are_separated_as_the_program_separates_them'))
         self.addCleanup(self.bench.close)
 
     def test_a_block_with_a_hole_without_a_number_given(self):
@@ -250,7 +250,7 @@ class Session(unittest.TestCase):
         self.assertEqual((bench.script(), repr(bench)), ('block 1 0 0 0 9 9 9\n', '<Workbench, 1 command held>'))
 
     def test_paths(self):
-        with Workbench(Path(library()), step=1) as bench, tempfile.TemporaryDirectory() as folder:
+        with Workbench(Path(library()), step=STEP) as bench, tempfile.TemporaryDirectory() as folder:
             bench.block((0, 0, 0), (1, 1, 1))
             bench.save(Path(folder) / 'part.gwb')
             with Workbench.load(Path(folder) / 'part.gwb', Path(library())) as again:

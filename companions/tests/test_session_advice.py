@@ -9,7 +9,7 @@ from fractions import Fraction
 from pathlib import Path
 from unittest import mock
 
-from support import library
+from support import library, step_of
 
 from gwb import Complaint, OffStep, Refused, Workbench
 from gwb.protocol.advice import advice
@@ -24,7 +24,9 @@ class Advice(unittest.TestCase):
     """A block of 7 by 5 by 3, and one beside it that is as high."""
 
     def setUp(self):
-        self.bench = Workbench(library(), step=1)
+        self.bench = Workbench(library(), step=step_of(
+            self, 'test_a_fraction_in_a_point', 'test_a_split_off_the_lattice', 'test_cuts_off_the_lattice', 'test_drafts', 'test_faces_that_do_not_match',
+            'test_it_is_copied_and_pickled'))
         self.addCleanup(self.bench.close)
         self.block, self.beside = self.bench.block((0, 0, 0), (7, 5, 3)), self.bench.block((7, 0, 0), (4, 5, 3))
 

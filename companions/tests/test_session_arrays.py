@@ -2,7 +2,7 @@
 
 import unittest
 
-from support import library
+from support import library, step_of
 
 from gwb import Ended, Refused, Workbench
 
@@ -11,7 +11,7 @@ class Arrays(unittest.TestCase):
     """A block with a hole through it, and another one."""
 
     def setUp(self):
-        self.bench = Workbench(library(), step=1)
+        self.bench = Workbench(library(), step=step_of(self, 'test_a_solid_of_arrays', 'test_triangles', 'test_vertices'))
         self.addCleanup(self.bench.close)
         block = self.bench.block((0, 0, 0), (9, 9, 9))
         self.bench.hole(block.top, [(3, 3, 9), (6, 3, 9), (6, 6, 9), (3, 6, 9)])

@@ -12,7 +12,7 @@ from random import Random
 from oracle.cutting import cut_model
 from oracle.held import faces_of
 from oracle.uniting import united
-from support import library
+from support import library, step_of
 from voxel_parts import AXES, World, cells_of, squares_of
 
 from gwb import Refused, Workbench
@@ -24,16 +24,16 @@ U_SHAPE = [(0, 0, 0), (12, 0, 0), (12, 12, 0), (8, 12, 0), (8, 4, 0), (4, 4, 0),
 
 
 def volume_of(bench, solid):
-    """The volume of a solid."""
+    """The volume of a solid, by its listing."""
     model = bench.listing()
-    return Fraction(six_volume(model, model.faces_of(solid)), 6)
+    return Fraction(six_volume(model, model.faces_of(solid)), 6) * bench.step ** 3
 
 
 class Stepwise(unittest.TestCase):
     """A bench, and what each step on it leaves."""
 
     def setUp(self):
-        self.bench = Workbench(library(), step=1)
+        self.bench = Workbench(library(), step=step_of(self, 'test_one_that_split_takes'))
         self.addCleanup(self.bench.close)
 
     def one_step(self, act):
@@ -143,7 +143,7 @@ class Cuts(Stepwise):
         with self.bench.draft():
             self.refuse_in_draft('PlaneMisses', (1, 0, 0, -4))
             self.refuse_in_draft('PlaneMisses', (1, 0, 0, 0))
-            self.refuse_in_draft('NotLattice', (2, 0, 0, -1))
+            self.refuse_in_draft('NotLattice', (7, 0, 0, -1))
             self.refuse_in_draft('SolidTaken', (1, 0, 0, -1), above=1)
             self.refuse_in_draft('NumberRange', (1, 0, 0, -1), above=1_000_001)
             self.assertEqual(self.bench.listing(), before)
@@ -156,7 +156,7 @@ class Cuts(Stepwise):
     def test_what_no_cut_can_do(self):
         block = self.bench.block((0, 0, 0), (4, 4, 4)).solid
         self.refuse('PlaneMisses', lambda: self.bench.cut(block, (1, 0, 0, -4)))
-        self.refuse('NotLattice', lambda: self.bench.cut(block, (2, 0, 0, -1)))
+        self.refuse('NotLattice', lambda: self.bench.cut(block, (7, 0, 0, -1)))
         self.refuse('PlaneRange', lambda: self.bench.cut(block, (0, 0, 0, 1)))
         self.refuse('NoSolid', lambda: self.bench.trim(7, (1, 0, 0, -1)))
         self.refuse('SolidTaken', lambda: self.bench.cut(block, (1, 0, 0, -1), above=block))
@@ -282,7 +282,7 @@ class RandomCuts(unittest.TestCase):
     def test_oblique_cuts_are_taken_back_by_unions(self):
         told = Counter()
         for seed in range(int(os.environ.get('RANDOM_CUTS', 12))):
-            with self.subTest(seed=seed), Workbench(library(), step=1) as bench:
+            with self.subTest(seed=seed), Workbench(library(), step=step_of(self, 'test_oblique_cuts_are_taken_back_by_unions')) as bench:
                 self.try_part(World(bench, Random(seed)), told)
         self.assertGreater(told['made anew'], 0)
         self.assertGreater(told['split'], 0)

@@ -6,7 +6,7 @@ import tempfile
 import unittest
 from random import Random
 
-from support import as_listed, library
+from support import STEP, as_listed, library
 
 from gwb import Complaint, InDraft, Lone, MemoryRefused, NoDraft, Refused, Unfit, Workbench
 from gwb.errors import Ended
@@ -29,16 +29,16 @@ class Drafts(unittest.TestCase):
     """Over a block, after which another one can be redone."""
 
     def setUp(self):
-        self.bench = Workbench(library(), step=1)
+        self.bench = Workbench(library(), step=STEP)
         self.addCleanup(self.bench.close)
         self.block = self.bench.block((0, 0, 0), (9, 9, 9))
         self.bench.block((20, 0, 0), (1, 1, 1))
         self.both = self.bench.listing()
         self.bench.undo()
-        self.held = self.bench.listing()
+        self.held, self.before = self.bench.listing(), self.bench.script()
 
     def nothing_has_changed(self):
-        self.assertEqual((self.bench.listing(), self.bench.script()), (self.held, 'block 1 0 0 0 9 9 9\n'))
+        self.assertEqual((self.bench.listing(), self.bench.script()), (self.held, self.before))
         self.bench.redo()
         self.assertEqual(self.bench.listing(), self.both)
         with self.assertRaises(Refused):
@@ -73,11 +73,11 @@ class Drafts(unittest.TestCase):
         with bench.draft():
             ring = cut(bench)
             self.assertEqual((bench.count(1).vertices, bench.face(self.block.top).rings[0].number), (9, ring))
-            self.assertEqual(bench.script().count('\n'), 3)
+            self.assertEqual(bench.script().count('\n'), self.before.count('\n') + 2)
             self.assertEqual(bench.listing().faces[self.block.top].rings, (ring,))
             self.assertTrue(bench.plane(self.block.top).flat)
             self.assertEqual(bench.volume(1), 729)
-        self.assertEqual(bench.script().count('\n'), 3)
+        self.assertEqual(bench.script().count('\n'), self.before.count('\n') + 2)
 
     def test_an_exception_leaves_no_trace(self):
         with self.assertRaises(GivenUp), self.bench.draft():
@@ -143,7 +143,7 @@ class Drafts(unittest.TestCase):
                 with self.assertRaises(GivenUp), bench.draft():
                     given()
                     raise GivenUp
-                self.assertEqual((bench.listing(), bench.script()), (self.held, 'block 1 0 0 0 9 9 9\n'))
+                self.assertEqual((bench.listing(), bench.script()), (self.held, self.before))
                 with bench.draft():
                     given()
                     self.assertEqual((len(bench.listing().faces), as_listed(bench)), (len(made.faces), bench.listing()))
@@ -247,7 +247,7 @@ class Drafts(unittest.TestCase):
         self.bench.undo()
 
     def half_has_left_no_trace(self):
-        self.assertEqual((self.bench.listing(), self.bench.script()), (self.held, self.script))
+        self.assertEqual((self.bench.listing(), self.bench.script()), (self.held, self.before))
         self.bench.redo()
         self.assertEqual(self.bench.listing(), self.both)
 
@@ -262,7 +262,7 @@ class Drafts(unittest.TestCase):
         self.assertEqual((caught.exception.name, caught.exception.value), ('NoMatch', row[-1].solid))
 
     def test_a_chain_that_is_refused_half_way_leaves_no_trace(self):
-        row, self.held = self.row(), self.bench.listing()
+        row, self.held, self.before = self.row(), self.bench.listing(), self.bench.script()
         self.forget_a_vertex()
         self.refuse_row(row)
         self.half_has_left_no_trace()
@@ -281,7 +281,7 @@ class Drafts(unittest.TestCase):
         bench = self.bench
         start = bench.face(self.block.top).outer.half_edges[0]
         bench.mev(start, start, (8, 8, 9), edge=999_998)
-        self.held = bench.listing()
+        self.held, self.before = bench.listing(), bench.script()
         self.forget_a_vertex()
         with self.assertRaises(Refused) as caught:
             self.bench.pocket(self.block.bottom, [(1, 1, 0), (1, 4, 0), (4, 1, 0)], 2)
@@ -293,13 +293,13 @@ class Twelve(unittest.TestCase):
     """A hole through a block, which gets longer by a block that is cut and glued on: twelve commands, with numbers of their own."""
 
     def setUp(self):
-        self.bench = bench = Workbench(library(), step=1)
+        self.bench = bench = Workbench(library(), step=STEP)
         self.addCleanup(bench.close)
         bench.block((0, 0, 0), (9, 9, 9))
         bench.block((0, 20, 0), (1, 1, 1))
         self.both = bench.listing()
         bench.undo()
-        self.held = bench.listing()
+        self.held, self.before = bench.listing(), bench.script()
         self.commands = [
             lambda: bench.mev(7, 7, (2, 2, 9), edge=20, vertex=20), lambda: bench.kemr(20, loop=20),
             lambda: bench.mev(Lone(20), Lone(20), (2, 5, 9), edge=21, vertex=21), lambda: bench.mev(-21, -21, (5, 5, 9), edge=22, vertex=22),
@@ -342,7 +342,7 @@ class Twelve(unittest.TestCase):
 
     def require_nothing(self):
         """There is no trace, and what could be redone still can."""
-        self.assertEqual((self.bench.listing(), self.bench.script()), (self.held, 'block 1 0 0 0 9 9 9\n'))
+        self.assertEqual((self.bench.listing(), self.bench.script()), (self.held, self.before))
         self.bench.redo()
         self.assertEqual(self.bench.listing(), self.both)
         self.bench.undo()
@@ -523,7 +523,7 @@ class RandomDrafts(unittest.TestCase):
 
     def test_random_drafts(self):
         for seed in range(int(os.environ.get('RANDOM_DRAFTS', 400)) // 40):
-            with Workbench(library(), step=1) as bench:
+            with Workbench(library(), step=STEP) as bench:
                 self.play(bench, Random(seed), seed)
 
     def play(self, bench, random, seed):
@@ -616,7 +616,7 @@ class RandomLargerDrafts(unittest.TestCase):
 
     def test_random_drafts_with_larger_commands(self):
         for seed in range(int(os.environ.get('RANDOM_DRAFTS', 400)) // 20):
-            with Workbench(library(), step=1) as self.bench:
+            with Workbench(library(), step=STEP) as self.bench:
                 self.random, self.seed = Random(seed), seed
                 self.bench.block((0, 0, 0), (8, 8, 8))
                 for _ in range(5):
@@ -708,7 +708,7 @@ class RandomLargerDrafts(unittest.TestCase):
     def replayed(self):
         """The lines one by one, and what was saved, make the same."""
         made, script = self.bench.listing(), self.bench.script()
-        with Workbench(library(), step=1) as other, tempfile.TemporaryDirectory() as folder:
+        with Workbench(library(), step=STEP) as other, tempfile.TemporaryDirectory() as folder:
             for line in filter(is_answered, script.encode().splitlines()):
                 self.assertEqual(other.ask(line.decode()).lines, ('ok',), (self.seed, line))
             self.assertEqual(other.listing(), made, self.seed)

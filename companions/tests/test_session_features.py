@@ -10,7 +10,7 @@ from pathlib import Path
 from random import Random
 from unittest import mock
 
-from support import TESTS, library
+from support import STEP, TESTS, library, step_of
 
 from gwb import CompanionError, Impossible, NotOne, Refused, Unfit, Workbench
 from gwb.checks.check import check
@@ -34,7 +34,7 @@ class Parts(unittest.TestCase):
     def test_each_part(self):
         self.assertGreaterEqual(len(PARTS), 12)
         for path in PARTS:
-            with self.subTest(path.stem), Workbench(library(), step=1) as bench:
+            with self.subTest(path.stem), Workbench(library(), step=STEP) as bench:
                 self.try_part(bench, part(path))
 
     def try_part(self, bench, module):
@@ -57,7 +57,7 @@ class RandomFeatures(unittest.TestCase):
     def test_random_pockets_and_holes(self):
         random, left, made = Random(7), int(os.environ.get('RANDOM_FEATURES', 60)), 0
         while left > 0:
-            with Workbench(library(), step=1) as bench:
+            with Workbench(library(), step=STEP) as bench:
                 bench.block((0, 0, 0), (30, 20, 10))
                 count = min(left, 10)
                 made += sum(self.try_feature(bench, random) for _ in range(count))
@@ -102,7 +102,7 @@ class Refusals(unittest.TestCase):
     """What isn't possible is refused by name, and nothing has changed."""
 
     def setUp(self):
-        self.bench = Workbench(library(), step=1)
+        self.bench = Workbench(library(), step=step_of(self, 'test_a_condition_of_a_command_says_what_it_means', 'test_parts_are_those_of_the_listing'))
         self.addCleanup(self.bench.close)
         self.block = self.bench.block((0, 0, 0), (10, 10, 10))
 
@@ -310,7 +310,7 @@ class Refusals(unittest.TestCase):
             self.assertEqual(check(bench.listing()).findings, [])
             bench.undo()
             bench.undo()
-        self.assertEqual(bench.script().count('\n'), 1)
+        self.assertEqual(repr(bench), '<Workbench, 1 command held>')
 
     def test_slices_of_selections(self):
         bench = self.bench
@@ -329,8 +329,8 @@ class Scripts(unittest.TestCase):
     """Scripts written and taken up again."""
 
     def test_steps_are_saved_and_loaded(self):
-        with Workbench(library(), step=1) as bench, tempfile.TemporaryDirectory() as folder:
-            block = bench.block((0, 0, 0), (9, 9, 9))
+        with Workbench(library(), step=STEP) as bench, tempfile.TemporaryDirectory() as folder:
+            empty, block = bench.script(), bench.block((0, 0, 0), (9, 9, 9))
             bench.pocket(block.top, [(1, 1, 9), (4, 1, 9), (1, 4, 9)], 2)
             with bench.group():
                 bench.block((20, 0, 0), (1, 1, 1))
@@ -342,7 +342,7 @@ class Scripts(unittest.TestCase):
                     self.assertEqual((again.script(), again.listing()), (bench.script(), bench.listing()))
                     again.undo()
                     bench.undo()
-                self.assertEqual((again.script(), bench.script()), ('', ''))
+                self.assertEqual((again.script(), bench.script()), (empty, empty))
 
     def test_steps_within_steps_of_a_file(self):
         blocks = [f'block {number} {9 * number} 0 0 1 1 1' for number in range(1, 6)]
@@ -381,7 +381,7 @@ class Scripts(unittest.TestCase):
                     Workbench.load(f'{folder}/{name}', library())
 
     def test_save_and_load(self):
-        with Workbench(library(), step=1) as bench, tempfile.TemporaryDirectory() as folder:
+        with Workbench(library(), step=STEP) as bench, tempfile.TemporaryDirectory() as folder:
             block = bench.block((0, 0, 0), (9, 9, 9))
             bench.drill(block.top, (4, 4, 9), 2, 8)
             bench.block((20, 0, 0), (1, 1, 1))
@@ -393,7 +393,7 @@ class Scripts(unittest.TestCase):
                 self.assertEqual(again.block((40, 0, 0), (1, 1, 1))[1:], bench.block((40, 0, 0), (1, 1, 1))[1:])
 
     def test_a_listing_is_taken_up_again(self):
-        with Workbench(library(), step=1) as bench, tempfile.TemporaryDirectory() as folder:
+        with Workbench(library(), step=STEP) as bench, tempfile.TemporaryDirectory() as folder:
             block = bench.block((0, 0, 0), (9, 9, 9))
             bench.drill(block.top, (4, 4, 9), 2, 8)
             Path(folder, 'replies').write_text('\n'.join(bench.ask('list').lines) + '\n')
@@ -401,7 +401,7 @@ class Scripts(unittest.TestCase):
                 self.assertEqual(again.listing(), bench.listing())
 
     def test_it_is_shown(self):
-        with Workbench(library(), step=1) as bench:
+        with Workbench(library(), step=STEP) as bench:
             bench.block((0, 0, 0), (1, 1, 1))
             with mock.patch('webbrowser.open') as opened:
                 path = bench.show()
@@ -411,7 +411,7 @@ class Scripts(unittest.TestCase):
             self.assertIn('&lt;!DOCTYPE html&gt;', bench._repr_html_())
 
     def test_it_draws_itself(self):
-        with Workbench(library(), step=1) as bench:
+        with Workbench(library(), step=STEP) as bench:
             self.assertIsNone(bench._repr_svg_())
             bench.block((0, 0, 0), (1, 1, 1))
             self.assertTrue(bench._repr_svg_().startswith('<svg'))

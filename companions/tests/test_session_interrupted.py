@@ -11,7 +11,7 @@ from contextvars import copy_context
 from pathlib import Path
 from unittest import mock
 
-from support import as_listed, library
+from support import STEP, as_listed, commands_of, library
 
 import gwb
 from gwb import Complaint, Ended, InDraft, InGroup, OutOfStep, Workbench
@@ -107,7 +107,7 @@ LONG = {'a finer cut': 23}
 
 def prepared():
     """A bench with a pocket and a draft, which two undos take back, and two steps that can be redone."""
-    bench = Workbench(library(), step=1)
+    bench = Workbench(library(), step=STEP)
     bench.block((0, 0, 0), (20, 20, 20))
     drafted(bench)
     bench.pocket(1, [(3, 16, 20), (4, 16, 20), (4, 18, 20)], 3)
@@ -174,7 +174,7 @@ class Interrupted(unittest.TestCase):
 
     def test_a_call_left_and_caught_in_a_draft_or_a_group(self):
         for block in ('draft', 'group'):
-            with self.subTest(block), Workbench(library(), step=1) as bench:
+            with self.subTest(block), Workbench(library(), step=STEP) as bench:
                 bench.block((0, 0, 0), (20, 20, 20))
                 held = bench.listing()
                 with getattr(bench, block)():
@@ -188,7 +188,7 @@ class Interrupted(unittest.TestCase):
 
     def test_a_call_left_and_caught_in_a_draft_within_another_that_is_given_up(self):
         for line in range(3, 300, 11):
-            with self.subTest(line), Workbench(library(), step=1) as bench:
+            with self.subTest(line), Workbench(library(), step=STEP) as bench:
                 block = bench.block((0, 0, 0), (20, 20, 20))
                 held = bench.listing()
                 with bench.draft():
@@ -211,7 +211,7 @@ class Interrupted(unittest.TestCase):
         class Leaving(list):
             def append(self, _):
                 raise Left
-        with Workbench(library(), step=1) as bench:
+        with Workbench(library(), step=STEP) as bench:
             bench._kernel.blocks = Leaving()
             for begin in (bench.draft, bench.group):
                 with self.assertRaises(Left), begin():
@@ -231,7 +231,7 @@ class Interrupted(unittest.TestCase):
     def leave_at_the_end(self, begin, line):
         """Whether the end of a draft or a group came to the line. Calls go on after it."""
         interrupter = Interrupter(line)
-        with Workbench(library(), step=1) as bench:
+        with Workbench(library(), step=STEP) as bench:
             try:
                 with getattr(bench, begin)():
                     bench.mvfs((1, 1, 1))
@@ -246,7 +246,7 @@ class Interrupted(unittest.TestCase):
             return interrupter.has_come
 
     def test_a_group_left_at_its_begin_or_its_end_leaves_what_can_be_redone(self):
-        with Workbench(library(), step=1) as bench, mock.patch.object(sys, 'unraisablehook'):
+        with Workbench(library(), step=STEP) as bench, mock.patch.object(sys, 'unraisablehook'):
             for place in (0, 5):
                 bench.block((place, 0, 0), (2, 2, 2))
             bench.undo()
@@ -267,11 +267,11 @@ class Interrupted(unittest.TestCase):
                 pass
         except Left:
             pass
-        self.assertEqual((bench.script(), len(bench.solids())), ('', 0), line)
+        self.assertEqual((commands_of(bench), len(bench.solids())), ([], 0), line)
         return interrupter.has_come
 
     def test_a_handler_that_gives_a_call_in_a_call(self):
-        with Workbench(library(), step=1) as bench:
+        with Workbench(library(), step=STEP) as bench:
             bench.block((0, 0, 0), (2, 2, 2))
             ask = bench._kernel.lines.ask
 
@@ -290,7 +290,7 @@ class Forked(unittest.TestCase):
     """A process that was forked."""
 
     def test_it_has_a_session_of_its_own(self):
-        with Workbench(library(), step=1) as bench:
+        with Workbench(library(), step=STEP) as bench:
             bench.block((0, 0, 0), (2, 2, 2))
             process = os.fork()
             if process == 0:
@@ -299,7 +299,7 @@ class Forked(unittest.TestCase):
             self.assertEqual(len(bench.solids()), 1)
 
     def test_closing_waits_for_no_child_and_leaves_it_its_session(self):
-        bench, (is_closed, tell_closed) = Workbench(library(), step=1), os.pipe()
+        bench, (is_closed, tell_closed) = Workbench(library(), step=STEP), os.pipe()
         bench.block((0, 0, 0), (2, 2, 2))
         process = os.fork()
         if process == 0:
@@ -316,7 +316,7 @@ class Forked(unittest.TestCase):
             os.close(end)
 
     def test_a_child_that_closes_leaves_the_session_of_its_parent(self):
-        with Workbench(library(), step=1) as bench:
+        with Workbench(library(), step=STEP) as bench:
             bench.block((0, 0, 0), (2, 2, 2))
             process = os.fork()
             if process == 0:
@@ -329,7 +329,7 @@ class Features(unittest.TestCase):
     """A feature or a group that an exception leaves."""
 
     def setUp(self):
-        self.bench = Workbench(library(), step=1)
+        self.bench = Workbench(library(), step=STEP)
         self.addCleanup(self.bench.close)
         self.bench.block((0, 0, 0), (20, 20, 20))
         self.bench.block((50, 0, 0), (1, 1, 1))
@@ -345,7 +345,7 @@ class Features(unittest.TestCase):
             self.bench.redo()
 
     def test_a_feature_that_is_left_by_a_keyboard_interrupt(self):
-        with Workbench(library(), step=1) as bench:
+        with Workbench(library(), step=STEP) as bench:
             top = bench.block((0, 0, 0), (400, 400, 20)).top
             for x in range(0, 400, 20):
                 for y in range(0, 400, 20):
@@ -422,7 +422,7 @@ class Threads(unittest.TestCase):
         interval = sys.getswitchinterval()
         self.addCleanup(sys.setswitchinterval, interval)
         sys.setswitchinterval(1e-5)
-        self.bench = Workbench(library(), step=1)
+        self.bench = Workbench(library(), step=STEP)
         self.addCleanup(self.bench.close)
         self.failed = []
 
@@ -463,7 +463,7 @@ class Threads(unittest.TestCase):
         self.assertEqual([self.bench.volume(solid) for solid in self.bench.solids()], [7500] * 20)
         for _ in range(20):
             self.bench.undo()
-        self.assertEqual(self.bench.script(), '')
+        self.assertEqual(commands_of(self.bench), [])
 
     def test_what_things_say_is_whole(self):
         block = self.bench.block((0, 0, 0), (4, 4, 4))

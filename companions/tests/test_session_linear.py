@@ -3,7 +3,7 @@
 import sys
 import unittest
 
-from support import library
+from support import STEP, library
 
 from gwb import Workbench
 
@@ -36,7 +36,7 @@ class OnABench(unittest.TestCase):
 
     def calls(self, blocks, prepare, act):
         """The calls of a feature of the last of so many blocks, after one of the first block."""
-        with Workbench(library(), step=1) as bench:
+        with Workbench(library(), step=STEP) as bench:
             held = [bench.block((20 * number, 0, 0), (9, 9, 9)) for number in range(blocks)]
             at = [prepare(bench, block, 20 * number) for number, block in ((0, held[0]), (blocks - 1, held[-1]))]
             act(bench, held[0], 0, at[0])
@@ -78,7 +78,7 @@ class OnOneSolid(unittest.TestCase):
 
     def calls(self, others, make, act):
         """The calls of a feature in a plate with so many others."""
-        with Workbench(library(), step=1) as bench:
+        with Workbench(library(), step=STEP) as bench:
             plate = bench.block((0, 0, 0), (200, 200, 9))
             for number in range(others):
                 make(bench, plate, number)

@@ -4,7 +4,7 @@ import os
 import unittest
 from random import Random
 
-from support import as_listed, library
+from support import STEP, as_listed, library, step_of
 
 from gwb import Complaint, Lone, Workbench
 from gwb.geometry.free_numbers import KINDS
@@ -114,7 +114,7 @@ class Numbers(unittest.TestCase):
     def test_random_commands(self):
         left, seed = int(os.environ.get('RANDOM_COMMANDS', 2000)), 0
         while left > 0:
-            with Workbench(library(), step=1) as bench:
+            with Workbench(library(), step=STEP) as bench:
                 left, seed = left - self.play(bench, seed, min(left, 25)), seed + 1
 
     def play(self, bench, seed, count):
@@ -157,7 +157,7 @@ class Steps(unittest.TestCase):
     """Undo and redo by features and by commands."""
 
     def setUp(self):
-        self.bench = Workbench(library(), step=1)
+        self.bench = Workbench(library(), step=step_of(self, 'test_a_feature_given_up_leaves_nothing_to_redo', 'test_a_feature_is_one_step'))
         self.addCleanup(self.bench.close)
 
     def test_a_feature_is_one_step(self):

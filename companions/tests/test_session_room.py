@@ -7,7 +7,7 @@ from random import Random
 from oracle import outlined
 from oracle.held import Held
 from oracle.outlines import steps_along
-from support import library
+from support import library, step_of
 
 from gwb import Face, Loop, Model, Refused, Workbench
 from gwb.checks.check import check
@@ -91,7 +91,7 @@ class Room(unittest.TestCase):
         wanted, made, met, seed = int(os.environ.get('RANDOM_ROOM', 100)), 0, 0, 0
         while made + met < wanted:
             seed += 1
-            with Workbench(library(), step=1) as bench:
+            with Workbench(library(), step=step_of(self, 'test_random_features')) as bench:
                 parts = Parts(bench, Random(seed))
                 parts.make()
                 for _ in range(60):

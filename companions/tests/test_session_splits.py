@@ -5,7 +5,7 @@ import unittest
 from collections import Counter
 from random import Random
 
-from support import as_listed, library
+from support import STEP, as_listed, library
 
 from gwb import Refused, Workbench
 
@@ -36,7 +36,7 @@ class Followed(unittest.TestCase):
     def test_random_splits(self):
         told = Counter()
         for seed in range(int(os.environ.get('RANDOM_SPLITS', 40))):
-            with self.subTest(seed=seed), Workbench(library(), step=1) as bench:
+            with self.subTest(seed=seed), Workbench(library(), step=STEP) as bench:
                 self.split_all(bench, Random(seed), told)
         for name in ('ok', 'rings', 'TouchedFace', 'CutOften', 'several pairs'):
             self.assertGreater(told[name], 0, name)
@@ -57,7 +57,7 @@ class Followed(unittest.TestCase):
 
     def split(self, bench, solid, plane, told):
         """One split, as a method or as a line, and its undo and redo."""
-        before = bench.listing()
+        before, in_steps = bench.listing(), (*plane[:3], int(plane[3] / STEP))
         try:
             made = bench.split(solid, plane)
         except Refused as refused:
@@ -71,13 +71,13 @@ class Followed(unittest.TestCase):
         self.assertEqual({after.faces[face].solid for face in made.upper_caps}, {made.solid})
         bench.undo()
         self.assertEqual(as_listed(bench), before)
-        self.assertEqual(bench.ask('split {} {} {} {} {} {}'.format(solid, *plane, made.solid)).lines, ('ok',))
+        self.assertEqual(bench.ask('split {} {} {} {} {} {}'.format(solid, *in_steps, made.solid)).lines, ('ok',))
         self.assertEqual((as_listed(bench), bench.listing()), (after, after))
         self.assertEqual(bench.block((0, 0, 90), (1, 1, 1)).top, max(after.faces) + 1)
         bench.undo()
         told['ok'] += 1
         told['rings'] += any(face.rings for face in after.faces.values())
-        told['several pairs'] += len(made.faces) - len(made.lower_caps) - len(made.upper_caps) > straddling(before.only(solid), plane)
+        told['several pairs'] += len(made.faces) - len(made.lower_caps) - len(made.upper_caps) > straddling(before.only(solid), in_steps)
 
 
 if __name__ == '__main__':
