@@ -7,8 +7,10 @@ whole points, with what is said of them.
 Each line of tests/library_features.table is a feature, and behind `=` what it gives: `ok`, and six times the volume, the vertices, edges, faces
 and rings of the solid and a sum over its points; or the name of what is refused. A face is told by the ends of a side of its outer loop, an edge by
 its own, in the direction of its first half-edge; a solid that is cut by its listing. `halve` cuts it in two, and tells of both; `union` adds a block
-at a point, `subtract` takes one away, and `intersect` leaves what is in it too; `around` tells of all of a row; `chamfers` takes a width and the ends of its edges. The table was written by features in Python that shared
-no code with those of the library, a row by turned points, chamfers of several edges by cuts, and the last 40 parts, of Booleans, by unit cubes. The last line counts.
+at a point, `subtract` takes one away, and `intersect` leaves what is in it too; `around` tells of all of a row; `chamfers` takes a width and the ends of its edges; `pocket_along` and
+`boss_along` take a vector in place of a depth. The table was written by features in Python that shared no code with those of the library, a row by turned
+points, chamfers of several edges by cuts, features by vectors by products of areas with these, and the last 40 parts, of Booleans, by unit cubes. The last line
+counts.
 """
 import re
 import sys
@@ -109,6 +111,10 @@ class Part:
             'shoulder': lambda: bench.shoulder(face, self.edge((row.point(), row.point()))[0], row.number(), row.number())}
         if word in calls:
             calls[word]()
+            return
+        if word in ('pocket_along', 'boss_along'):
+            along = row.point()
+            (bench.pocket if word == 'pocket_along' else bench.boss)(face, row.points(), along=along)
             return
         depth = row.number()
         {'pocket': bench.pocket, 'boss': bench.boss, 'notch': bench.notch}[word](face, row.points(), depth)

@@ -215,6 +215,11 @@ private:
             return gives(hole(attempt_, face, given.points()));
         if (word == "ring")
             return gives(ring(attempt_, face, given.points()));
+        if (word == "pocket_along" || word == "boss_along") {
+            const Point along = given.point();
+            return gives(word == "boss_along" ? boss_along(attempt_, face, given.points(), along)
+                                              : pocket_along(attempt_, face, given.points(), along));
+        }
         const std::int64_t depth = given.number();
         if (word == "notch")
             return gives(notch(attempt_, face, given.points(), depth));

@@ -34,7 +34,11 @@ for at in (1, 2, 3):
               ('subtract', [5, 2, 8]), ('union', [3, 5, 4]), ('separate', [3]), ('block', [9, -1, 0, 0, 8, 8, 3 + at]), ('intersect', [9, 3]), ('undo', []), ('redo', []),
               ('intersect', [9, 4]), ('intersect', [9, 77]), ('subtract', [9, 77]), ('separate', [77]), ('join_faces', [77]),
               ('part', []), ('block', [1, 0, 0, 0, 4, 4, at]), ('block', [2, 4, 0, 0, 4, 4, at]), ('glue_all', [1, 2]), ('join_faces', [1]), ('undo', []),
-              ('draft', []), ('join_faces', [1]), ('commit', [])]
+              ('draft', []), ('join_faces', [1]), ('commit', []),
+              # and features by vectors
+              ('part', []), ('block', [1, 0, 0, 0, 20, 20, 10]), ('pocket_along', [1, at, -1, -3, 4, 4, 10, 8, 4, 10, 8, 8, 10, 4, 8, 10]),
+              ('pocket_along', [1, at, -1, 3, 9, 9, 10, 10, 9, 10, 9, 10, 10]), ('boss_along', [1, -at, 0, 2, 12, 12, 10, 15, 12, 10, 15, 15, 10]),
+              ('drill_along', [2, 14, 5, 0, 2, 8, at, at, 4])]
 Point = Tuple[int, int, int]
 # How often each word has to be accepted, so that it is tried.
 LEAST = 3
@@ -182,6 +186,9 @@ _CALLS: Dict[str, Call] = {
     'ring': lambda s, n, w: s.outlined(s.bench.ring(n(), _points(w))),
     'pocket': lambda s, n, w: s.outlined(s.bench.pocket(n(), depth=n(), points=_points(w))),
     'boss': lambda s, n, w: s.outlined(s.bench.boss(n(), height=n(), points=_points(w))),
+    'pocket_along': lambda s, n, w: s.outlined(s.bench.pocket(n(), along=_three(w), points=_points(w))),
+    'boss_along': lambda s, n, w: s.outlined(s.bench.boss(n(), along=_three(w), points=_points(w))),
+    'drill_along': lambda s, n, w: s.drilled(s.bench.drill(n(), _three(w), n(), n(), along=_three(w))),
     'hole': lambda s, n, w: s.outlined(s.bench.hole(n(), _points(w))),
     'drill': lambda s, n, w: s.drilled(s.bench.drill(n(), _three(w), n(), n(), depth=n() or None)),
     'notch': lambda s, n, w: s.counted(*s.bench.notch(n(), depth=n(), points=_points(w))),

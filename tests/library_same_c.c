@@ -228,15 +228,28 @@ static void ring(uint32_t face)
         put(others, n);
 }
 
-static void drill(uint32_t face)
+static void drill(uint32_t face, bool is_along)
 {
     const gwb_point center = point();
     const int64_t radius = number();
     const uint32_t sides = name();
-    const enum gwb_kind kind = gwb_drill(&g, face, &center, radius, sides, number(), &outline, made, corners, &why);
+    const gwb_point along = is_along ? point() : (gwb_point){0, 0, 0};
+    const enum gwb_kind kind = is_along ? gwb_drill_along(&g, face, &center, radius, sides, &along, &outline, made, corners, &why)
+                                        : gwb_drill(&g, face, &center, radius, sides, number(), &outline, made, corners, &why);
     put_outline(kind, sides);
     for (uint32_t i = 0; kind == GWB_OK && i < sides; i++)
         printf(" %lld %lld %lld", (long long)corners[i].x, (long long)corners[i].y, (long long)corners[i].z);
+}
+
+static bool is_along(const char *word, uint32_t face)
+{
+    const bool is_pocket = strcmp(word, "pocket_along") == 0;
+    if (!is_pocket && strcmp(word, "boss_along") != 0)
+        return false;
+    const gwb_point along = point();
+    const size_t n = points();
+    put_outline((is_pocket ? gwb_pocket_along : gwb_boss_along)(&g, face, corners, n, &along, &outline, made, &why), n);
+    return true;
 }
 
 static bool is_of_outline(const char *word, uint32_t face)
@@ -416,7 +429,7 @@ static void give(const char *word)
     if (is_of_session(word))
         return;
     const uint32_t of = name();
-    if (is_of_outline(word, of) || is_strip(word, of) || is_of_solid(word, of) || is_of_plane(word, of))
+    if (is_of_outline(word, of) || is_along(word, of) || is_strip(word, of) || is_of_solid(word, of) || is_of_plane(word, of))
         return;
     if (strcmp(word, "block") == 0)
         block(of);
@@ -426,8 +439,8 @@ static void give(const char *word)
         ring(of);
     else if (strcmp(word, "subtract") == 0)
         subtract(of);
-    else if (strcmp(word, "drill") == 0)
-        drill(of);
+    else if (strcmp(word, "drill") == 0 || strcmp(word, "drill_along") == 0)
+        drill(of, strcmp(word, "drill_along") == 0);
     else if (strcmp(word, "shoulder") == 0)
         shoulder(of);
     else if (strcmp(word, "chamfer") == 0)

@@ -83,6 +83,7 @@ private:
             {"part", &Given::part},         {"list", &Given::list},       {"undo", &Given::undo},         {"redo", &Given::redo},
             {"draft", &Given::draft},       {"commit", &Given::commit},   {"abandon", &Given::abandon},   {"block", &Given::block},
             {"profile", &Given::profile},   {"ring", &Given::ring},       {"pocket", &Given::pocket},     {"boss", &Given::boss},
+            {"pocket_along", &Given::pocket_along}, {"boss_along", &Given::boss_along}, {"drill_along", &Given::drill_along},
             {"hole", &Given::hole},         {"drill", &Given::drill},     {"notch", &Given::notch},       {"slot", &Given::slot},
             {"groove", &Given::groove},     {"shoulder", &Given::shoulder}, {"chamfer", &Given::chamfer}, {"kill", &Given::kill},
             {"copy", &Given::copy},         {"move", &Given::move},       {"pattern", &Given::pattern},   {"scale", &Given::scale},
@@ -205,6 +206,18 @@ private:
         const std::int64_t height = words.number();
         put_pocket(gwb_session::boss(*attempt_, face, words.points(), height));
     }
+    void pocket_along(Words &words)
+    {
+        const auto face = words.name<Face>();
+        const Point along = words.point();
+        put_pocket(gwb_session::pocket_along(*attempt_, face, words.points(), along));
+    }
+    void boss_along(Words &words)
+    {
+        const auto face = words.name<Face>();
+        const Point along = words.point();
+        put_pocket(gwb_session::boss_along(*attempt_, face, words.points(), along));
+    }
     void hole(Words &words)
     {
         const auto face = words.name<Face>();
@@ -216,7 +229,18 @@ private:
         const Point center = words.point();
         const std::int64_t radius = words.number();
         const auto sides = static_cast<std::uint32_t>(words.number());
-        const Result<Hole> made = gwb_session::drill(*attempt_, face, center, radius, sides, words.number());
+        put_drilled(gwb_session::drill(*attempt_, face, center, radius, sides, words.number()));
+    }
+    void drill_along(Words &words)
+    {
+        const auto face = words.name<Face>();
+        const Point center = words.point();
+        const std::int64_t radius = words.number();
+        const auto sides = static_cast<std::uint32_t>(words.number());
+        put_drilled(gwb_session::drill_along(*attempt_, face, center, radius, sides, words.point()));
+    }
+    static void put_drilled(const Result<Hole> &made)
+    {
         if (put_hole(made))
             for (const Point &at : made->points)
                 std::cout << ' ' << at.x << ' ' << at.y << ' ' << at.z;

@@ -129,10 +129,21 @@ macro_rules! made {
                     _ => bench.notch(face, &points, length).map(|made| notch(&made)),
                 }
             }
+            "pocket_along" | "boss_along" => {
+                let (face, along, points) = (words.name::<Face>(), words.point(), words.points());
+                match $word {
+                    "pocket_along" => bench.pocket_along(face, &points, along).map(|made| pocket(&made)),
+                    _ => bench.boss_along(face, &points, along).map(|made| pocket(&made)),
+                }
+            }
             "hole" => bench.hole(words.name(), &words.points()).map(|made| hole(&made)),
             "drill" => {
                 let (face, center, radius, sides) = (words.name::<Face>(), words.point(), words.number(), words.number() as u32);
                 bench.drill(face, center, radius, sides, words.number()).map(|made| drilled(&made))
+            }
+            "drill_along" => {
+                let (face, center, radius, sides) = (words.name::<Face>(), words.point(), words.number(), words.number() as u32);
+                bench.drill_along(face, center, radius, sides, words.point()).map(|made| drilled(&made))
             }
             "slot" => bench.slot(words.name(), words.point(), words.point(), words.number(), words.number()).map(|made| notch(&made)),
             "groove" => bench.groove(words.name(), words.point(), words.point(), words.number(), words.number()).map(|made| notch(&made)),

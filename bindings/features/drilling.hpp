@@ -7,8 +7,8 @@ namespace gwb_session::drilling {
 
 using namespace machining;
 
-/// A hole through the solid of a face across an axis, or of a depth. Refused: NoFace, NotFlat. Not possible: NotAcross.
-inline Hole drill(Bench &bench, Face face, Point center, std::int64_t radius, std::uint32_t sides, std::int64_t depth)
+/// A hole through the solid of a face across an axis, or of a depth, or by a vector. Refused: NoFace, NotFlat. Not possible: NotAcross.
+inline Hole drill(Bench &bench, Face face, Point center, std::int64_t radius, std::uint32_t sides, std::int64_t depth, const Point *along = nullptr)
 {
     require(radius >= 1 && sides >= 3 && sides <= circles::most_sides && depth >= 0, refused(GWB_WHY_SIZE_RANGE, radius < 1 ? 1 : depth < 0 ? 3 : 2));
     const Vector across = plane_of(bench, face).across;
@@ -23,7 +23,8 @@ inline Hole drill(Bench &bench, Face face, Point center, std::int64_t radius, st
         at[(axis + 2) % 3] += second;
         points.push_back(point(at));
     }
-    Pocket made = depth == 0 ? make_hole(bench, face, points) : make_raised(bench, face, points, sizes_of(depth)[0], false);
+    Pocket made = along == nullptr && depth == 0 ? make_hole(bench, face, points)
+                                                 : make_raised(bench, face, points, along != nullptr ? Reach(*along) : sizes_of(depth)[0], false);
     return Hole{made.face, made.loop, std::move(made.sides), std::move(points)};
 }
 

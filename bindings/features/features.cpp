@@ -85,6 +85,11 @@ void put(const Pocket &made, gwb_outline_made *to, std::uint32_t *sides)
     *to = {made.face.number(), made.loop.number()};
     put(made.sides, sides);
 }
+void put(const Hole &made, gwb_outline_made *to, std::uint32_t *sides, gwb_point *points)
+{
+    put({made.other, made.loop, made.sides}, to, sides);
+    std::copy(made.points.begin(), made.points.end(), points);
+}
 
 // ---- what callers give
 
@@ -413,6 +418,18 @@ gwb_kind gwb_boss(gwb *g, uint32_t face, const gwb_point *points, size_t n, int6
     return made(g, why, [&](Bench &bench, Lists &) { put(machining::make_raised(bench, given<Face>(face), {points, n}, machining::sizes_of(height)[0], true), out, sides); });
 }
 
+gwb_kind gwb_pocket_along(gwb *g, uint32_t face, const gwb_point *points, size_t n, const gwb_point *along, gwb_outline_made *out, uint32_t *sides,
+                          gwb_refusal *why)
+{
+    return made(g, why, [&](Bench &bench, Lists &) { put(machining::make_raised(bench, given<Face>(face), {points, n}, *along, false), out, sides); });
+}
+
+gwb_kind gwb_boss_along(gwb *g, uint32_t face, const gwb_point *points, size_t n, const gwb_point *along, gwb_outline_made *out, uint32_t *sides,
+                        gwb_refusal *why)
+{
+    return made(g, why, [&](Bench &bench, Lists &) { put(machining::make_raised(bench, given<Face>(face), {points, n}, *along, true), out, sides); });
+}
+
 gwb_kind gwb_hole(gwb *g, uint32_t face, const gwb_point *points, size_t n, gwb_outline_made *out, uint32_t *sides, gwb_refusal *why)
 {
     return made(g, why, [&](Bench &bench, Lists &) { put(machining::make_hole(bench, given<Face>(face), {points, n}), out, sides); });
@@ -421,11 +438,13 @@ gwb_kind gwb_hole(gwb *g, uint32_t face, const gwb_point *points, size_t n, gwb_
 gwb_kind gwb_drill(gwb *g, uint32_t face, const gwb_point *center, int64_t radius, uint32_t n, int64_t depth, gwb_outline_made *out, uint32_t *sides,
                    gwb_point *points, gwb_refusal *why)
 {
-    return made(g, why, [&](Bench &bench, Lists &) {
-        const Hole found = drilling::drill(bench, given<Face>(face), *center, radius, n, depth);
-        put({found.other, found.loop, found.sides}, out, sides);
-        std::copy(found.points.begin(), found.points.end(), points);
-    });
+    return made(g, why, [&](Bench &bench, Lists &) { put(drilling::drill(bench, given<Face>(face), *center, radius, n, depth), out, sides, points); });
+}
+
+gwb_kind gwb_drill_along(gwb *g, uint32_t face, const gwb_point *center, int64_t radius, uint32_t n, const gwb_point *along, gwb_outline_made *out,
+                         uint32_t *sides, gwb_point *points, gwb_refusal *why)
+{
+    return made(g, why, [&](Bench &bench, Lists &) { put(drilling::drill(bench, given<Face>(face), *center, radius, n, 0, along), out, sides, points); });
 }
 
 gwb_kind gwb_notch(gwb *g, uint32_t face, const gwb_point *points, size_t n, int64_t depth, gwb_refusal *why)

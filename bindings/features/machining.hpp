@@ -4,6 +4,7 @@
 /// first two. A feature compares what lies near. What was read of a solid for one feature is known to the next ones, until another command comes.
 #pragma once
 #include "simple_outlines.hpp"
+#include <variant>
 
 namespace gwb_session::machining {
 
@@ -31,6 +32,9 @@ template <class... Given> std::array<Size, sizeof...(Given)> sizes_of(Given... g
     require(small == all.end(), refused(GWB_WHY_SIZE_RANGE, place(static_cast<std::size_t>(small - all.begin()))));
     return {Size(given)...};
 }
+
+/// How a feature goes from its face: so far along the normal, or by a vector.
+using Reach = std::variant<Size, Point>;
 
 /// Points of the caller; refused where one lies out of range.
 inline Path path_of(Items<Point> points)
@@ -80,6 +84,19 @@ inline Vector steps_along(Face face, const Vector &across, std::int64_t length)
         root += (root + bit) * (root + bit) <= square ? bit : 0;
     require(is_short && root * root == square && length % root == 0, impossible(Misfit::off_lattice, face.number()));
     return times(across, length / root);
+}
+
+/// The vector by which a feature goes into the solid of a face, or out of it. Not possible: OffLattice; AlongPlane, where a vector lies in the face or goes
+/// the other way.
+inline Vector way_of(Face face, const Vector &across, const Reach &reach, bool is_out)
+{
+    if (const Size *length = std::get_if<Size>(&reach))
+        return steps_along(face, across, is_out ? length->length() : -length->length());
+    const Vector way = vector(std::get<Point>(reach));
+    require(longest(across) <= 2 * farthest, impossible(Misfit::off_lattice, face.number()));
+    require(longest(way) <= 2 * farthest, refused(GWB_WHY_POINT_RANGE, 0));
+    require(sign(dot(across, way)) == (is_out ? 1 : -1), impossible(Misfit::along_plane, face.number()));
+    return way;
 }
 
 // ---- faces
@@ -225,7 +242,7 @@ inline Plane plane_of(const Bench &bench, Face face)
     return *plane;
 }
 
-/// Refuses to move an outline in a face along the face's normal where what it sweeps over would meet or touch the solid elsewhere than in the face,
+/// Refuses to move an outline in a face to another place where what it sweeps over would meet or touch the solid elsewhere than in the face,
 /// or in the other one where it ends there. In these only what is on the outline counts.
 inline void require_room(const Bench &bench, const Surface &surface, const Vector &across, const Path &path, const Path &far, Face face, Face other)
 {
@@ -360,7 +377,7 @@ inline Ring make_ring(Bench &bench, Face face, Items<Point> points)
     return made;
 }
 
-/// Moves an outline in a face along the face's normal, as far as another face where it is to end in that.
+/// Moves an outline in a face by a vector, as far as another face where it is to end in that.
 inline Pocket move_outline(Bench &bench, Face face, const Drawing &drawn, const Vector &way, Face other = Face())
 {
     const Path far = moved(drawn.path, way);
@@ -386,11 +403,11 @@ inline Pocket move_outline(Bench &bench, Face face, const Drawing &drawn, const 
     return Pocket{other != Face() ? other : ring.face, ring.loop, drawn.is_turned() ? backwards(sides) : sides};
 }
 
-/// The same by a length: up for a boss, down for a pocket. Where points would lie out of range a boss is refused, and a pocket would meet the far side.
-inline Pocket make_raised(Bench &bench, Face face, Items<Point> points, Size length, bool is_boss)
+/// The same out of the solid for a boss, into it for a pocket. Where points would lie out of range a boss is refused, and a pocket would meet the far side.
+inline Pocket make_raised(Bench &bench, Face face, Items<Point> points, const Reach &reach, bool is_boss)
 {
     const Drawing drawn(bench, face, points);
-    const Vector way = steps_along(face, drawn.across, is_boss ? length.length() : -length.length());
+    const Vector way = way_of(face, drawn.across, reach, is_boss);
     require(all(moved(drawn.path, way), is_in_range), is_boss ? refused(GWB_WHY_POINT_RANGE, 0) : impossible(Misfit::meets, face.number()));
     return move_outline(bench, face, drawn, way);
 }

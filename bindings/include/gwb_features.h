@@ -158,6 +158,14 @@ bool gwb_circle(int64_t diameter, int64_t grain, uint32_t n, uint32_t circle, in
  * what holes and pockets aren't possible for. */
 enum gwb_kind gwb_drill(gwb *g, uint32_t face, const gwb_point *center, int64_t radius, uint32_t n, int64_t depth, gwb_outline_made *made,
                         uint32_t *sides, gwb_point *points, gwb_refusal *why);
+/** A pocket, a boss and a drilled hole by a vector, which may lean, in place of a length: into the solid, of a boss out of it. Not possible besides:
+ * ALONG_PLANE, with the face, where the vector lies in it or points the other way; OFF_LATTICE where its normal is out of range. */
+enum gwb_kind gwb_pocket_along(gwb *g, uint32_t face, const gwb_point *points, size_t n, const gwb_point *along, gwb_outline_made *made,
+                               uint32_t *sides, gwb_refusal *why);
+enum gwb_kind gwb_boss_along(gwb *g, uint32_t face, const gwb_point *points, size_t n, const gwb_point *along, gwb_outline_made *made,
+                             uint32_t *sides, gwb_refusal *why);
+enum gwb_kind gwb_drill_along(gwb *g, uint32_t face, const gwb_point *center, int64_t radius, uint32_t n, const gwb_point *along,
+                              gwb_outline_made *made, uint32_t *sides, gwb_point *points, gwb_refusal *why);
 /** A pocket whose outline may reach the edges of the face. Lists: floor, walls. */
 enum gwb_kind gwb_notch(gwb *g, uint32_t face, const gwb_point *points, size_t n, int64_t depth, gwb_refusal *why);
 enum gwb_kind gwb_slot(gwb *g, uint32_t face, const gwb_point *start, const gwb_point *end, int64_t width, int64_t depth, gwb_refusal *why);

@@ -56,13 +56,25 @@ auto row(Commands<Policy> &bench, const char *command, Call call, Solid solid, s
 }
 
 /// A pocket or a boss.
-template <class Policy, class Call>
-auto raise(Commands<Policy> &bench, const char *command, Call call, Face face, Items<Point> points, std::int64_t length)
+template <class Policy, class Call, class Reach>
+auto raise(Commands<Policy> &bench, const char *command, Call call, Face face, Items<Point> points, Reach reach)
 {
     gwb_outline_made made{};
     std::vector<std::uint32_t> sides(points.size());
     return bench.feature(command, call, [&] { return Pocket{Face(made.face), Loop(made.loop), things<Face>(sides)}; }, face.number(), points.data(),
-                         points.size(), length, &made, sides.data());
+                         points.size(), reach, &made, sides.data());
+}
+
+/// A drilled hole.
+template <class Policy, class Call, class Reach>
+auto drill(Commands<Policy> &bench, const char *command, Call call, Face face, const Point &center, std::int64_t radius, std::uint32_t sides, Reach reach)
+{
+    constexpr std::uint32_t most_sides = 1'000'000;
+    gwb_outline_made made{};
+    std::vector<Point> points(sides <= most_sides ? sides : 0); // more are refused before any is written
+    std::vector<std::uint32_t> walls(points.size());
+    const auto drilled = [&] { return Hole{Face(made.face), Loop(made.loop), things<Face>(walls), points}; };
+    return bench.feature(command, call, drilled, face.number(), &center, radius, sides, reach, &made, walls.data(), points.data());
 }
 
 /// A notch, slot, groove or shoulder.
@@ -315,11 +327,21 @@ template <class Policy> Answer<Policy, Pocket> pocket(Commands<Policy> &bench, F
 {
     return features::raise(bench, "pocket", gwb_pocket, face, points, depth);
 }
+/// A pocket by a vector into the solid, which may lean.
+template <class Policy> Answer<Policy, Pocket> pocket_along(Commands<Policy> &bench, Face face, Items<Point> points, Point along)
+{
+    return features::raise(bench, "pocket_along", gwb_pocket_along, face, points, &along);
+}
 
 /// A boss so high on the outline in the face.
 template <class Policy> Answer<Policy, Pocket> boss(Commands<Policy> &bench, Face face, Items<Point> points, std::int64_t height)
 {
     return features::raise(bench, "boss", gwb_boss, face, points, height);
+}
+/// A boss by a vector out of the solid, which may lean.
+template <class Policy> Answer<Policy, Pocket> boss_along(Commands<Policy> &bench, Face face, Items<Point> points, Point along)
+{
+    return features::raise(bench, "boss_along", gwb_boss_along, face, points, &along);
 }
 
 /// A hole from the outline in the face through to the face opposite to it, which is parallel.
@@ -350,12 +372,13 @@ enum class Circle : std::uint32_t { corners = GWB_CIRCLE_CORNERS, flats = GWB_CI
 template <class Policy>
 Answer<Policy, Hole> drill(Commands<Policy> &bench, Face face, Point center, std::int64_t radius, std::uint32_t sides, std::int64_t depth = 0)
 {
-    constexpr std::uint32_t most_sides = 1'000'000;
-    gwb_outline_made made{};
-    std::vector<Point> points(sides <= most_sides ? sides : 0); // more are refused before any is written
-    std::vector<std::uint32_t> walls(points.size());
-    const auto drilled = [&] { return Hole{Face(made.face), Loop(made.loop), features::things<Face>(walls), points}; };
-    return bench.feature("drill", gwb_drill, drilled, face.number(), &center, radius, sides, depth, &made, walls.data(), points.data());
+    return features::drill(bench, "drill", gwb_drill, face, center, radius, sides, depth);
+}
+/// The same by a vector into the solid, which may lean.
+template <class Policy>
+Answer<Policy, Hole> drill_along(Commands<Policy> &bench, Face face, Point center, std::int64_t radius, std::uint32_t sides, Point along)
+{
+    return features::drill(bench, "drill_along", gwb_drill_along, face, center, radius, sides, &along);
 }
 
 /// A pocket whose outline may reach the edges of the face.

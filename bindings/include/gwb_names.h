@@ -104,7 +104,7 @@ enum gwb_misfit {
     GWB_MISFIT_NOT_IN_PLANE = 2,
     /** side X of the outline crosses or touches another one */
     GWB_MISFIT_OUTLINE_CROSSED = 3,
-    /** the vector lies in the plane of the points */
+    /** the vector doesn't leave the plane of the points, on the side of the feature */
     GWB_MISFIT_ALONG_PLANE = 4,
     /** the outline crosses or touches the boundary of face X, or doesn't lie inside */
     GWB_MISFIT_OUTLINE_OUTSIDE = 5,
@@ -253,7 +253,7 @@ static inline const char *gwb_misfit_text(uint32_t number)
     case GWB_MISFIT_NO_AREA: return "the outline has no area, or crosses itself";
     case GWB_MISFIT_NOT_IN_PLANE: return "point X of the outline lies off the plane of the others, or of the face";
     case GWB_MISFIT_OUTLINE_CROSSED: return "side X of the outline crosses or touches another one";
-    case GWB_MISFIT_ALONG_PLANE: return "the vector lies in the plane of the points";
+    case GWB_MISFIT_ALONG_PLANE: return "the vector doesn't leave the plane of the points, on the side of the feature";
     case GWB_MISFIT_OUTLINE_OUTSIDE: return "the outline crosses or touches the boundary of face X, or doesn't lie inside";
     case GWB_MISFIT_OUTLINE_AROUND_RING: return "a ring of face X lies inside the outline";
     case GWB_MISFIT_OFF_LATTICE: return "a point or a vector at face X would not be whole; of a Boolean: all must be X times as large, or more where X is 0";
@@ -283,7 +283,7 @@ enum class Misfit : uint32_t {
     no_area = GWB_MISFIT_NO_AREA /**< the outline has no area, or crosses itself */,
     not_in_plane = GWB_MISFIT_NOT_IN_PLANE /**< point X of the outline lies off the plane of the others, or of the face */,
     outline_crossed = GWB_MISFIT_OUTLINE_CROSSED /**< side X of the outline crosses or touches another one */,
-    along_plane = GWB_MISFIT_ALONG_PLANE /**< the vector lies in the plane of the points */,
+    along_plane = GWB_MISFIT_ALONG_PLANE /**< the vector doesn't leave the plane of the points, on the side of the feature */,
     outline_outside = GWB_MISFIT_OUTLINE_OUTSIDE /**< the outline crosses or touches the boundary of face X, or doesn't lie inside */,
     outline_around_ring = GWB_MISFIT_OUTLINE_AROUND_RING /**< a ring of face X lies inside the outline */,
     off_lattice = GWB_MISFIT_OFF_LATTICE /**< a point or a vector at face X would not be whole; of a Boolean: all must be X times as large, or more where X is 0 */,

@@ -5,7 +5,7 @@ from fractions import Fraction
 
 from support import STEP, library
 
-from gwb import Refused, Workbench
+from gwb import Impossible, Refused, Workbench
 from gwb.geometry.measures import area_vector
 from gwb.geometry.vectors import cross, dot, same_direction
 
@@ -119,6 +119,54 @@ class Selections(Sketched):
         self.assertEqual(bench.volume(bench.pattern(part, 2, (0, 0, 50))[0]), Fraction(12000))
         self.assertEqual(len(bench.faces(solid=bench.copy(part, move=(0, 90, 0)))), 6)
         self.assertRaisesRegex(TypeError, '^solid: a whole number is wanted', bench.volume, bench.plane(1))
+
+
+class Leaning(unittest.TestCase):
+    """Pockets, bosses and drills by a vector."""
+
+    def setUp(self):
+        self.bench = Workbench(library(), step=STEP)
+        self.addCleanup(self.bench.close)
+
+    def test_a_chimney_in_a_roof(self):
+        bench = self.bench
+        house = bench.profile([(0, 0, 0), (40, 0, 0), (40, 0, 20), (20, 0, 40), (0, 0, 20)], along=(0, 30, 0))
+        roof = bench.faces(normal=(1, 0, 1)).one()
+        sketch, before = bench.sketch(roof, origin=(20, 0, 40), plan='z'), bench.volume(house)
+        outline = sketch.rectangle((5, 10), (4, 6))
+        told = r'^OffLattice: .*; along=\(-4, 0, -4\) is 5.657 mm long$' if STEP == 1 else r'; along=\(-3.536, 0, -3.536\) is 5.001 mm long$'
+        with self.assertRaisesRegex(Impossible, told):
+            bench.pocket(roof, outline, 5)
+        bench.pocket(roof, outline, along=(0, 0, -5))
+        self.assertEqual(before - bench.volume(house), 4 * 6 * 5)
+        bench.boss(roof, sketch.rectangle((12, 20), (4, 6)), along=(0, 0, 9))
+        self.assertEqual(bench.volume(house), before + 4 * 6 * (9 - 5))
+        bench.undo()
+        bench.undo()
+        self.assertEqual(bench.volume(house), before)
+
+    def test_a_drill_that_leans(self):
+        block = self.bench.block((0, 0, 0), (40, 20, 10))
+        for circle in ('corners', 'flats'):
+            before = self.bench.volume(block)
+            made = self.bench.drill(block.top, (10, 10, 10), 4, 4, circle=circle, along=(3, 1, -5))
+            (a, b, *_), (c, d, *_), *_ = made.points
+            self.assertEqual(before - self.bench.volume(block), 5 * 2 * ((a - 10) * (d - 10) - (b - 10) * (c - 10)))
+            self.bench.undo()
+
+    def test_which_way(self):
+        block, points = self.bench.block((0, 0, 0), (9, 9, 9)), [(1, 1, 9), (4, 1, 9), (1, 4, 9)]
+        before = self.bench.listing()
+        for make, way in ((self.bench.pocket, (0, 0, 1)), (self.bench.pocket, (1, 0, 0)), (self.bench.boss, (0, 1, -1)), (self.bench.boss, (0, 0, 0))):
+            with self.assertRaises(Impossible) as caught:
+                make(block.top, points, along=way)
+            self.assertEqual((caught.exception.name, caught.exception.value), ('AlongPlane', block.top))
+        for make, word in ((self.bench.pocket, 'depth'), (self.bench.boss, 'height')):
+            with self.assertRaisesRegex(TypeError, f'^{word}: a {word} is wanted, or along=, a vector$'):
+                make(block.top, points)
+            with self.assertRaisesRegex(TypeError, f'^along: a {word} is given already$'):
+                make(block.top, points, 2, along=(0, 0, -2))
+        self.assertEqual(self.bench.listing(), before)
 
 
 if __name__ == '__main__':

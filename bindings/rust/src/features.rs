@@ -366,6 +366,18 @@ features! {
         gwb_sys::gwb_boss(face.0, points.as_ptr(), points.len(), height, &mut made, sides.as_mut_ptr().cast())
             => Pocket { face: Face(made.face), of_loop: Loop(made.of_loop), sides }
     }
+    /// A pocket by a vector into the solid, which may lean.
+    pocket_along(this, face: Face, points: &[impl Copy + Into<Point>], along: impl Into<Point>) -> Pocket {
+        let (points, mut made, mut sides) = (listed(points), OutlineMade::default(), vec![Face(0); points.len()]);
+        gwb_sys::gwb_pocket_along(face.0, points.as_ptr(), points.len(), &along.into(), &mut made, sides.as_mut_ptr().cast())
+            => Pocket { face: Face(made.face), of_loop: Loop(made.of_loop), sides }
+    }
+    /// A boss by a vector out of the solid, which may lean.
+    boss_along(this, face: Face, points: &[impl Copy + Into<Point>], along: impl Into<Point>) -> Pocket {
+        let (points, mut made, mut sides) = (listed(points), OutlineMade::default(), vec![Face(0); points.len()]);
+        gwb_sys::gwb_boss_along(face.0, points.as_ptr(), points.len(), &along.into(), &mut made, sides.as_mut_ptr().cast())
+            => Pocket { face: Face(made.face), of_loop: Loop(made.of_loop), sides }
+    }
     /// A hole from the outline in the face through to the opposite face.
     hole(this, face: Face, points: &[impl Copy + Into<Point>]) -> Hole {
         let (points, mut made, mut sides) = (listed(points), OutlineMade::default(), vec![Face(0); points.len()]);
@@ -377,6 +389,12 @@ features! {
     drill(this, face: Face, center: impl Into<Point>, radius: i64, sides: u32, depth: i64) -> Hole {
         let (mut made, mut walls, mut points) = (OutlineMade::default(), room::<Face>(sides), room(sides));
         gwb_sys::gwb_drill(face.0, &center.into(), radius, sides, depth, &mut made, walls.as_mut_ptr().cast(), points.as_mut_ptr())
+            => Hole { other: Face(made.face), of_loop: Loop(made.of_loop), sides: walls, points }
+    }
+    /// The same by a vector into the solid, which may lean.
+    drill_along(this, face: Face, center: impl Into<Point>, radius: i64, sides: u32, along: impl Into<Point>) -> Hole {
+        let (mut made, mut walls, mut points) = (OutlineMade::default(), room::<Face>(sides), room(sides));
+        gwb_sys::gwb_drill_along(face.0, &center.into(), radius, sides, &along.into(), &mut made, walls.as_mut_ptr().cast(), points.as_mut_ptr())
             => Hole { other: Face(made.face), of_loop: Loop(made.of_loop), sides: walls, points }
     }
     /// A pocket whose outline may reach the edges of the face.

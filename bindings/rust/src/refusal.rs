@@ -57,7 +57,7 @@ Misfit {
     NoArea = 1: "the outline has no area, or crosses itself",
     NotInPlane = 2: "point X of the outline lies off the plane of the others, or of the face",
     OutlineCrossed = 3: "side X of the outline crosses or touches another one",
-    AlongPlane = 4: "the vector lies in the plane of the points",
+    AlongPlane = 4: "the vector doesn't leave the plane of the points, on the side of the feature",
     OutlineOutside = 5: "the outline crosses or touches the boundary of face X, or doesn't lie inside",
     OutlineAroundRing = 6: "a ring of face X lies inside the outline",
     OffLattice = 7: "a point or a vector at face X would not be whole; of a Boolean: all must be X times as large, or more where X is 0",

@@ -123,10 +123,13 @@ fn feature(session: &mut Session, solid: Solid, word: &str, numbers: &mut Number
 
 fn outlined(session: &mut Session, solid: Solid, word: &str, face: Face, numbers: &mut Numbers) -> String {
     let depth = if word == "pocket" || word == "boss" { numbers.number() } else { 0 };
+    let along = if word.ends_with("_along") { numbers.point() } else { Point::from([0; 3]) };
     let points = numbers.points();
     let made = match word {
         "pocket" => session.pocket(face, &points, depth).map(drop),
         "boss" => session.boss(face, &points, depth).map(drop),
+        "pocket_along" => session.pocket_along(face, &points, along).map(drop),
+        "boss_along" => session.boss_along(face, &points, along).map(drop),
         "hole" => session.hole(face, &points).map(drop),
         _ => session.ring(face, &points).map(drop),
     };

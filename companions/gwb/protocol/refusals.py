@@ -135,7 +135,7 @@ MISFITS: Dict[str, str] = {
     'NoArea': 'the outline has no area, or crosses itself',
     'NotInPlane': 'point X of the outline lies off the plane of the others, or of the face',
     'OutlineCrossed': 'side X of the outline crosses or touches another one',
-    'AlongPlane': 'the vector lies in the plane of the points',
+    'AlongPlane': "the vector doesn't leave the plane of the points, on the side of the feature",
     'OutlineOutside': "the outline crosses or touches the boundary of face X, or doesn't lie inside",
     'OutlineAroundRing': 'a ring of face X lies inside the outline',
     'OffLattice': 'a point or a vector at face X would not be whole; of a Boolean: all must be X times as large, or more where X is 0',

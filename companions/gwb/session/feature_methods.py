@@ -2,9 +2,10 @@
 
 from dataclasses import dataclass, field
 from fractions import Fraction
-from math import isqrt, lcm
+from math import isqrt, lcm, sqrt
 from typing import Any, Iterable, List, Mapping, Optional, Sequence, Tuple
 
+from ..formats.exact_numbers import told
 from ..geometry.free_numbers import LARGEST
 from ..geometry.measures import why_unfit
 from ..geometry.outlines import Impossible
@@ -118,21 +119,19 @@ class FeatureMethods(Methods):
         vertices = (WORD * len(outline))()
         return Ring(*self._kernel.outline('ring', number, outline, beside=[vertices]), tuple(vertices))
 
-    def pocket(self, face: arguments.Face, points: arguments.Points, depth: Length) -> Pocket:
-        """A pocket so deep behind the outline in the face.
+    def pocket(self, face: arguments.Face, points: arguments.Points, depth: Optional[Length] = None, *, along: Optional[arguments.Point] = None) -> Pocket:
+        """A pocket so deep behind the outline in the face, or moved along a vector into the solid, which may lean.
 
-        Refused as ring is; OffLattice: no whole vector along the normal is so long; Meets: the pocket would come through, or meet
-        or touch something of the solid."""
-        number, outline = self._number('face', face), self._kernel.lengths.points('points', points)
-        return Pocket(*self._kernel.outline('pocket', number, outline, self._kernel.lengths.positive('depth', depth)))
+        Refused as ring is; OffLattice: no whole vector along the normal is so long; AlongPlane: the vector lies in the face or points out of it; Meets:
+        the pocket would come through, or meet or touch something of the solid."""
+        return self._raised('pocket', face, points, depth=depth, along=along)
 
-    def boss(self, face: arguments.Face, points: arguments.Points, height: Length) -> Pocket:
-        """A boss so high on the outline in the face.
+    def boss(self, face: arguments.Face, points: arguments.Points, height: Optional[Length] = None, *, along: Optional[arguments.Point] = None) -> Pocket:
+        """A boss so high on the outline in the face, or moved along a vector out of the solid, which may lean.
 
-        Refused as ring is; OffLattice: no whole vector along the normal is so long; Meets: the boss would meet or touch something
-        of the solid."""
-        number, outline = self._number('face', face), self._kernel.lengths.points('points', points)
-        return Pocket(*self._kernel.outline('boss', number, outline, self._kernel.lengths.positive('height', height)))
+        Refused as ring is; OffLattice: no whole vector along the normal is so long; AlongPlane: the vector lies in the face or points into the solid;
+        Meets: the boss would meet or touch something of the solid."""
+        return self._raised('boss', face, points, height=height, along=along)
 
     def hole(self, face: arguments.Face, points: arguments.Points) -> Hole:
         """A hole from the outline in the face through to the opposite face.
@@ -144,8 +143,10 @@ class FeatureMethods(Methods):
         return Hole(*self._kernel.outline('hole', number, outline), tuple(map(self._kernel.lengths.place, outline)))
 
     def drill(self, face: arguments.Face, center: arguments.Point, radius: Optional[Length] = None, sides: Optional[int] = None, *,
-              diameter: Optional[Length] = None, circle: str = 'corners', within: Length = WITHIN, depth: Optional[Length] = None) -> Hole:
-        """A hole with a polygon for a circle of this radius or diameter around the center: through, or so deep. The corners are points of the lattice, as
+              diameter: Optional[Length] = None, circle: str = 'corners', within: Length = WITHIN, depth: Optional[Length] = None,
+              along: Optional[arguments.Point] = None) -> Hole:
+        """A hole with a polygon for a circle of this radius or diameter around the center: through, or so deep, or along a vector into the solid, as a
+        pocket. The corners are points of the lattice, as
         near to those of a regular polygon as they can, of two as near the one farther out: `reach` of what it returns says how far from the center the
         nearest side and the farthest corner lie. Warns where they lie farther beside the circle than a hundredth of the radius.
 
@@ -158,16 +159,17 @@ class FeatureMethods(Methods):
         is nothing behind it; NotParallel: the face behind it isn't parallel; Meets: the hole would meet or touch something else of the solid,
         or with a depth come through it."""
         number, lengths = self._number('face', face), self._kernel.lengths
-        middle, deep = lengths.point('center', center), 0 if depth is None else lengths.positive('depth', depth)
+        middle = lengths.point('center', center)
+        ending, *reach = ('', 0) if depth is None and along is None else self._reach(depth=depth, along=along)
         found = wanted(lengths, radius, diameter, sides, circle, within)
         if found.fit == 'corners' and found.diameter % 2 == 0:
-            made, along, corners = Pair(), (WORD * found.sides)(), (Point * found.sides)()
-            self._kernel.give('drill', number, Point(*middle), found.diameter // 2, found.sides, deep, made, along, corners)
+            made, walls, corners = Pair(), (WORD * found.sides)(), (Point * found.sides)()
+            self._kernel.give(f'drill{ending}', number, Point(*middle), found.diameter // 2, found.sides, *reach, made, walls, corners)
             outline = [(at.x, at.y, at.z) for at in corners]
-            numbers = made.first, made.second, tuple(along)
+            numbers = made.first, made.second, tuple(walls)
         else:
             outline = self._around(number, middle, found)
-            numbers = self._kernel.outline('pocket' if deep else 'hole', number, outline, *([deep] if deep else []))
+            numbers = self._kernel.outline(f'pocket{ending}', number, outline, *reach) if reach != [0] else self._kernel.outline('hole', number, outline)
         return Hole(*numbers, tuple(map(lengths.place, outline)), found.reached('drill', middle, outline, lengths.step))
 
     def _around(self, face: int, center: Vector, circle: Circle) -> List[Vector]:
@@ -233,6 +235,34 @@ class FeatureMethods(Methods):
         edge is of another solid than the first, or bends the other way."""
         numbers, wide = self._different('edges', edges, 'edge'), self._kernel.lengths.positive('width', width)
         return self._sloped('chamfer_edges', numbers, words(numbers), len(numbers), wide)
+
+    def _raised(self, word: str, face: arguments.Face, points: arguments.Points, **reach: object) -> Pocket:
+        """A pocket or a boss, so deep or high, or along a vector."""
+        number, outline = self._number('face', face), self._kernel.lengths.points('points', points)
+        ending, way = self._reach(**reach)
+        try:
+            return Pocket(*self._kernel.outline(word + ending, number, outline, way))
+        except Impossible as error:
+            if error.name == 'OffLattice' and not ending:
+                error.args = (f'{error.args[0]}{self._steps_along(number, word, way)}',)
+            raise
+
+    def _reach(self, *, along: object, **lengths: object) -> Tuple[str, Any]:
+        """How far a feature goes: the ending of the call's name and what it takes, for the one of a length and a vector that is given."""
+        (name, length), = lengths.items()
+        if (length is None) == (along is None):
+            raise TypeError(f'{name}: a {name} is wanted, or along=, a vector' if along is None else f'along: a {name} is given already')
+        if along is None:
+            return '', self._kernel.lengths.positive(name, length)
+        return '_along', Point(*self._kernel.lengths.point('along', along))
+
+    def _steps_along(self, face: int, word: str, length: int) -> str:
+        """What is said of vectors along the normal of a face about so long: a fitting one, and its length, where one has no whole steps of this length."""
+        across, lengths = FacePart(self._kernel, face).normal, self._kernel.lengths
+        one = sqrt(dot(across, across))
+        times = max(1, round(length / one)) * (1 if word == 'boss' else -1)
+        way = ', '.join(told(Fraction(part)) for part in lengths.place([times * part for part in across]))
+        return f'; along=({way}) is {abs(times) * one * float(lengths.step):.4g} mm long'
 
     def _shaped(self, word: str, face: arguments.Face, *values: Any, **more: Any) -> Notch:
         """Gives a feature in a face, with its ends and sizes by name, that leaves a floor and walls in its solid, whose labels the parts of its faces

@@ -384,6 +384,10 @@ extern "C" {
         g: *mut Gwb, face: u32, center: *const Point, radius: i64, n: u32, depth: i64, made: *mut OutlineMade, sides: *mut u32, points: *mut Point,
         why: *mut Refusal,
     ) -> u32;
+    pub fn gwb_drill_along(
+        g: *mut Gwb, face: u32, center: *const Point, radius: i64, n: u32, along: *const Point, made: *mut OutlineMade, sides: *mut u32,
+        points: *mut Point, why: *mut Refusal,
+    ) -> u32;
     pub fn gwb_find_faces(g: *const Gwb, query: *const FaceQuery, buf: *mut u32, room: usize, found: *mut usize, why: *mut Refusal) -> u32;
     pub fn gwb_find_edges(g: *const Gwb, query: *const EdgeQuery, buf: *mut u32, room: usize, found: *mut usize, why: *mut Refusal) -> u32;
     pub fn gwb_cut(g: *mut Gwb, solid: u32, plane: *const CutPlane, above: u32, why: *mut Refusal) -> u32;
@@ -409,6 +413,12 @@ extern "C" {
     pub fn gwb_ring(g: *mut Gwb, face: u32, points: *const Point, n: usize, made: *mut OutlineMade, edges: *mut u32, vertices: *mut u32, why: *mut Refusal) -> u32;
     pub fn gwb_pocket(g: *mut Gwb, face: u32, points: *const Point, n: usize, depth: i64, made: *mut OutlineMade, sides: *mut u32, why: *mut Refusal) -> u32;
     pub fn gwb_boss(g: *mut Gwb, face: u32, points: *const Point, n: usize, height: i64, made: *mut OutlineMade, sides: *mut u32, why: *mut Refusal) -> u32;
+    pub fn gwb_pocket_along(
+        g: *mut Gwb, face: u32, points: *const Point, n: usize, along: *const Point, made: *mut OutlineMade, sides: *mut u32, why: *mut Refusal,
+    ) -> u32;
+    pub fn gwb_boss_along(
+        g: *mut Gwb, face: u32, points: *const Point, n: usize, along: *const Point, made: *mut OutlineMade, sides: *mut u32, why: *mut Refusal,
+    ) -> u32;
     pub fn gwb_hole(g: *mut Gwb, face: u32, points: *const Point, n: usize, made: *mut OutlineMade, sides: *mut u32, why: *mut Refusal) -> u32;
     pub fn gwb_notch(g: *mut Gwb, face: u32, points: *const Point, n: usize, depth: i64, why: *mut Refusal) -> u32;
     pub fn gwb_slot(g: *mut Gwb, face: u32, start: *const Point, end: *const Point, width: i64, depth: i64, why: *mut Refusal) -> u32;
