@@ -14,6 +14,9 @@ struct beside {
     struct record *record; /* of accepted commands, or NULL */
     struct watch *watch;   /* of what they touch, or NULL */
     bool is_drafting;
+    unsigned within;       /* so many calls of several operators, one in another */
+    void (*begin_several)(const gwb *g); /* such a call begins (watch.h) */
+    void (*end_several)(const gwb *g, bool is_accepted);
     gwb_stop stop;         /* whether a feature is to end, or NULL */
     void *stop_user;
     void *known; /* what features have read of the model, or NULL */
@@ -21,6 +24,18 @@ struct beside {
 
 /* NULL where the kernel alone opened the session, without calls.c. */
 static inline struct beside *beside_of(const gwb *g) { return (struct beside *)g->beside; }
+
+/* The calls in between are one, which is accepted or not: what is in use before and after it is the same. It ends before its steps become a command. */
+static inline void begin_several(const gwb *g)
+{
+    if (beside_of(g) != NULL)
+        beside_of(g)->begin_several(g);
+}
+static inline void end_several(const gwb *g, bool is_accepted)
+{
+    if (beside_of(g) != NULL)
+        beside_of(g)->end_several(g, is_accepted);
+}
 
 /* Whether the caller ends what takes long. */
 static inline bool is_stopped(const gwb *g)

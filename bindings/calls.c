@@ -33,7 +33,7 @@ static enum gwb_kind kept(const gwb *g, enum gwb_kind kind)
     else if (r != NULL)
         record_drop(r);
     if (beside_of(g)->watch != NULL)
-        watch_end(beside_of(g)->watch, kind == GWB_OK);
+        watch_end(beside_of(g)->watch, g, kind == GWB_OK);
     return kind;
 }
 
@@ -79,34 +79,50 @@ enum gwb_kind kernel_gwb_lack(gwb *g);
         return counted(g, answer);                                                                                                         \
     }
 
-/* One whose line is its word and its values, of these forms (record.h), and that touches what these say (watch.h). */
-#define CHANGE(name, touches, form, parameters, ...)                                                                                       \
+/* The words of commands, and what their values are (watch.h): those that a script has first. */
+static const struct word {
+    const char *word, *kinds;
+} words[] = {{"mvfs", "SFLV"}, {"kvfs", "s"},   {"mev", "h_EV"},   {"kev", "h"},    {"mef", "h_EFL"}, {"kef", "h"},  {"kemr", "hL"},
+             {"mekr", "hhE"},  {"kfmrh", "ff"}, {"mfkrh", "lF"},   {"ringmv", "lf_"}, {"lamina", "S*"}, {"block", "S*"}, {"sweep", "f*"},
+             {"glue", "gg+"},   {"split", "s____S*+"}, {"outer", "lf"}, {"merge", "ss"}, {"part", "fS"}};
+enum { WORDS = sizeof words / sizeof *words, SCRIPT_WORDS = WORDS - 3, MOST_VALUES = 8 };
+
+static const char *kinds_of(const char *word)
+{
+    size_t at = 0;
+    while (at + 1 < WORDS && strcmp(words[at].word, word) != 0)
+        at++;
+    return words[at].kinds;
+}
+
+/* One whose line is its word and its values, of these forms (record.h). */
+#define CHANGE(name, form, parameters, ...)                                                                                                \
     COMMAND(name, parameters, (g, __VA_ARGS__), record_write(r, #name, form, (const int64_t[]){__VA_ARGS__}, COUNT(__VA_ARGS__)),          \
-            watch_touch(w, g, touches, (const int64_t[]){__VA_ARGS__}, COUNT(__VA_ARGS__)))
+            watch_touch(w, g, kinds_of(#name), (const int64_t[]){__VA_ARGS__}, COUNT(__VA_ARGS__)))
 #define COUNT(...) (sizeof((const int64_t[]){__VA_ARGS__}) / sizeof(int64_t))
 
 CALL(lent_reply, size_t, (gwb *g, char *buf, size_t room), (g, buf, room))
 CALL(lent_listing, size_t, (gwb *g, char *buf, size_t room), (g, buf, room))
-CHANGE(mvfs, "s", "nnnnx", (gwb *g, uint32_t solid, uint32_t face, uint32_t loop, uint32_t vertex, int64_t x, int64_t y, int64_t z), solid, face,
+CHANGE(mvfs, "nnnnx", (gwb *g, uint32_t solid, uint32_t face, uint32_t loop, uint32_t vertex, int64_t x, int64_t y, int64_t z), solid, face,
        loop, vertex, x, y, z)
-CHANGE(kvfs, "s", "n", (gwb *g, uint32_t solid), solid)
-CHANGE(mev, "h", "hhnnx", (gwb *g, uint32_t corner, uint32_t other, uint32_t edge, uint32_t vertex, int64_t x, int64_t y, int64_t z), corner,
+CHANGE(kvfs, "n", (gwb *g, uint32_t solid), solid)
+CHANGE(mev, "hhnnx", (gwb *g, uint32_t corner, uint32_t other, uint32_t edge, uint32_t vertex, int64_t x, int64_t y, int64_t z), corner,
        other, edge, vertex, x, y, z)
-CHANGE(kev, "h", "h", (gwb *g, uint32_t half_edge), half_edge)
-CHANGE(mef, "h", "hhn", (gwb *g, uint32_t half_edge, uint32_t other, uint32_t edge, uint32_t face, uint32_t loop), half_edge, other, edge, face,
+CHANGE(kev, "h", (gwb *g, uint32_t half_edge), half_edge)
+CHANGE(mef, "hhn", (gwb *g, uint32_t half_edge, uint32_t other, uint32_t edge, uint32_t face, uint32_t loop), half_edge, other, edge, face,
        loop)
-CHANGE(kef, "h", "h", (gwb *g, uint32_t half_edge), half_edge)
-CHANGE(kemr, "h", "hn", (gwb *g, uint32_t half_edge, uint32_t ring), half_edge, ring)
-CHANGE(mekr, "h", "hhn", (gwb *g, uint32_t corner, uint32_t other, uint32_t edge), corner, other, edge)
-CHANGE(kfmrh, "ff", "n", (gwb *g, uint32_t face, uint32_t other), face, other)
-CHANGE(mfkrh, "l", "n", (gwb *g, uint32_t ring, uint32_t face), ring, face)
-CHANGE(ringmv, "lf", "nnw", (gwb *g, uint32_t ring, uint32_t face, uint32_t out), ring, face, out)
-CHANGE(outer, "lf", "n", (gwb *g, uint32_t ring, uint32_t face), ring, face)
-CHANGE(merge, "ss", "n", (gwb *g, uint32_t solid, uint32_t other), solid, other)
-CHANGE(block, "s", "nx", (gwb *g, uint32_t solid, int64_t x, int64_t y, int64_t z, int64_t dx, int64_t dy, int64_t dz), solid, x, y, z, dx, dy, dz)
-CHANGE(sweep, "f", "nx", (gwb *g, uint32_t face, int64_t dx, int64_t dy, int64_t dz), face, dx, dy, dz)
-CHANGE(glue, "ff", "n", (gwb *g, uint32_t face, uint32_t other), face, other)
-CHANGE(split, "s____s", "nxxxxn", (gwb *g, uint32_t solid, int64_t a, int64_t b, int64_t c, int64_t d, uint32_t above), solid, a, b, c, d, above)
+CHANGE(kef, "h", (gwb *g, uint32_t half_edge), half_edge)
+CHANGE(kemr, "hn", (gwb *g, uint32_t half_edge, uint32_t ring), half_edge, ring)
+CHANGE(mekr, "hhn", (gwb *g, uint32_t corner, uint32_t other, uint32_t edge), corner, other, edge)
+CHANGE(kfmrh, "n", (gwb *g, uint32_t face, uint32_t other), face, other)
+CHANGE(mfkrh, "n", (gwb *g, uint32_t ring, uint32_t face), ring, face)
+CHANGE(ringmv, "nnw", (gwb *g, uint32_t ring, uint32_t face, uint32_t out), ring, face, out)
+CHANGE(outer, "n", (gwb *g, uint32_t ring, uint32_t face), ring, face)
+CHANGE(merge, "n", (gwb *g, uint32_t solid, uint32_t other), solid, other)
+CHANGE(block, "nx", (gwb *g, uint32_t solid, int64_t x, int64_t y, int64_t z, int64_t dx, int64_t dy, int64_t dz), solid, x, y, z, dx, dy, dz)
+CHANGE(sweep, "nx", (gwb *g, uint32_t face, int64_t dx, int64_t dy, int64_t dz), face, dx, dy, dz)
+CHANGE(glue, "n", (gwb *g, uint32_t face, uint32_t other), face, other)
+CHANGE(split, "nxxxxn", (gwb *g, uint32_t solid, int64_t a, int64_t b, int64_t c, int64_t d, uint32_t above), solid, a, b, c, d, above)
 
 /* The same, of a list of more values than those given one by one: a lamina's points, a part's faces. */
 static bool write_lamina(struct record *r, uint32_t solid, const gwb_point *points, size_t n)
@@ -132,9 +148,9 @@ static bool write_part(struct record *r, const uint32_t *faces, size_t n, uint32
 }
 
 COMMAND(part, (gwb *g, const uint32_t *faces, size_t n, uint32_t solid), (g, faces, n, solid), write_part(r, faces, n, solid),
-        watch_touch(w, g, "fs", (const int64_t[]){n > 0 ? faces[0] : 0, solid}, 2))
+        watch_touch(w, g, kinds_of("part"), (const int64_t[]){n > 0 ? faces[0] : 0, solid}, 2))
 COMMAND(lamina, (gwb *g, uint32_t solid, const gwb_point *points, size_t n), (g, solid, points, n), write_lamina(r, solid, points, n),
-        watch_touch(w, g, "s", (const int64_t[]){solid}, 1))
+        watch_touch(w, g, kinds_of("lamina"), (const int64_t[]){solid}, 1))
 
 /* ---- undo and redo, and drafts */
 
@@ -161,12 +177,12 @@ COMMAND(lamina, (gwb *g, uint32_t solid, const gwb_point *points, size_t n), (g,
     FOLLOWED(followed_##name, parameters, kernel_gwb_##name arguments, see, follow, end)                                                   \
     enum gwb_kind gwb_##name parameters { return g->is_open ? followed_##name arguments : kernel_gwb_##name arguments; }
 
-STEP(undo, (gwb *g), (g), watch_see_undo(w, g), record_undo(r), watch_undo(w))
-STEP(redo, (gwb *g), (g), watch_see_redo(w, g), record_redo(r), watch_redo(w))
-STEP(back, (gwb *g, size_t mark), (g, mark), watch_see_draft(w, g), record_back(r, mark), (void)0)
+STEP(undo, (gwb *g), (g), watch_see_undo(w, g), record_undo(r), watch_undo(w, g))
+STEP(redo, (gwb *g), (g), watch_see_redo(w, g), record_redo(r), watch_redo(w, g))
+STEP(back, (gwb *g, size_t mark), (g, mark), watch_see_draft(w, g), record_back(r, mark), watch_back(w, g, mark))
 
 enum gwb_kind kernel_gwb_abandon(gwb *g);
-FOLLOWED(followed_abandon, (gwb *g), kernel_gwb_abandon(g), watch_see_draft(w, g), record_abandon(r), watch_abandon(w))
+FOLLOWED(followed_abandon, (gwb *g), kernel_gwb_abandon(g), watch_see_draft(w, g), record_abandon(r), watch_abandon(w, g))
 enum gwb_kind gwb_abandon(gwb *g)
 {
     if (!g->is_open)
@@ -223,29 +239,49 @@ static bool begins_with(const char *line, size_t n, const char *word)
     return n >= length && memcmp(line, word, length) == 0 && (n == length || is_blank(line[length]));
 }
 
-/* Whether the first word of a line is that of a command, but for undo and redo. */
-static bool is_command(const char *line, size_t n)
+/* The command with whose word a line begins: NULL where that is none, or undo or redo. */
+static const struct word *command_of(const char *line, size_t n)
 {
-    static const char *const words[] = {"mvfs",  "kvfs",  "mev",    "kev",    "mef",   "kef",   "kemr", "mekr",
-                                        "kfmrh", "mfkrh", "ringmv", "lamina", "block", "sweep", "glue", "split"};
     size_t at = 0;
-    while (at < sizeof words / sizeof *words && !begins_with(line, n, words[at]))
+    while (at < SCRIPT_WORDS && !begins_with(line, n, words[at].word))
         at++;
-    return at < sizeof words / sizeof *words;
+    return at < SCRIPT_WORDS ? &words[at] : NULL;
+}
+
+/* The word after a place, where it ends, and its number, without the sign. */
+static const char *read_value(const char *at, const char *end, int64_t *value)
+{
+    while (at < end && is_blank(*at))
+        at++;
+    for (*value = 0; at < end && !is_blank(*at); at++)
+        if (*at >= '0' && *at <= '9' && *value < UINT32_MAX)
+            *value = 10 * *value + (*at - '0');
+    return at;
+}
+
+/* Before a line is answered: what it makes is told by its first values. */
+static void touch_by_line(struct watch *w, const gwb *g, const struct word *command, const char *line, size_t n)
+{
+    const char *end = line + n;
+    int64_t word, values[MOST_VALUES];
+    line = read_value(line, end, &word);
+    for (size_t at = 0; at < MOST_VALUES; at++)
+        line = read_value(line, end, &values[at]);
+    watch_touch_any(w, g, command->kinds, values, MOST_VALUES);
 }
 
 enum gwb_kind kernel_gwb_line(gwb *g, const char *line, size_t n);
-FOLLOWED(followed_undo_line, (gwb *g, const char *line, size_t n), kernel_gwb_line(g, line, n), watch_see_undo(w, g), record_undo(r), watch_undo(w))
-FOLLOWED(followed_redo_line, (gwb *g, const char *line, size_t n), kernel_gwb_line(g, line, n), watch_see_redo(w, g), record_redo(r), watch_redo(w))
+FOLLOWED(followed_undo_line, (gwb *g, const char *line, size_t n), kernel_gwb_line(g, line, n), watch_see_undo(w, g), record_undo(r), watch_undo(w, g))
+FOLLOWED(followed_redo_line, (gwb *g, const char *line, size_t n), kernel_gwb_line(g, line, n), watch_see_redo(w, g), record_redo(r), watch_redo(w, g))
 
-static enum gwb_kind noted_line(gwb *g, const char *line, size_t n)
+static enum gwb_kind noted_line(gwb *g, const struct word *command, const char *line, size_t n)
 {
     struct record *r = beside_of(g)->record;
     struct watch *w = beside_of(g)->watch;
     if (r != NULL && !record_write_line(r, line, n))
         return kernel_gwb_lack(g);
     if (w != NULL)
-        watch_touch_any(w, g);
+        touch_by_line(w, g, command, line, n);
     return kept(g, kernel_gwb_line(g, line, n));
 }
 
@@ -258,7 +294,8 @@ enum gwb_kind gwb_line(gwb *g, const char *line, size_t n)
     if (is_noting(g) && begins_with(line, n, "redo"))
         return followed_redo_line(g, line, n);
     struct used before = entered(g);
-    enum gwb_kind answer = is_noting(g) && is_command(line, n) ? noted_line(g, line, n) : kernel_gwb_line(g, line, n);
+    const struct word *command = is_noting(g) ? command_of(line, n) : NULL;
+    enum gwb_kind answer = command != NULL ? noted_line(g, command, line, n) : kernel_gwb_line(g, line, n);
     gwb_used = before;
     return counted(g, answer);
 }
@@ -279,7 +316,7 @@ static bool open_in(gwb *g, struct pages *pages)
     if (!is_open)
         return false;
     g->beside = block.at;
-    *beside_of(g) = (struct beside){.heap = gwb_used.heap, .pages = pages};
+    *beside_of(g) = (struct beside){.heap = gwb_used.heap, .pages = pages, .begin_several = watch_begin_several, .end_several = watch_end_several};
     return true;
 }
 

@@ -180,7 +180,7 @@ static bool missing_faces(const struct reading *these, const struct reading *oth
 {
     const uint32_t *faces = these->faces->items;
     for (size_t i = 0; i < these->faces->count; i++)
-        if (!has_face(others, faces[i]) && !list_add(changes, &(gwb_change){faces[i], find(these, faces[i], others)}))
+        if (!has_face(others, faces[i]) && !list_add(changes, &(gwb_born_change){faces[i], find(these, faces[i], others), 0, 0}))
             return false;
     return true;
 }
@@ -191,7 +191,7 @@ static bool missing_edges(const struct reading *these, const struct reading *oth
     for (size_t i = 0; i < these->count; i++) {
         const uint32_t half_edge = these->by_itself[i].key, edge = half_edge / 2;
         const bool is_missing = half_edge == gwb_plus(edge) && place_of(others, half_edge) == NOWHERE;
-        if (is_missing && !list_add(changes, &(gwb_change){edge, edge_along(these, edge, others)}))
+        if (is_missing && !list_add(changes, &(gwb_born_change){edge, edge_along(these, edge, others), 0, 0}))
             return false;
     }
     return true;

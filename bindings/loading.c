@@ -832,7 +832,9 @@ enum gwb_kind gwb_load(gwb *g, const char *listing, size_t n, gwb_refusal *refus
     size_t mark = gwb_mark(g);
     if (begun != GWB_OK && begun != GWB_IN_DRAFT)
         return begun;
+    begin_several(g);
     enum gwb_kind kind = make_listing(g, listing, n);
+    end_several(g, kind == GWB_OK);
     gwb_refusal why = {0, 0};
     if (kind == GWB_REFUSED)
         gwb_last_refusal(g, &why);

@@ -19,4 +19,19 @@ static inline uint32_t start_of(const gwb *g, uint32_t half_edge)
     return half_edge % 2 == 0 ? ends.from : ends.to;
 }
 
+/* The loop of a half-edge, or of a lone corner: 0 where there is none. */
+static inline uint32_t loop_of(const gwb *g, uint32_t corner)
+{
+    uint32_t loop = 0;
+    if (corner >= GWB_LONE(0))
+        return corner - GWB_LONE(0);
+    return gwb_half_edge_loop(g, corner, &loop) == GWB_FOUND ? loop : 0;
+}
+
+static inline uint32_t face_of(const gwb *g, uint32_t loop)
+{
+    uint32_t face = 0;
+    return gwb_loop(g, loop, &face) == GWB_FOUND ? face : 0;
+}
+
 #endif

@@ -179,6 +179,8 @@ counted 'the record of commands, given again' "$dir/built/library_record"
 built 'the watch is built' library_watch.c "${CC:-cc}" -std=gnu11 -O2
 counted 'sessions watched and not' "$dir/built/library_watch"
 counted 'sessions watched and not, with each block alone' "$dir/alone/library_watch"
+built 'births are built' library_births.cpp "${CXX:-c++}" -std=c++17 -O1 -Wold-style-cast -Wshadow
+counted 'births beside whole copies' "$dir/built/library_births"
 counted 'the table of features, by Python' python3 tests/library_features.py "$dir/built/libgwb.so"
 built 'outlines and sizes are built' library_outlines.c "${CC:-cc}" -std=gnu11 -O2
 counted 'outlines and sizes of features' "$dir/built/library_outlines"
@@ -221,7 +223,7 @@ if has cargo 'cargo check where there is no archive' 'cargo doc where there is n
         --manifest-path bindings/rust/Cargo.toml
 fi
 # (each is a program that was built above)
-in_cpp='library_cpp library_results library_history library_features library_machining library_booleans library_record library_watch library_outlines library_heap library_load library_triangles'
+in_cpp='library_cpp library_results library_history library_features library_machining library_booleans library_record library_watch library_births library_outlines library_heap library_load library_triangles'
 threads='library_threads library_sharing library_pages'
 if has valgrind 'valgrind over the example in C' $in_cpp $threads; then
     tried 'valgrind over the example in C' valgrind -q --error-exitcode=9 --leak-check=full --show-leak-kinds=all "$dir/alone/block_c"
@@ -250,7 +252,7 @@ if "${CC:-cc}" $sanitizers -o "$dir/empty" "$dir/empty.c" 2> "$dir/err" && "$dir
     for name in library_features_refused library_record library_watch library_outlines library_heap library_load library_triangles library_threads library_pages library_worked; do
         sanitized "$name.c" "${CC:-cc}" -std=gnu11
     done
-    for name in library_cpp library_history library_features library_machining library_booleans library_sharing; do
+    for name in library_cpp library_history library_features library_machining library_booleans library_births library_sharing; do
         sanitized "$name.cpp" "${CXX:-c++}" -std=c++17
     done
     sanitized library_results.cpp "${CXX:-c++}" -std=c++17 -fno-exceptions

@@ -123,27 +123,31 @@ static bool are_alike(const gwb *g, const gwb *other)
            gwb_depth(g) == gwb_depth(other) && gwb_ahead(g) == gwb_ahead(other) && gwb_mark(g) == gwb_mark(other);
 }
 
-static void read_faces(const gwb *g, char *is_there)
+/* The births of the faces, by their numbers: 0 of what isn't there. */
+static void read_faces(const gwb *g, uint64_t *births)
 {
-    memset(is_there, 0, FACES);
-    for (uint32_t face = 0; gwb_number_after(g, GWB_FACE, face, &face) == GWB_FOUND;)
-        is_there[face] = 1;
+    for (uint32_t face = 0; face < FACES; face++)
+        births[face] = gwb_birth(g, GWB_FACE, face);
 }
 
-static void check_faces(const gwb *g, bool are_made, const char *before, const char *after, const char *what)
+static void check_faces(const gwb *g, bool are_made, const uint64_t *before, const uint64_t *after, const char *what)
 {
-    static gwb_change rows[FACES];
-    static char is_told[FACES];
-    memset(is_told, 0, FACES);
-    for (size_t at = gwb_compared(g, GWB_FACE, are_made, rows, FACES); at-- > 0;)
-        is_told[rows[at].number] = 1;
-    bool is_right = true;
+    static gwb_born_change rows[FACES];
+    static gwb_change changes[FACES];
+    static uint64_t told[FACES];
+    memset(told, 0, sizeof told);
+    bool is_right = gwb_compared(g, GWB_FACE, are_made, changes, FACES) == gwb_compared_births(g, GWB_FACE, are_made, rows, FACES);
+    for (size_t at = gwb_compared_births(g, GWB_FACE, are_made, rows, FACES); at-- > 0;) {
+        told[rows[at].number] = rows[at].birth;
+        is_right = is_right && rows[at].number == changes[at].number && rows[at].other == changes[at].other && (at == 0 || rows[at].number > rows[at - 1].number);
+        is_right = is_right && (rows[at].other_birth == 0 || rows[at].other_birth == (are_made ? before : after)[rows[at].other]);
+    }
     for (uint32_t face = 0; face < FACES; face++)
-        is_right = is_right && is_told[face] == (after[face] && !before[face]);
+        is_right = is_right && told[face] == (after[face] != before[face] ? after[face] : 0);
     check(is_right, what);
 }
 
-static char was[FACES], is[FACES];
+static uint64_t was[FACES], is[FACES];
 
 /* What happened since the faces were read: whether it is lost. */
 static bool compare(gwb *g, bool is_refused)

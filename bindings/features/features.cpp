@@ -14,6 +14,7 @@
 #include <numeric>
 
 extern "C" {
+#include "watch.h"
 void gwb_forget_features(struct beside *of); // for calls.c
 }
 
@@ -52,6 +53,24 @@ gwb_kind told(const Failure &failure, gwb_refusal *why)
     default: return GWB_CLOSED;
     }
 }
+
+/// A feature is one call, of however many operators. It is accepted where it is kept.
+class OneCall {
+public:
+    explicit OneCall(const gwb *g) : g_(g) { begin_several(g); }
+    OneCall(const OneCall &) = delete;
+    OneCall &operator=(const OneCall &) = delete;
+    ~OneCall() { end(false); }
+    void keep() { end(true); }
+
+private:
+    void end(bool is_accepted)
+    {
+        if (const gwb *g = std::exchange(g_, nullptr))
+            end_several(g, is_accepted);
+    }
+    const gwb *g_;
+};
 
 /// Answers for what a call throws, while its caller may end it.
 template <class Call> gwb_kind guarded(const gwb *g, gwb_refusal *why, Call call) noexcept
@@ -153,7 +172,9 @@ template <class Make> gwb_kind made_if(bool is_call, gwb *g, gwb_refusal *why, M
             const Borrowed::Steps commands(session.handle());
             if (!commands.are_begun())
                 throw Failure{commands.kind() == GWB_MEMORY ? Problem::memory : Problem::closed};
+            OneCall call(session.handle());
             make_numbered(session, known.lists, make);
+            call.keep();
             commands.keep();
         } catch (const Failure &) {
             if (was_known && known.changes == before) // it is again what it was
@@ -325,7 +346,15 @@ gwb_kind gwb_scale(gwb *g, int64_t factor, gwb_refusal *why)
     });
 }
 
-gwb_kind gwb_renumber(gwb *g, gwb_refusal *why) { return made(g, why, models::renumber); }
+gwb_kind gwb_renumber(gwb *g, gwb_refusal *why)
+{
+    return made(g, why, [&](Bench &bench, Lists &lists) {
+        models::renumber(bench, lists);
+        constexpr std::array list_of = {GWB_MADE_SOLIDS, GWB_MADE_FACES, GWB_MADE_LOOPS, GWB_MADE_EDGES, GWB_MADE_VERTICES};
+        for (std::uint32_t kind = GWB_SOLID; kind < list_of.size(); kind++)
+            watch_renumber(bench.handle(), kind, lists[list_of[kind]].data(), lists[list_of[kind]].size());
+    });
+}
 
 gwb_kind gwb_glue_all(gwb *g, const uint32_t *solids, size_t n, gwb_refusal *why)
 {

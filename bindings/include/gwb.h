@@ -718,9 +718,28 @@ enum gwb_kind gwb_compare_from(gwb *g, size_t place);
  *
  * A new face was split from the one that had a half-edge of it, or else an edge along one of its own from the same vertex, if it lies in that face's plane
  * and looks the same way. A new edge was split from the one that ran along it from the same vertex. A face that is gone was joined to the one that has a
- * half-edge of it, and an edge to the one that runs along it. A number that went and came again in between is taken for what it was.
+ * half-edge of it, and an edge to the one that runs along it. A number that went and is another thing's now (gwb_birth) is told as gone and as made.
  * @return how many there are */
 size_t gwb_compared(const gwb *g, uint32_t entity, bool is_made, gwb_change *rows, size_t room);
+
+/** The birth of what has a number of a kind (enum gwb_entity). No two things of a kind ever have the same, so that it tells a thing from another one that
+ * has its number later. What is in use before and after one call is the same thing, and what is in use after it and wasn't before is a new one: a call is an
+ * operator, a larger command, a line, a gwb_load or a feature, and in a draft each of its steps. Undo, redo, gwb_back and gwb_abandon bring things back with
+ * the births that they had, and gwb_renumber takes them along. A reader.
+ * @return 0 where nothing has the number, and where no birth is known: before the first gwb_watch or gwb_watch_from, and from where memory for them is
+ * refused until the next one, with births that are others */
+uint64_t gwb_birth(const gwb *g, uint32_t entity, uint32_t number);
+
+/** A change with the births of both. */
+typedef struct gwb_born_change {
+    uint32_t number, other;
+    uint64_t birth;       /**< of what was made, or is gone */
+    uint64_t other_birth; /**< of the other one, as it was where this was made, or as it is: 0 where there is none, and where what is there was there once
+                           * before, and came back */
+} gwb_born_change;
+
+/** The same as gwb_compared with births. A reader. */
+size_t gwb_compared_births(const gwb *g, uint32_t entity, bool is_made, gwb_born_change *rows, size_t room);
 
 /** Whether work is to end. It is asked often while it is done, by the thread that does it, and gives no call for that handle. */
 typedef bool (*gwb_stop)(void *user) GWB_NOEXCEPT;

@@ -227,6 +227,8 @@ rows! {
     VertexRow { vertex: u32, point: Point }
     /// A face or an edge that is new or gone, and the one that it was split from, or joined to.
     Change { number: u32, other: u32 }
+    /// The same with births.
+    BornChange { number: u32, other: u32, birth: u64, other_birth: u64 }
     /// A triangle of a face.
     TriangleRow {
         face: u32,
@@ -365,6 +367,8 @@ extern "C" {
     pub fn gwb_compare(g: *mut Gwb) -> u32;
     pub fn gwb_compare_from(g: *mut Gwb, place: usize) -> u32;
     pub fn gwb_compared(g: *const Gwb, entity: u32, is_made: bool, rows: *mut Change, room: usize) -> usize;
+    pub fn gwb_compared_births(g: *const Gwb, entity: u32, is_made: bool, rows: *mut BornChange, room: usize) -> usize;
+    pub fn gwb_birth(g: *const Gwb, entity: u32, number: u32) -> u64;
     pub fn gwb_stop_by(g: *mut Gwb, stop: Option<Stop>, user: *mut c_void);
 
     pub fn gwb_pattern(g: *mut Gwb, solid: u32, count: u32, step: *const Point, solids: *mut u32, why: *mut Refusal) -> u32;

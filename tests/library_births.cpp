@@ -1,0 +1,393 @@
+// Births (gwb_birth) beside whole copies of what is in use: random calls, lines and features with undo, redo, drafts, marks, partial ones too, loads and
+// renumbering, watched from the beginning, from later on, or from within a draft. One birth is one thing's, always. The last line counts.
+//
+//     library_births [RUNS]     so many runs of 300 calls: 150 where none is said
+#include "gwb_features.h"
+#include <cstdio>
+#include <cstdlib>
+#include <map>
+#include <string>
+#include <vector>
+
+namespace {
+
+long passed = 0, failed = 0;
+bool check(bool is_so, const char *what)
+{
+    is_so ? passed++ : failed++;
+    if (!is_so && failed < 20)
+        std::printf("%s\n", what);
+    return is_so;
+}
+
+// What is in use, by kinds and numbers, and which thing each is.
+using Key = std::pair<std::uint32_t, std::uint32_t>;
+using Things = std::map<Key, std::uint64_t>;
+
+// What was before a command, or what was when births began in its draft.
+struct Held {
+    bool is_known;
+    Things things;
+};
+
+// What is there after a call of a draft, and which things are where some of its steps are taken back: after renumbering others.
+struct Step {
+    std::size_t mark;
+    Things things, in_part;
+};
+
+class Run {
+public:
+    explicit Run(std::uint64_t seed) : state_(seed * 7919 + 5)
+    {
+        if (!gwb_open(&g_))
+            std::abort();
+    }
+    Run(const Run &) = delete;
+    Run &operator=(const Run &) = delete;
+    ~Run() { gwb_close(&g_); }
+
+    void go(int turns)
+    {
+        const int begins = static_cast<int>(below(3) == 0 ? below(60) : 0);
+        for (int turn = 0; turn < turns; turn++) {
+            if (turn == begins)
+                begin();
+            step();
+            if (turn >= begins)
+                compare();
+        }
+    }
+
+    static std::map<std::string, long> counts;
+
+private:
+    std::uint32_t below(std::uint32_t n)
+    {
+        state_ = state_ * UINT64_C(6364136223846793005) + UINT64_C(1442695040888963407);
+        return static_cast<std::uint32_t>(state_ >> 33) % n;
+    }
+
+    // ---- what is in use
+
+    [[nodiscard]] std::vector<Key> in_use() const
+    {
+        std::vector<Key> found;
+        for (std::uint32_t kind = GWB_SOLID; kind <= GWB_VERTEX; kind++)
+            for (std::uint32_t number = 0; gwb_number_after(&g_, kind, number, &number) == GWB_FOUND;)
+                found.emplace_back(kind, number);
+        return found;
+    }
+    // What is in use: the same as in one of these, first of all in the first one, else new.
+    Things carried(const Things &from, const Things &or_from = {})
+    {
+        Things made;
+        for (const Key &key : in_use()) {
+            const auto was = from.find(key), or_was = or_from.find(key);
+            made[key] = was != from.end() ? was->second : or_was != or_from.end() ? or_was->second : ++things_;
+        }
+        return made;
+    }
+    void compare()
+    {
+        bool is_right = true;
+        for (const auto &[key, thing] : now_) {
+            const std::uint64_t birth = gwb_birth(&g_, key.first, key.second);
+            const auto known = births_.find(thing);
+            is_right = is_right && birth != 0 && (known != births_.end() ? known->second == birth : of_.emplace(std::pair(key.first, birth), thing).second);
+            births_[thing] = birth;
+        }
+        check(is_right, ("a birth that isn't one thing's, after " + last_).c_str());
+    }
+    void begin()
+    {
+        const bool is_well = gwb_watch(&g_, below(2) == 0) == GWB_OK;
+        check(is_well, "no watch");
+        is_watched_ = true;
+        now_ = carried({});
+        held_.clear(), ahead_.clear();
+        start_ = {false, now_};
+        begun_ = gwb_mark(&g_);
+        steps_ = {{begun_, now_, now_}};
+    }
+
+    // ---- what is done
+
+    std::uint32_t any(std::uint32_t kind)
+    {
+        std::uint32_t number = 0;
+        if (gwb_number_after(&g_, kind, below(static_cast<std::uint32_t>(gwb_greatest_number(&g_, kind)) + 1), &number) != GWB_FOUND)
+            (void)gwb_number_after(&g_, kind, 0, &number);
+        return number;
+    }
+    std::uint32_t free_number(std::uint32_t kind)
+    {
+        std::uint32_t number = below(2) == 0 ? 1 + below(40) : static_cast<std::uint32_t>(gwb_greatest_number(&g_, kind)) + 1, found = 0;
+        while (gwb_number_after(&g_, kind, number - 1, &found) == GWB_FOUND && found == number)
+            number++;
+        return number;
+    }
+    std::uint32_t half_edge() { return 2 * any(GWB_EDGE) + below(2); }
+    // A half-edge that starts where another one does or in its loop, so that more is accepted.
+    std::uint32_t beside(std::uint32_t half)
+    {
+        std::uint32_t next = half;
+        for (std::uint32_t times = below(4); times > 0; times--)
+            (void)gwb_next_half_edge(&g_, next, &next);
+        return next;
+    }
+    static std::string half_text(std::uint32_t half) { return (half % 2 == 0 ? "+" : "-") + std::to_string(half / 2); }
+    gwb_kind line(const std::string &text)
+    {
+        last_ = text;
+        return gwb_line(&g_, text.data(), text.size());
+    }
+
+    gwb_kind an_operator()
+    {
+        const std::uint32_t half = half_edge(), other = beside(half), ring = any(GWB_LOOP), face = any(GWB_FACE);
+        switch (below(11)) {
+        case 0: return gwb_mvfs(&g_, free_number(GWB_SOLID), free_number(GWB_FACE), free_number(GWB_LOOP), free_number(GWB_VERTEX), 1, 2, 3);
+        case 1: return gwb_mev(&g_, half, half, free_number(GWB_EDGE), free_number(GWB_VERTEX), below(9), below(9), below(9));
+        case 2: return gwb_mef(&g_, half, other, free_number(GWB_EDGE), free_number(GWB_FACE), free_number(GWB_LOOP));
+        case 3: return gwb_kev(&g_, half);
+        case 4: return gwb_kef(&g_, half);
+        case 5: return gwb_kemr(&g_, half, free_number(GWB_LOOP));
+        case 6: return gwb_mekr(&g_, half, below(2) == 0 ? GWB_LONE(ring) : half_edge(), free_number(GWB_EDGE));
+        case 7: return gwb_mfkrh(&g_, ring, free_number(GWB_FACE));
+        case 8: return gwb_kfmrh(&g_, face, any(GWB_FACE));
+        case 9: return gwb_merge(&g_, any(GWB_SOLID), any(GWB_SOLID));
+        default: return gwb_kvfs(&g_, any(GWB_SOLID));
+        }
+    }
+    gwb_kind a_line()
+    {
+        const std::uint32_t half = half_edge();
+        const std::string edge = std::to_string(free_number(GWB_EDGE)), face = std::to_string(free_number(GWB_FACE)), loop = std::to_string(free_number(GWB_LOOP));
+        switch (below(5)) {
+        case 0: return line("\tblock  " + std::to_string(free_number(GWB_SOLID)) + " " + std::to_string(10 * below(9)) + " -7 0 4 4 4 ");
+        case 1: return line("mev " + half_text(half) + " " + half_text(half) + " " + edge + " " + std::to_string(free_number(GWB_VERTEX)) + " -3 +4 5");
+        case 2: return line("mef " + half_text(half) + "\t" + half_text(beside(half)) + " " + edge + " " + face + " " + loop);
+        case 3: return line("split " + std::to_string(any(GWB_SOLID)) + " 0 0 1 -2 " + std::to_string(free_number(GWB_SOLID)));
+        default: return line("kvfs " + std::to_string(any(GWB_SOLID)));
+        }
+    }
+    gwb_kind larger()
+    {
+        const gwb_point corners[] = {{0, 0, 9}, {4, 0, 9}, {0, 4, 9}};
+        switch (below(5)) {
+        case 0: return gwb_lamina(&g_, free_number(GWB_SOLID), corners, 3);
+        case 1: return gwb_sweep(&g_, any(GWB_FACE), 0, 0, 1 + below(3));
+        case 2: return gwb_split(&g_, any(GWB_SOLID), below(2), 1, 0, -2, free_number(GWB_SOLID));
+        case 3: return gwb_glue(&g_, any(GWB_FACE), any(GWB_FACE));
+        default: return gwb_block(&g_, free_number(GWB_SOLID), 4 * below(12), 4 * below(2), 0, 4, 4, 4);
+        }
+    }
+    gwb_kind feature()
+    {
+        const gwb_motion motion = {{1, -2, 3}, {40, 9, 0}};
+        const gwb_cut_plane plane = {1, 0, below(2), -1 - static_cast<std::int64_t>(4 * below(12))};
+        const std::uint32_t solid = any(GWB_SOLID), face = any(GWB_FACE), solids[] = {solid, any(GWB_SOLID)};
+        std::uint32_t made = 0, sides[4];
+        gwb_outline_made outline;
+        gwb_refusal why;
+        std::int64_t x = 4 * below(12);
+        const gwb_point square[] = {{x + 1, 1, 4}, {x + 3, 1, 4}, {x + 3, 3, 4}, {x + 1, 3, 4}};
+        switch (below(14)) {
+        case 0: return gwb_kill_solid(&g_, solid, &why);
+        case 1: return gwb_copy_solid(&g_, solid, &motion, &made, &why);
+        case 2: return gwb_move_solid(&g_, solid, &motion, &why);
+        case 3: return gwb_cut(&g_, solid, &plane, free_number(GWB_SOLID), &why);
+        case 4: return gwb_trim(&g_, solid, &plane, &why);
+        case 5: return gwb_union(&g_, solids, 2, &why);
+        case 6: return gwb_subtract(&g_, solids[0], solids + 1, 1, &why);
+        case 7: return gwb_separate(&g_, solid, &why);
+        case 8: return gwb_join_faces(&g_, solid, &why);
+        case 9: return gwb_pocket(&g_, face, square, 4, 2, &outline, sides, &why);
+        case 10: return gwb_hole(&g_, face, square, 4, &outline, sides, &why);
+        case 11: return gwb_notch(&g_, face, square, 4, 2, &why);
+        case 12: return gwb_chamfer(&g_, any(GWB_EDGE), 1, 1, &made, &why);
+        default: return gwb_kill_solid(&g_, static_cast<std::uint32_t>(gwb_greatest_number(&g_, GWB_SOLID)), &why);
+        }
+    }
+    gwb_kind load()
+    {
+        std::string now(gwb_read_listing(&g_, nullptr, 0), ' ');
+        gwb_read_listing(&g_, now.data(), now.size());
+        gwb_refusal why;
+        const gwb_kind kind = gwb_load(&g_, saved_.data(), saved_.size(), &why);
+        if (below(4) == 0)
+            saved_ = now;
+        return kind;
+    }
+
+    // Each number is one that was another's: its thing goes along.
+    gwb_kind renumber()
+    {
+        gwb_refusal why;
+        const gwb_kind kind = gwb_renumber(&g_, &why);
+        if (kind != GWB_OK)
+            return kind;
+        is_renumbered_ = true;
+        Things was = now_;
+        const gwb_list lists[] = {GWB_MADE_SOLIDS, GWB_MADE_FACES, GWB_MADE_LOOPS, GWB_MADE_EDGES, GWB_MADE_VERTICES};
+        now_.clear();
+        for (std::uint32_t of = GWB_SOLID; of <= GWB_VERTEX; of++) {
+            std::vector<std::uint32_t> pairs(gwb_made(&g_, lists[of], nullptr, 0));
+            gwb_made(&g_, lists[of], pairs.data(), pairs.size());
+            for (std::size_t at = 0; at < pairs.size(); at += 2)
+                now_[{of, pairs[at + 1]}] = was[{of, pairs[at]}];
+        }
+        return kind;
+    }
+
+    void changed(const char *what, gwb_kind kind)
+    {
+        if (kind != GWB_OK) {
+            last_ += " (refused)";
+            return;
+        }
+        counts[what]++;
+        if (!is_watched_)
+            return;
+        if (!is_drafting_) {
+            held_.push_back({true, before_});
+            ahead_.clear();
+        }
+        const Things in_part = carried(before_);
+        now_ = is_renumbered_ ? now_ : in_part;
+        if (is_drafting_ && gwb_mark(&g_) > steps_.back().mark)
+            steps_.push_back({gwb_mark(&g_), now_, in_part});
+    }
+    void step()
+    {
+        before_ = now_;
+        last_ = "a call";
+        is_renumbered_ = false;
+        switch (below(is_drafting_ ? 20 : 17)) {
+        case 0:
+        case 1:
+        case 2: return changed("operators", an_operator());
+        case 3: return changed("lines", a_line());
+        case 4:
+        case 5:
+        case 6: return changed("larger commands", larger());
+        case 7:
+        case 8:
+        case 9: last_ = "a feature"; return changed("features", feature());
+        case 10: last_ = "a load"; return changed("loads", load());
+        case 11: last_ = "numbers"; return below(4) == 0 ? changed("renumberings", renumber()) : changed("larger commands", larger());
+        case 12:
+        case 13: return undo();
+        case 14:
+        case 15: return redo();
+        default: return is_drafting_ ? end_draft() : draft();
+        }
+    }
+    void undo()
+    {
+        last_ = "undo";
+        if ((below(2) == 0 ? gwb_undo(&g_) : line("undo")) != GWB_OK || !is_watched_)
+            return;
+        counts[held_.empty() ? "undone that nothing was known of" : "undone"]++;
+        const Held held = held_.empty() ? Held{false, now_} : held_.back();
+        if (!held_.empty())
+            held_.pop_back();
+        ahead_.push_back(now_);
+        now_ = held.is_known ? held.things : carried(held.things);
+    }
+    void redo()
+    {
+        last_ = "redo";
+        if ((below(2) == 0 ? gwb_redo(&g_) : line(" redo")) != GWB_OK || !is_watched_)
+            return;
+        counts[ahead_.empty() ? "redone that nothing was known of" : "redone"]++;
+        held_.push_back({true, now_});
+        now_ = ahead_.empty() ? carried(now_) : ahead_.back();
+        if (!ahead_.empty())
+            ahead_.pop_back();
+    }
+    void draft()
+    {
+        if (gwb_draft(&g_) != GWB_OK)
+            return;
+        is_drafting_ = true;
+        start_ = {true, now_};
+        steps_ = {{0, now_, now_}};
+        begun_ = 0;
+    }
+    void end_draft()
+    {
+        const std::uint32_t what = below(4);
+        if (what > 1)
+            return back();
+        is_drafting_ = false;
+        last_ = what == 0 ? "commit" : "abandon";
+        if (what == 0) {
+            check(gwb_commit(&g_) == GWB_OK, "no commit");
+            held_.push_back(start_);
+            ahead_.clear();
+            return;
+        }
+        check(gwb_abandon(&g_) == GWB_OK, "no abandon");
+        if (is_watched_)
+            now_ = start_.is_known ? start_.things : carried(start_.things);
+    }
+    void back()
+    {
+        const std::size_t mark = below(static_cast<std::uint32_t>(gwb_mark(&g_)) + 1);
+        last_ = "back";
+        check(gwb_back(&g_, mark) == GWB_OK, "no way back");
+        if (!is_watched_)
+            return;
+        if (mark < begun_) {
+            counts["steps before births taken back"]++;
+            now_ = carried(start_.things);
+            start_ = {false, now_};
+            begun_ = mark;
+            steps_ = {{mark, now_, now_}};
+            return;
+        }
+        while (steps_.size() > 1 && steps_[steps_.size() - 2].mark >= mark)
+            steps_.pop_back();
+        if (steps_.back().mark > mark) { // a call of which some steps are left
+            Things made = steps_.back().in_part;
+            steps_.pop_back();
+            counts["calls taken back in part"]++;
+            const Things left = carried(steps_.back().things, made);
+            made.insert(left.begin(), left.end()); // (a number that a call makes is one thing's, however often it makes it)
+            steps_.push_back({mark, left, made});
+        } else {
+            counts["calls taken back"]++;
+        }
+        now_ = steps_.back().things;
+    }
+
+    gwb g_ = {};
+    std::uint64_t state_, things_ = 0;
+    bool is_watched_ = false, is_drafting_ = false, is_renumbered_ = false;
+    std::string last_, saved_;
+    Things now_, before_;
+    std::vector<Held> held_;
+    std::vector<Things> ahead_;
+    Held start_ = {true, {}};
+    std::size_t begun_ = 0;
+    std::vector<Step> steps_;
+    std::map<std::uint64_t, std::uint64_t> births_;
+    std::map<std::pair<std::uint32_t, std::uint64_t>, std::uint64_t> of_;
+};
+std::map<std::string, long> Run::counts;
+
+} // namespace
+
+int main(int count, char **arguments)
+{
+    const long runs = count > 1 ? std::atol(arguments[1]) : 150;
+    for (long run = 0; run < runs; run++)
+        Run(static_cast<std::uint64_t>(run)).go(300);
+    for (const auto &[what, times] : Run::counts)
+        std::printf("%s: %ld\n", what.c_str(), times);
+    check(runs < 40 || Run::counts.size() == 13, "something never came");
+    std::printf("%ld passed, %ld failed\n", passed, failed);
+    return failed == 0 ? 0 : 1;
+}
