@@ -28,7 +28,7 @@ CPP_CALLS = {'unite': 'union'}
 # Python's names, where they are others, and then the arguments too; what it takes by name besides; and arguments that it has otherwise.
 PYTHON_CALLS = {'kill_solid': ('delete',), 'move_solid': ('move', 'turn', 'mirror'), 'copy_solid': ('copy',), 'split_solid': ('split',),
                 'find_faces': ('faces',), 'find_edges': ('edges',), **{f'{name}_along': (name,) for name in ('pocket', 'boss', 'drill')}}
-PYTHON_BESIDES = {'solid', 'above', 'keep', 'scale', 'refine', 'diameter', 'circle', 'within', 'times', 'to'}
+PYTHON_BESIDES = {'solid', 'top', 'above', 'keep', 'scale', 'refine', 'diameter', 'circle', 'within', 'times', 'to'}
 PYTHON_ARGUMENTS: Dict[Tuple[str, str], Arguments] = {
     ('pattern_around', 'degrees'): ('quarters',), ('polyhedron', 'faces'): ('corners', 'sizes'),
     **{(name, 'along'): () for name in ('pocket', 'boss', 'drill')}}

@@ -3,7 +3,7 @@
 import unittest
 from fractions import Fraction
 
-from support import STEP, library
+from support import STEP, commands_of, library
 
 from gwb import Impossible, Refused, Workbench
 from gwb.geometry.measures import area_vector
@@ -167,6 +167,43 @@ class Leaning(unittest.TestCase):
             with self.assertRaisesRegex(TypeError, f'^along: a {word} is given already$'):
                 make(block.top, points, 2, along=(0, 0, -2))
         self.assertEqual(self.bench.listing(), before)
+
+
+class Tapered(unittest.TestCase):
+    """Solids between two outlines."""
+
+    BASE, SMALL = [(0, 0, 0), (10, 0, 0), (10, 10, 0), (0, 10, 0)], [(2, 2, 6), (8, 2, 6), (8, 8, 6), (2, 8, 6)]
+
+    def setUp(self):
+        self.bench = Workbench(library(), step=STEP)
+        self.addCleanup(self.bench.close)
+
+    def test_a_stump(self):
+        for base, top, along, way in ((self.BASE, self.SMALL, None, 1), (self.BASE[::-1], self.SMALL[::-1], None, 1),
+                                      (self.BASE, [(x, y, 0) for x, y, _ in self.SMALL], (0, 0, 6), 1), (self.BASE, [(x, y, -z) for x, y, z in self.SMALL], None, -1)):
+            before = self.bench.listing()
+            made = self.bench.profile(base, top=top, along=along)
+            self.assertEqual((self.bench.volume(made), self.bench.face(made.far).normal, self.bench.face(made.base).normal),
+                             (6 * Fraction(100 + 36 + 60, 3), (0, 0, way), (0, 0, -way)))
+            for place, side in enumerate(made.sides):
+                self.assertLessEqual({base[place], base[(place + 1) % 4]}, set(self.bench.face(side).points))
+            self.bench.undo()
+            self.assertEqual(self.bench.listing(), before)
+
+    def test_what_is_none(self):
+        small = self.SMALL
+        for top, name, value, told in (
+                ([(2, 2, 6), (8, 2, 7), (8, 8, 6), (2, 8, 6)], 'NotFlat', 0, 'the top is not flat'), (small[1:] + small[:1], 'NotFlat', 1, r'the side from points\[0\] on'),
+                (small[2:] + small[:2], 'Meets', 0, 'cross or touch itself'), ([(x, y, 0) for x, y, _ in small], 'AlongPlane', 0, 'on one side'),
+                ([*small[:3], small[0]], 'RepeatedPoint', 4, '')):
+            with self.assertRaisesRegex(Refused, told) as caught:
+                self.bench.profile(self.BASE, top=top)
+            self.assertEqual((caught.exception.name, caught.exception.value), (name, value))
+        with self.assertRaisesRegex(ValueError, '^top: 4 points are wanted'):
+            self.bench.profile(self.BASE, top=small[:3])
+        with self.assertRaisesRegex(TypeError, '^along: a vector is wanted, or top='):
+            self.bench.profile(self.BASE)
+        self.assertEqual(commands_of(self.bench), [])
 
 
 if __name__ == '__main__':

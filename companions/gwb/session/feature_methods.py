@@ -7,10 +7,10 @@ from typing import Any, Iterable, List, Mapping, Optional, Sequence, Tuple
 
 from ..formats.exact_numbers import told
 from ..geometry.free_numbers import LARGEST
-from ..geometry.measures import why_unfit
+from ..geometry.measures import area_vector, why_unfit
 from ..geometry.outlines import Impossible
 from ..geometry.plane_figures import Exact
-from ..geometry.vectors import Vector, cross, dot, reduced
+from ..geometry.vectors import ZERO, Vector, add, cross, dot, reduced, subtract, total
 from ..protocol.complaints import refused
 from ..protocol.language import NUMBERS
 from . import arguments
@@ -21,6 +21,7 @@ from .kernel import Kernel
 from .lengths import ExactPlace, Length, along_way, direction, exact, place, plain
 from .reading import EdgePart, FacePart
 from .results import Hole, Notch, Numbers, Pocket, Polyhedron, Profile, Ring
+from .steps import Block
 
 
 @dataclass(frozen=True)
@@ -63,14 +64,51 @@ class Sketch:
 class FeatureMethods(Methods):
     """Larger things than commands, made of commands. Each method is one command, as a draft is, or in a draft part of it."""
 
-    def profile(self, points: arguments.Points, *, along: arguments.Point, solid: Optional[int] = None) -> Profile:
-        """A new solid: the outline through the points, moved along the vector. It is never inside out, whichever way the points run.
+    def profile(self, points: arguments.Points, *, along: Optional[arguments.Point] = None, top: Optional[arguments.Points] = None,
+                solid: Optional[int] = None) -> Profile:
+        """A new solid: the outline through the points, moved along the vector. It is never inside out, whichever way the points run. It tapers where another
+        outline is its `top`: that has as many points, of which each is joined with its like, and is moved along the vector where one is given.
 
         Refused: FewPoints, RepeatedPoint; NoArea: the outline has no area; NotInPlane: a point lies off the plane of the others;
-        OutlineCrossed: the outline crosses or touches itself; AlongPlane: the vector lies in the plane of the points."""
-        outline, way = self._kernel.lengths.points('points', points), Point(*self._kernel.lengths.point('along', along))
+        OutlineCrossed: the outline crosses or touches itself; AlongPlane: the vector lies in the plane of the points; with `top` NotFlat, where an outline or
+        a side isn't flat, with the place of the side from 1 on, and Meets, where the solid would cross or touch itself."""
+        lengths, outline = self._kernel.lengths, self._kernel.lengths.points('points', points)
+        if along is None and top is None:
+            raise TypeError('along: a vector is wanted, or top=, another outline')
+        way = ZERO if along is None else lengths.point('along', along)
+        if top is not None:
+            return self._tapered(solid, outline, [add(point, way) for point in lengths.points('top', top)])
         number = self._new('solid', solid)
-        return Profile(number, *self._kernel.outline('profile', number, outline, way))
+        return Profile(number, *self._kernel.outline('profile', number, outline, Point(*way)))
+
+    def _tapered(self, solid: Optional[int], base: List[Vector], top: List[Vector]) -> Profile:
+        """A new solid between two outlines, with a side from each point to the next."""
+        count, across = len(base), area_vector(base)
+        if len(top) != count:
+            raise ValueError(f'top: {count} points are wanted, as many as the outline has, not {len(top)}')
+        if count < 3:
+            raise refused('profile', NUMBERS['FewPoints'], count)
+        for outline in (base, top):
+            if len(set(outline)) < count:
+                raise refused('profile', NUMBERS['RepeatedPoint'], next(place for place in range(1, count) if outline[place] in outline[:place]) + 1)
+        rise = dot(across, subtract(total(top), total(base)))
+        if any(across) and rise == 0:
+            raise Impossible('AlongPlane', 0, "the top doesn't lie on one side of the outline")
+        sides = [(place, (place + 1) % count, count + (place + 1) % count, count + place) for place in range(count)]
+        faces = [tuple(range(count, 2 * count)), tuple(range(count))[::-1], *sides]
+        from ..checks.check import check
+        with Block(self._kernel, False):
+            made = self._solid_of(solid, [*base, *top], faces if rise >= 0 else [face[::-1] for face in faces])
+            model = self._kernel.lines.model(made.faces)
+            for place, face in enumerate(made.faces, -1):
+                why = why_unfit(model, face)
+                if why is not None:
+                    what = f'the side from points[{place - 1}] on' if place > 0 else 'the outline' if place == 0 else 'the top'
+                    raise refused('profile', NUMBERS['NotFlat'], max(place, 0), f"{what} {'has no area' if 'no area' in why else 'is not flat'}")
+            if check(model).findings:
+                raise Impossible('Meets', 0, 'the solid would cross or touch itself')
+        far, near, *walls = made.faces
+        return Profile(made.solid, far, near, tuple(walls))
 
     def polyhedron(self, points: arguments.Points, faces: Sequence[Sequence[int]], *, solid: Optional[int] = None) -> Polyhedron:
         """A new solid of points, and of faces without rings, each by the places of its corners among the points from 0 on, counterclockwise as seen from
@@ -79,7 +117,10 @@ class FeatureMethods(Methods):
         Refused: FewPoints: a face has fewer than 3 corners; NotClosed: a side of a face, by its place from 1 on, hasn't one side, of one face, that
         runs the other way; PointRange. ValueError: a point is of no face, or of faces that meet in it alone."""
         corners = self._kernel.lengths.points('points', points)
-        places = arguments.corners('faces', faces, len(corners))
+        return self._solid_of(solid, corners, arguments.corners('faces', faces, len(corners)))
+
+    def _solid_of(self, solid: Optional[int], corners: Sequence[Vector], places: Sequence[Sequence[int]]) -> Polyhedron:
+        """A new solid of points, and of faces by the places of their corners."""
         number, made = self._new('solid', solid), Pair()
         if not 1 <= number <= LARGEST:
             raise refused('polyhedron', NUMBERS['NumberRange'], number)    # (of which the call says nothing)
