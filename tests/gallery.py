@@ -29,6 +29,7 @@ HEAD = '''# A gallery
 
 Each part is a program in Python of at most 40 lines, which prints the size and the volume of each of its solids, and writes a file for CAD and a page to turn
 it. In the sources, after `make try`: `PYTHONPATH=companions python3 examples/gallery/gear.py`.
+FreeCAD 0.20 reads each STEP file as valid solids of the sizes and volumes below.
 
 | | Part | Sizes, in millimetres | Volume |
 |---|---|---|---|
