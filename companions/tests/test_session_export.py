@@ -61,8 +61,13 @@ class Exports(unittest.TestCase):
     def test_a_page(self):
         self.bench.export(self.folder / 'part.html')
         text = (self.folder / 'part.html').read_text(encoding='utf-8')
-        self.assertEqual(text, self.bench.page())
+        self.assertEqual(text, self.bench.page().replace('>gwb<', '>part<'))
+        self.assertIn('<title>part</title>', text)
         self.assertIn('#ff0000', text)
+        with Workbench(library(), step=1) as bench:
+            bench.label(bench.block((0, 0, 0), (1, 2, 3)), 'Brick')
+            bench.export(self.folder / 'part.html')
+        self.assertIn('<title>Brick</title>', (self.folder / 'part.html').read_text(encoding='utf-8'))
 
     def test_labels_are_no_commands(self):
         script = self.bench.script()

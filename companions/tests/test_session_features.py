@@ -336,9 +336,20 @@ class Scripts(unittest.TestCase):
                 bench.block((20, 0, 0), (1, 1, 1))
                 bench.ring(block.bottom, [(1, 1, 0), (1, 4, 0), (4, 1, 0)])
             bench.ring(block.sides[0], [(1, 0, 1), (4, 0, 1), (1, 0, 4)])
+            with bench.draft():
+                other = bench.block((40, 0, 0), (9, 9, 9))
+                with self.assertRaises(Refused), bench.draft():
+                    bench.scale(3)
+                    bench.sweep(99, (0, 0, 1))
+                bench.ring(other.bottom, [(41, 1, 0), (41, 4, 0), (44, 1, 0)])
             bench.save(f'{folder}/part.gwb')
+            saved = Path(f'{folder}/part.gwb').read_text()
+            self.assertEqual([line.split(': ')[1] for line in saved.splitlines() if line.startswith(('# step', '# draft'))],
+                             ['pocket', 'block, ring', 'ring', 'ring', 'block, ring'])
             with Workbench.load(f'{folder}/part.gwb', library()) as again:
-                for _ in range(4):
+                again.save(f'{folder}/again.gwb')
+                self.assertEqual(Path(f'{folder}/again.gwb').read_text(), saved)
+                for _ in range(5):
                     self.assertEqual((again.script(), again.listing()), (bench.script(), bench.listing()))
                     again.undo()
                     bench.undo()

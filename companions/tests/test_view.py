@@ -228,6 +228,7 @@ class Scripts(unittest.TestCase):
         self.assertEqual(outcome.err, 'gwb-view: line 5: mev +1 +1 3 2 9 9 9: refused 9 3: EdgeTaken: edge 3 is in use\n')
         listed = subprocess.run([program()], input=self.SCRIPT + b'list\n', capture_output=True, check=False).stdout
         self.assertEqual(data['frames'][0]['change'], data_of(self.viewed(listed).out)['frames'][0]['change'])
+        self.assertIn('<title>Lid</title>', self.viewed(self.SCRIPT, '--solid', '1').out)
         self.assertEqual(data_of(self.viewed(self.SCRIPT, '--solid', '2').out)['frames'][0]['change'],
                          data_of(self.viewed(listed, '--solid', '2').out)['frames'][0]['change'])
 

@@ -66,6 +66,12 @@ def _hexadecimal(colour: Tuple[int, int, int]) -> str:
     return '#{:02x}{:02x}{:02x}'.format(*colour)
 
 
+def title_of(model: Model, looks: Looks, otherwise: str) -> str:
+    """The title of a page: the name of the model's solid, if it has one solid and that a name."""
+    only = looks.get(('solid', next(iter(model.solids)))) if len(model.solids) == 1 else None
+    return only.name if only and only.name else otherwise
+
+
 def page_of(model: Model, title: str = 'gwb', looks: Looks = _PLAIN, unit: Fraction = Fraction(1)) -> str:
     """A page that shows the model, its solids and faces with the names and colours that are given; a coordinate has so many millimetres."""
     return _page({'frames': [{'change': PageRows().of(model)}], **_looks_data(looks), **_unit_data(unit)}, title)

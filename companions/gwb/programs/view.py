@@ -4,7 +4,7 @@ import argparse
 from pathlib import Path
 from typing import Optional, Sequence
 
-from ..drawing.page import page_of, page_of_steps
+from ..drawing.page import page_of, page_of_steps, title_of
 from ..errors import CompanionError
 from ..protocol.language import first_answered
 from .command_line import OK, listing_parser, read_bytes, run
@@ -34,8 +34,8 @@ def _parser() -> argparse.ArgumentParser:
     return parser
 
 
-def _title(path: Optional[str]) -> str:
-    """The title of the page: the name of the file."""
+def _stem(path: Optional[str]) -> str:
+    """The name of the file, for the title of the page."""
     stem = Path(path or '-').stem.encode('utf-8', 'backslashreplace').decode('utf-8')
     return 'gwb' if stem == '-' else stem
 
@@ -50,10 +50,10 @@ def work(words: Optional[Sequence[str]]) -> int:
         data = read_bytes(options.listing)
         _require_script(data, options.listing)
         said, ended = said_in(data), played(data)
-        model, page = ended.model, page_of_steps(ended.steps, _title(options.listing), *said)
+        model, page = ended.model, page_of_steps(ended.steps, title_of(ended.model, said.looks, _stem(options.listing)), *said)
     else:
         model, said, *_ = filled(options)
-        page = page_of(model, _title(options.listing), *said)
+        page = page_of(model, title_of(model, said.looks, _stem(options.listing)), *said)
     warn_of_inside_out(PROGRAM, model)
     print(page, end='')
     return OK

@@ -69,8 +69,13 @@ class Exporting(Methods):
 
     def page(self) -> str:
         """A page in HTML to turn the model and to pick from it in millimetres, as `gwb-view` makes it, with the labels."""
-        from ..drawing.page import page_of
-        return page_of(self._kernel.listing(), looks=self._kernel.labels(), unit=self.step)
+        return self._page('gwb')
+
+    def _page(self, title: str) -> str:
+        """The page, with this title where the model isn't one solid that has a name."""
+        from ..drawing.page import page_of, title_of
+        model, looks = self._kernel.listing(), self._kernel.labels()
+        return page_of(model, title_of(model, looks, title), looks, self.step)
 
     def export(self, path: arguments.Path) -> None:
         """Writes what is held to a file, by the ending of its name: .step or .stp, .3mf, .glb, .obj (colours in a .mtl beside it), .off, .stl, .html.
@@ -91,7 +96,7 @@ class Exporting(Methods):
         if touching:
             warn('solids {} and {} touch or overlap, and {} does not keep solids apart: many programs will read one wrong body; .3mf and .step keep them '
                  'apart'.format(*touching, file.suffix))
-        file.write_bytes(self.page().encode() if form == 'html' else written(model, Said(self._kernel.labels(), self.step), file))
+        file.write_bytes(self._page(file.stem).encode() if form == 'html' else written(model, Said(self._kernel.labels(), self.step), file))
 
     def import_file(self, path: arguments.Path, *, form: str = '', scale: Length = 1, rounded: bool = False, keep_triangles: bool = False,
                     repair: bool = False, within: Length = 0, flat: bool = False) -> 'ImportedSolids':

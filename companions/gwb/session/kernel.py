@@ -146,6 +146,8 @@ class Kernel:
         is_new = word not in ('undo', 'redo')
         if is_new and not self.lines.is_drafting:
             self.notes.expect()
+        if is_new:
+            self.notes.give()
         if is_new and self._may_have_gone and not self._has_given:
             # What is gone has no label any more, before a turn makes something that may have its number. Undo gives it back.
             gone = [(thing, None) for thing in self.notes.labels if not self.lines.in_use(*thing)]

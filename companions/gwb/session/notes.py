@@ -10,12 +10,13 @@ from ..formats.appearance import Appearance, Thing
 @dataclass(eq=False)
 class Note:
     """What goes with a command: whether a step to undo begins with it, the unit after it, the labels that were given from it up to the next
-    one, None where one was taken away, and its lines, once it was undone."""
+    one, None where one was taken away, its lines, once it was undone, and the methods that were called for it."""
 
     begins: bool
     unit: Fraction
     looks: List[Tuple[Thing, Optional[Appearance]]] = field(default_factory=list)
     text: str = ''
+    calls: List[str] = field(default_factory=list)
 
 
 class Notes:
@@ -30,6 +31,8 @@ class Notes:
         self._coming: Optional[Note] = None
         # In a group how many commands were held before it.
         self.group_from: Optional[int] = None
+        # The method that is called, or what a saved script says of its commands.
+        self.called: List[str] = []
         self._labels: Optional[Dict[Thing, Appearance]] = None
 
     @property
@@ -64,6 +67,10 @@ class Notes:
         """A command or a draft is about to be given, outside of a draft."""
         self._coming = Note(self.group_from is None or self.at <= self.group_from, self.all[self.at].unit)
 
+    def give(self) -> None:
+        """What comes, or the draft that is open, is given by what is called."""
+        self.now.calls += [name for name in self.called if name not in self.now.calls]
+
     def settle(self, depth: int) -> None:
         """So many commands are held, and no draft is open."""
         if self._coming and depth == self.at + 1:
@@ -74,10 +81,10 @@ class Notes:
             self.all.append(Note(True, self.all[-1].unit))
         self.at, self._coming = depth, None
 
-    def go_back(self, looks: int, unit: Fraction) -> None:
-        """It is as it was when the same draft, or the same command, had so many labels, and this unit."""
+    def go_back(self, looks: int, unit: Fraction, calls: int) -> None:
+        """It is as it was when the same draft, or the same command, had so many labels, this unit, and so many calls."""
         self._labels, self.now.unit = None, unit
-        del self.now.looks[looks:]
+        del self.now.looks[looks:], self.now.calls[calls:]
 
     def ahead(self) -> List[Note]:
         """The notes of the commands that can be redone."""

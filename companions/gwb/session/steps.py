@@ -14,7 +14,7 @@ class _Work:
         lines, notes = kernel.lines, kernel.notes
         self._kernel, self._is_kept, self._outer = kernel, False, notes.group_from
         self._is_part, self._before, self._mark, self._ahead = lines.is_drafting, notes.at, lines.mark(), notes.ahead()
-        self.is_draft, self._looks, self._unit = not (is_group or self._is_part), len(notes.now.looks), notes.now.unit
+        self.is_draft, self._now = not (is_group or self._is_part), (len(notes.now.looks), notes.now.unit, len(notes.now.calls))
 
     def end(self, is_whole: bool) -> None:
         """It is over, with all within it that is still open. It is kept if it is whole; else all is as before, whatever exception comes meanwhile."""
@@ -52,8 +52,8 @@ class _Work:
             notes.now.unit = unit
         elif self._outer is None and notes.at > self._before:
             early = notes.all[self._before].looks
-            notes.all[self._before + 1].looks[:0] = early[self._looks:]
-            del early[self._looks:]
+            notes.all[self._before + 1].looks[:0] = early[self._now[0]:]
+            del early[self._now[0]:]
 
     def _unless_kept(self) -> None:
         """All is as it was before it, unless it is kept."""
@@ -66,7 +66,7 @@ class _Work:
         else:
             kernel.lines.abandon()
             kernel.go_to(self._before)
-        kernel.notes.go_back(self._looks, self._unit)
+        kernel.notes.go_back(*self._now)
         if self._is_part or kernel.lines.ahead == len(self._ahead) and kernel.notes.ahead() == self._ahead:
             return
         # What could be redone is given again, as much as there is memory for.

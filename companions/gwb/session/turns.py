@@ -77,10 +77,10 @@ def _taken(method: Any, is_read: bool) -> Any:
             if kernel.is_inside or is_read and not kernel.holder:
                 return method(self, *values, **named)
             kernel.begin_turn()
-            kernel.is_inside = True
+            kernel.is_inside, kernel.notes.called = True, [] if method.__name__ == 'ask' else [method.__name__]
             try:
                 return method(self, *values, **named)
             finally:
-                kernel.is_inside = False
+                kernel.is_inside, kernel.notes.called = False, []
 
     return taken

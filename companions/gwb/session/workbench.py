@@ -33,6 +33,7 @@ from .feature_methods import FeatureMethods
 from .kernel import Kernel
 from .lengths import DEFAULT_STEP
 from .library import find_path
+from .notes import Note
 from .results import Numbers
 from .selection import Reading
 from .solids import SolidMethods
@@ -42,7 +43,7 @@ from .steps import Block
 _GONE = {'unit': 'lengths are millimetres now, and step says how fine they are',
          'six_volume': "volume(solid) is exact, and ask('volume 1') says six times it in steps"}
 # In a saved script the mark before the commands that are one step to undo, or one draft; gwb reads over it.
-_MARK = re.compile(rb'# (step|draft) of ([1-9][0-9]{0,8}) commands')
+_MARK = re.compile(rb'# (step|draft) of ([1-9][0-9]{0,8}) commands(?:: (.{1,200}))?')
 
 
 class Workbench(SolidMethods, FeatureMethods, Commands, Reading, Exporting):
@@ -120,8 +121,8 @@ class Workbench(SolidMethods, FeatureMethods, Commands, Reading, Exporting):
         return ''.join(f'{line}\n' for line in _lines(kernel))
 
     def save(self, path: arguments.Path) -> None:
-        """Writes the script to a file. Comments in it say which commands are one step to undo, how fine lengths are, and the labels, so that `load`
-        knows them again. Raises ValueError for an ending of what `export` writes."""
+        """Writes the script to a file. Comments in it say which commands are one step to undo and which calls gave them, how fine lengths are, and the
+        labels, so that `load` knows them again. Raises ValueError for an ending of what `export` writes."""
         from ..formats.forms import EXPORTED, by_ending
         file = Path(arguments.path('path', path))
         if by_ending(file.suffix) in EXPORTED:
@@ -158,8 +159,11 @@ class Workbench(SolidMethods, FeatureMethods, Commands, Reading, Exporting):
             if unit is not None:
                 self._kernel.notes.now.unit = unit
             elif mark and within not in (mark[1], b'draft'):
+                notes, outer = self._kernel.notes, self._kernel.notes.called
                 with Block(self._kernel, mark[1] == b'step'):
+                    notes.called = mark[3].decode('ascii', 'backslashreplace').split(', ') if mark[3] else []
                     given += self._take(file, lines, mark[1], min(int(mark[2]), most - given))
+                notes.called = outer
             elif is_answered(line) and not is_comment(line):
                 text = line.decode('utf-8', 'surrogateescape')
                 try:
@@ -199,13 +203,19 @@ def _saved_lines(kernel: Kernel) -> Iterator[str]:
     steps = {first: commands[first:last] for first, last in zip(starts, [*starts[1:], len(notes)])}
     for place, (lines, note) in enumerate(zip(commands, [*notes, kernel.notes.now])):
         if len(steps.get(place, [])) > 1:
-            yield f'# step of {sum(map(len, steps[place]))} commands'
+            yield f'# step of {sum(map(len, steps[place]))} commands{_called(notes[place:place + len(steps[place])])}'
         if len(lines) > 1 and place < len(notes):
-            yield f'# draft of {len(lines)} commands'
+            yield f'# draft of {len(lines)} commands{_called([note])}'
         yield from lines
         if note.unit != unit:
             yield unit_line(note.unit)
         unit = note.unit
+
+
+def _called(notes: List[Note]) -> str:
+    """What a mark says of the calls that gave these commands."""
+    names = ', '.join(dict.fromkeys(name for note in notes for name in note.calls))
+    return f': {names[:200]}' if names else ''
 
 
 def _require_no_form(file: Path, data: bytes) -> None:
