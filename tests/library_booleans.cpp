@@ -226,14 +226,16 @@ public:
         const auto operation = static_cast<Operation>(number(0, 2));
         std::vector<Solid> solids = {solid_};
         Cubes wanted = cubes_;
-        for (std::int64_t more = number(1, 3); more > 0; more -= more > 1 ? 2 : 1) { // one of them mostly
+        for (std::int64_t more = number(1, 2) == 1 ? 1 : number(2, 7); more > 0; more--) { // one of them every other time
             const auto [block, cubes] = new_block();
             solids.push_back(block);
             wanted = combined(operation, wanted, cubes);
         }
         const std::string before = bench_.listing();
+        std::shuffle(solids.begin() + 1, solids.end(), random_); // (their order doesn't matter)
         const Result<Merger> made = combined(bench_.attempt(), operation, solids);
         const std::string name = names[static_cast<std::size_t>(operation)];
+        outcomes[solids.size() > 2 ? made ? "made of several" : "refused of several" : made ? "made of two" : "refused of two"]++;
         if (made)
             take(wanted, before, name);
         else
@@ -256,7 +258,6 @@ private:
 
     void take(const Cubes &wanted, const std::string &before, const std::string &name)
     {
-        outcomes["made"]++;
         check(!touches_itself(wanted), name + " that touches itself is made");
         const Measures made = measures_of(bench_, solid_), expected = measures_of(wanted);
         check(made == expected, name + ": " + text(made) + " in place of " + text(expected));
@@ -273,13 +274,10 @@ private:
             cut_and_join();
     }
 
-    // Of two solids it is as the cubes say; of more those before the last may touch where what is made of all doesn't.
     void refuse(const Failure &why, const Cubes &wanted, const std::string &before, const std::string &name, const std::vector<Solid> &solids)
     {
         outcomes[why.name()]++;
-        const bool is_pair = solids.size() == 2;
-        const bool is_empty = why.is(Misfit::nothing_left) && wanted.empty(), meets = why.is(Misfit::meets) && (touches_itself(wanted) || !is_pair);
-        outcomes["Meets of several, though what is made wouldn't"] += meets && !touches_itself(wanted) ? 1 : 0;
+        const bool is_empty = why.is(Misfit::nothing_left) && wanted.empty(), meets = why.is(Misfit::meets) && touches_itself(wanted);
         check((is_empty || meets) && why.value == solid_.number(), name + " is refused: " + why.name());
         check(bench_.listing() == before, name + " that is refused changes nothing");
         for (std::size_t at = 1; at < solids.size(); at++)
@@ -369,7 +367,7 @@ static void try_factors()
             const Result<Merger> made = combined(attempt, operation, {prism, block});
             check(!made && made.error().is(Misfit::off_lattice) && made.error().value == factor, std::string(made.error().name()) + ": the least factor");
             check(bench.listing() == before, "what is off the lattice changes nothing");
-            outcomes[made ? "made" : made.error().name()]++;
+            outcomes[made.error().name()]++;
         }
         scale(bench, factor);
         check(static_cast<bool>(subtract(attempt, prism, {block})), "so many times as large it is made");
@@ -444,12 +442,12 @@ static void try_twisted()
 
 // ---- several at once
 
-// Blocks in a ring, of which two touch in an edge alone until what lies between them is there: in any order.
+// Blocks in a ring, of which some touch in an edge or a corner alone until what lies between them is there: in any order.
 static void try_orders()
 {
     std::vector<Point> places = {{0, 0, 0}, {4, 0, 0}, {8, 0, 0}, {8, 4, 0}, {8, 8, 0}, {4, 8, 0}, {0, 8, 0}, {0, 4, 0}};
     std::mt19937_64 random(3);
-    for (int time = 0; time < 30; time++) {
+    for (int time = 0; time < 200; time++) {
         std::shuffle(places.begin(), places.end(), random);
         Workbench bench;
         std::vector<Solid> blocks;
@@ -492,7 +490,7 @@ int main(int argc, char **argv)
     for (const auto &[name, times] : outcomes)
         std::cout << name << ": " << times << '\n';
     if (argc <= 1)
-        for (const char *name : {"made", "OffLattice", "OffLattice by no number", "Meets", "NothingLeft", "NotFlat", "NoSolid", "no call", "separate", "join_faces"})
+        for (const char *name : {"made of two", "made of several", "refused of several", "OffLattice", "OffLattice by no number", "Meets", "NothingLeft", "NotFlat", "NoSolid", "no call", "separate", "join_faces"})
             check(outcomes[name] >= 20, std::string(name) + " is seen too seldom");
     std::cout << passed << " passed, " << failed << " failed\n";
     return failed != 0;

@@ -1,7 +1,8 @@
 // Tries the Booleans of gwb_features.h beside CGAL's Nef polyhedra, on random solids in chains: blocks, L, U and T shapes, convex prisms, upright and slanted, with
-// holes and pockets, pyramids and tetrahedra, whose planes and edges often coincide. Of what is made the volume, vertices, edges, faces, rings, shells and
-// each point are compared; of what isn't whether it would be off the lattice, with which least factor, touch itself, or be nothing. The last line counts;
-// the one before it counts the outcomes, each of which has to be seen 20 times where no seeds are given.
+// holes and pockets, pyramids and tetrahedra, whose planes and edges often coincide; a step takes two solids, or up to seven at once, these in several orders.
+// In some chains tetrahedra of any corners cross each other in a block, so that inner points have scales of up to 180 bits. Of what is made the volume,
+// vertices, edges, faces, rings, shells and each point are compared; of what isn't whether it would be off the lattice, with which least factor, touch itself,
+// or be nothing. The last line counts; the one before it counts the outcomes, each of which has to be seen 20 times where no seeds are given.
 //
 //     library_booleans_nef [FIRST COUNT]     so many chains of three operations from this seed on: 170 from 1 on where none are given
 extern "C" {
@@ -44,6 +45,7 @@ public:
     explicit Random(std::uint64_t seed) : engine_(seed) {}
     std::int64_t to(std::int64_t low, std::int64_t high) { return low + static_cast<std::int64_t>(engine_() % static_cast<std::uint64_t>(high - low + 1)); }
     bool one_in(int n) { return to(1, n) == 1; }
+    std::mt19937_64 &engine() { return engine_; }
 
 private:
     std::mt19937_64 engine_;
@@ -353,22 +355,24 @@ static std::string listing(const gwb *g)
 
 enum class Operation { unite, subtract, intersect };
 
-static Nef combined(const Nef &one, const Nef &other, Operation operation)
+static Nef combined(const std::vector<Nef> &all, Operation operation)
 {
-    switch (operation) {
-    case Operation::unite: return one.join(other).regularization();
-    case Operation::subtract: return one.difference(other).regularization();
-    default: return one.intersection(other).regularization();
-    }
+    Nef found = all[0];
+    for (std::size_t at = 1; at < all.size(); at++)
+        switch (operation) {
+        case Operation::unite: found = found.join(all[at]); break;
+        case Operation::subtract: found = found.difference(all[at]); break;
+        default: found = found.intersection(all[at]);
+        }
+    return found.regularization();
 }
 
-static gwb_kind combined(gwb *g, Operation operation, gwb_refusal *why)
+static gwb_kind combined(gwb *g, Operation operation, const std::vector<std::uint32_t> &solids, gwb_refusal *why)
 {
-    const std::array<std::uint32_t, 2> both = {1, 2};
     switch (operation) {
-    case Operation::unite: return gwb_union(g, both.data(), both.size(), why);
-    case Operation::subtract: return gwb_subtract(g, 1, &both[1], 1, why);
-    default: return gwb_intersect(g, both.data(), both.size(), why);
+    case Operation::unite: return gwb_union(g, solids.data(), solids.size(), why);
+    case Operation::subtract: return gwb_subtract(g, solids[0], &solids[1], solids.size() - 1, why);
+    default: return gwb_intersect(g, solids.data(), solids.size(), why);
     }
 }
 
@@ -385,6 +389,15 @@ public:
 
     void run()
     {
+        if (seed_ % 10 == 0)
+            cross_in_block();
+        else
+            cross_in_turn();
+    }
+
+private:
+    void cross_in_turn()
+    {
         constexpr std::array<std::int64_t, 8> factors = {1, 1, 2, 12, 60, 2'520, 27'720, 10'000'000};
         const std::int64_t n = random_.to(2, 6), factor = factors[static_cast<std::size_t>(random_.to(0, 7))];
         std::array<std::int64_t, 3> base{};
@@ -395,42 +408,112 @@ public:
         maker.make(1);
         held_ = nef_of(&g_, 1);
         for (int step = 0; step < 3; step++) {
-            maker.make(2);
+            solids_ = {1};
+            for (std::int64_t more = random_.one_in(3) ? random_.to(2, 6) : 1; more > 0; more--) {
+                solids_.push_back(solids_.back() + 1);
+                maker.make(solids_.back());
+            }
             take(static_cast<Operation>(random_.to(0, 2)));
         }
     }
 
-private:
-    void take(Operation operation)
+    // Tetrahedra of any corners, three to five of them, and a block, in which all or parts of them lie.
+    void cross_in_block()
     {
-        const std::string before = listing(&g_);
-        const Nef made = combined(held_, nef_of(&g_, 2), operation);
-        gwb_refusal why{};
-        const gwb_kind kind = combined(&g_, operation, &why);
-        const Told wanted = told(made);
-        const std::string name = kind == GWB_OK ? "made" : kind == GWB_IMPOSSIBLE ? gwb_misfit_name(why.number) : gwb_kind_text(kind);
-        outcomes_[name]++;
-        check(is_right(kind, why, made, wanted),
-              "seed " + std::to_string(seed_) + ": " + name + " " + std::to_string(why.value) + " in place of " + text(wanted) + "; of\n" + before);
-        if (kind == GWB_OK) {
-            undo_and_redo(before);
-            held_ = made;
-        } else {
-            check(listing(&g_) == before, "what is refused changes nothing");
-            gwb_kill_solid(&g_, 2, &why);
+        for (int step = 0; step < 3; step++) {
+            const std::int64_t size = random_.to(500'000'000, 1'100'000'000);
+            gwb_refusal why{};
+            solids_ = {1};
+            check(gwb_block(&g_, 1, -size / 2, -size / 2, -size / 2, size, size, size) == GWB_OK, "a block");
+            for (std::int64_t more = random_.to(2, 5); more > 0; more--) {
+                solids_.push_back(solids_.back() + 1);
+                while (!tetrahedron(solids_.back()))
+                    continue;
+            }
+            held_ = nef_of(&g_, 1);
+            take(static_cast<Operation>(random_.to(0, 2)));
+            gwb_kill_solid(&g_, 1, &why);
         }
     }
 
-    [[nodiscard]] bool is_right(gwb_kind kind, const gwb_refusal &why, const Nef &made, const Told &wanted) const
+    bool tetrahedron(std::uint32_t solid)
+    {
+        std::array<gwb_point, 4> points{};
+        for (gwb_point &point : points)
+            point = {random_.to(-500'000'000, 500'000'000), random_.to(-500'000'000, 500'000'000), random_.to(-500'000'000, 500'000'000)};
+        const std::array<std::uint32_t, 12> corners = {0, 1, 2, 0, 3, 1, 1, 3, 2, 2, 3, 0};
+        const std::array<std::uint32_t, 4> sizes = {3, 3, 3, 3};
+        gwb_polyhedron_made made;
+        gwb_refusal why{};
+        gwb_wide six;
+        if (gwb_polyhedron(&g_, solid, points.data(), 4, corners.data(), sizes.data(), 4, &made, &why) != GWB_OK)
+            return false;
+        gwb_read_volume(&g_, solid, &six, &why);
+        if (six.high >= 0)
+            return true;
+        gwb_kill_solid(&g_, solid, &why); // inside out
+        return false;
+    }
+
+    void take(Operation operation)
+    {
+        const std::string before = listing(&g_);
+        std::vector<Nef> nefs = {held_};
+        for (std::size_t at = 1; at < solids_.size(); at++)
+            nefs.push_back(nef_of(&g_, solids_[at]));
+        const Nef made = combined(nefs, operation);
+        const Told wanted = told(made);
+        if (solids_.size() > 2)
+            take_in_other_orders(operation, made, wanted, before);
+        if (called(operation, solids_, made, wanted, before) == GWB_OK) {
+            undo_and_redo(before);
+            held_ = made;
+            return;
+        }
+        gwb_refusal why{};
+        for (std::size_t at = 1; at < solids_.size(); at++)
+            gwb_kill_solid(&g_, solids_[at], &why);
+    }
+
+    // All orders of three, some of more: what is subtracted from stays the first.
+    void take_in_other_orders(Operation operation, const Nef &made, const Told &wanted, const std::string &before)
+    {
+        std::vector<std::uint32_t> order = solids_;
+        const auto first = order.begin() + (operation == Operation::subtract ? 1 : 0);
+        for (int time = 0; time < 5; time++) {
+            if (order.size() > 3)
+                std::shuffle(first, order.end(), random_.engine());
+            else if (!std::next_permutation(first, order.end()))
+                return;
+            if (called(operation, order, made, wanted, before) == GWB_OK)
+                gwb_undo(&g_);
+            check(listing(&g_) == before, "it is as it was");
+        }
+    }
+
+    gwb_kind called(Operation operation, const std::vector<std::uint32_t> &solids, const Nef &made, const Told &wanted, const std::string &before)
+    {
+        gwb_refusal why{};
+        const gwb_kind kind = combined(&g_, operation, solids, &why);
+        const std::string name = kind == GWB_OK ? "made" : kind == GWB_IMPOSSIBLE ? gwb_misfit_name(why.number) : gwb_kind_text(kind);
+        outcomes_[solids.size() > 2 ? name + " of several" : name]++;
+        check(is_right(kind, why, made, wanted, solids[0]),
+              "seed " + std::to_string(seed_) + ": " + name + " " + std::to_string(why.value) + " in place of " + text(wanted) + "; of\n" + before);
+        if (kind != GWB_OK)
+            check(listing(&g_) == before, "what is refused changes nothing");
+        return kind;
+    }
+
+    [[nodiscard]] bool is_right(gwb_kind kind, const gwb_refusal &why, const Nef &made, const Told &wanted, std::uint32_t first) const
     {
         const Integer factor = factor_of(wanted);
         if (kind == GWB_OK)
-            return made.is_simple() && factor == 1 && told(&g_, 1) == wanted;
+            return made.is_simple() && factor == 1 && told(&g_, first) == wanted;
         if (kind != GWB_IMPOSSIBLE)
             return false;
         switch (why.number) {
-        case GWB_MISFIT_NOTHING_LEFT: return wanted.vertices == 0 && why.value == 1;
-        case GWB_MISFIT_MEETS: return !made.is_simple() && why.value == 1;
+        case GWB_MISFIT_NOTHING_LEFT: return wanted.vertices == 0 && why.value == first;
+        case GWB_MISFIT_MEETS: return !made.is_simple() && why.value == first;
         case GWB_MISFIT_OFF_LATTICE: return factor != 1 && (why.value != 0 ? factor == Integer(why.value) : factor > Integer(UINT32_MAX));
         default: return false;
         }
@@ -450,6 +533,7 @@ private:
     std::map<std::string, int> &outcomes_;
     gwb g_ = {};
     Nef held_;
+    std::vector<std::uint32_t> solids_; ///< of one step
 };
 
 int main(int argc, char **argv)
@@ -460,10 +544,11 @@ int main(int argc, char **argv)
     for (std::uint64_t seed = first; seed < first + count; seed++)
         Chain(seed, outcomes).run();
     for (const char *name : {"made", "OffLattice", "Meets", "NothingLeft"})
-        check(has_seeds || outcomes[name] >= 20, std::string(name) + " is seen too seldom");
-    std::cout << 3 * count << " operations:";
+        for (const char *of : {"", " of several"})
+            check(has_seeds || outcomes[std::string(name) + of] >= 20, std::string(name) + of + " is seen too seldom");
+    std::cout << 3 * count << " operations, those of several solids in up to six orders:";
     for (const auto &[name, times] : outcomes)
-        std::cout << ' ' << name << ' ' << times;
+        std::cout << ' ' << name << ' ' << times << ',';
     std::cout << '\n' << passed << " passed, " << failed << " failed\n";
     return failed != 0;
 }

@@ -1,4 +1,4 @@
-/// @file arrangement.hpp What two solids with flat faces come to together. Their edges, and the lines along which their faces meet, are cut into pieces; what lies
+/// @file arrangement.hpp What solids with flat faces come to together. Their edges, and the lines along which their faces meet, are cut into pieces; what lies
 /// round each piece within which solid tells the faces of what is made of both. All of it is exact, also where points aren't whole.
 #pragma once
 #include "outlines.hpp"
@@ -11,8 +11,8 @@ using sectors::Made;
 using sheets::Sheet;
 using within::IsWithin;
 
-/// The faces of what is made of two solids, each by its faces, of the first one perhaps those near the second alone. Not possible: OffLattice, with the least
-/// factor by which both must be scaled, or 0. Throws `why` where one of them touches itself, or what is made does where they meet.
-std::vector<Sheet> made_of(const std::array<std::vector<Sheet>, 2> &solids, const Made &made, Joins joins, const IsWithin &is_within, const Failure &why);
+/// The faces of what is made of solids, each by its faces, of the first one perhaps those near the others alone. Not possible: OffLattice, with the least
+/// factor by which all must be scaled, or 0. Throws `why` where one of them touches itself, or what is made does where they meet.
+std::vector<Sheet> made_of(const std::vector<std::vector<Sheet>> &solids, const Made &made, Joins joins, const IsWithin &is_within, const Failure &why);
 
 } // namespace gwb_session::arrangement

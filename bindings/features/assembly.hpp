@@ -59,6 +59,14 @@ struct Model {
                 found.read(bench, face, loop);
         return found;
     }
+    /// Takes in all of a model of others.
+    void take_in(const Model &other)
+    {
+        faces.insert(other.faces.begin(), other.faces.end());
+        loops.insert(other.loops.begin(), other.loops.end());
+        edges.insert(other.edges.begin(), other.edges.end());
+        vertices.insert(other.vertices.begin(), other.vertices.end());
+    }
     /// What this one is where a part of it has become another one.
     [[nodiscard]] Model with(const Model &part, const Model &made) const
     {

@@ -13,7 +13,7 @@ arrangement::Made made_by(Operation operation)
     switch (operation) {
     case Operation::unite: return {{{{false, true}, {true, true}}}};
     case Operation::subtract: return {{{{false, false}, {true, false}}}};
-    default: return {{{{false, false}, {false, true}}}};
+    default: return {{{{false, false}, {false, true}}}, true};
     }
 }
 
@@ -37,106 +37,50 @@ void require_flat(const std::vector<Sheet> &sheets)
         require(sheet.is_flat(), refused(GWB_WHY_NOT_FLAT, sheet.owners[0].number()));
 }
 
-/// A solid becomes what is made of it and another one, which goes: only faces near that are looked at, of what both have in common all.
-Combined combine_two(Bench &bench, Operation operation, Solid solid, Solid gone, const Failure &why)
+/// The first solid becomes what is made of it and others, which go: only faces near those are looked at, of what all have in common all.
+Combined combined_with(Bench &bench, Operation operation, Solid first, const std::vector<Model> &others)
 {
-    const Model other = Model::whole(bench, gone);
-    const std::vector<Sheet> added = sheets_of(other);
-    require_flat(added);
-    Box box = box_of(added);
+    std::vector<std::vector<Sheet>> operands = {{}};
+    for (const Model &other : others)
+        require_flat(operands.emplace_back(sheets_of(other)));
+    Box near = box_of(operands[1]);
+    for (std::size_t at = 2; at < operands.size(); at++)
+        near.take(box_of(operands[at]));
     if (operation == Operation::intersect)
-        box = {{-farthest, -farthest, -farthest}, {farthest, farthest, farthest}};
+        near = {{-farthest, -farthest, -farthest}, {farthest, farthest, farthest}};
+    const Failure why = impossible(Misfit::meets, first.number());
     const auto lay = [&](const std::vector<Sheet> &sheets) {
         require_flat(sheets);
-        const Surface &surface = Surroundings::of(bench).surface(bench, solid);
+        operands[0] = sheets;
+        const Surface &surface = Surroundings::of(bench).surface(bench, first);
         const arrangement::IsWithin is_in = [&](points::Number of, const ScaledPoint &point) {
-            return of == 0 ? is_within(bench, surface, point) : is_bound(added, point);
+            return of == 0 ? is_within(bench, surface, point) : is_bound(operands[of], point);
         };
-        return arrangement::made_of({sheets, added}, made_by(operation), arrangement::Joins::of_two, is_in, why);
+        return arrangement::made_of(operands, made_by(operation), arrangement::Joins::of_two, is_in, why);
     };
-    return make_near(bench, solid, box, other, why, lay, [](const Combined &, const std::vector<Sheet> &) {});
+    return make_near(bench, first, near, others, why, lay, [](const Combined &, const std::vector<Sheet> &) {});
 }
 
-// ---- what became of faces
-
-void follow(const Bench &bench, const std::vector<Sheet> &regions, Sources &sources)
+/// The faces that regions became, with those that they are parts of.
+Sources sources_of(const std::vector<Sheet> &regions)
 {
-    Sources now;
+    Sources found;
     for (const Sheet &region : regions)
-        for (Face owner : region.owners) {
-            const std::set<Face> &known = sources.try_emplace(owner, std::set<Face>{owner}).first->second;
-            now[region.face].insert(known.begin(), known.end());
-        }
-    for (const auto &[face, known] : std::exchange(sources, now))
-        if (has(bench.attempt().face(face))) // what isn't there went into others, or nothing is left of it
-            sources.emplace(face, known);
+        found[region.face].insert(region.owners.begin(), region.owners.end());
+    return found;
 }
-
-// ---- several solids
-
-/// Solids that are combined, the first of all at first.
-class Several {
-public:
-    Several(Bench &bench, Operation operation, std::vector<Solid> solids)
-        : bench_(bench), operation_(operation), left_(std::move(solids)), meets_(impossible(Misfit::meets, left_[0].number()))
-    {
-        for (Solid solid : left_)
-            require_solid(bench, solid);
-    }
-
-    Sources combine()
-    {
-        while (left_.size() > 1)
-            combine_some();
-        return std::move(sources_);
-    }
-
-private:
-    /// The first two that can be combined. Throws why not, of the first pair, where there are none.
-    void combine_some()
-    {
-        std::optional<Failure> first;
-        for (std::size_t kept = 0; kept < left_.size(); kept++)
-            if (combine_with(kept, first))
-                return;
-        throw *first;
-    }
-
-    /// Whether one of them could be combined with one after it.
-    bool combine_with(std::size_t kept, std::optional<Failure> &first)
-    {
-        for (std::size_t gone = kept + 1; gone < left_.size(); gone++) {
-            const Result<Combined> made = tried([&] { return combine_two(bench_, operation_of(kept), left_[kept], left_[gone], meets_); });
-            if (has(made)) {
-                follow(bench_, made->regions, sources_);
-                left_.erase(left_.begin() + static_cast<std::ptrdiff_t>(gone));
-                return true;
-            }
-            if (made.error().is(Misfit::nothing_left))
-                throw impossible(Misfit::nothing_left, left_[0].number());
-            if (!made.error().is(Misfit::meets) && !made.error().is(Misfit::off_lattice))
-                throw made.error();
-            first = first.value_or(made.error());
-        }
-        return false;
-    }
-
-    /// What is subtracted from the first may be united before.
-    [[nodiscard]] Operation operation_of(std::size_t kept) const
-    {
-        return kept > 0 && operation_ == Operation::subtract ? Operation::unite : operation_;
-    }
-
-    Bench &bench_;
-    Operation operation_;
-    std::vector<Solid> left_;
-    Failure meets_;
-    Sources sources_;
-};
 
 } // namespace
 
-Sources combine(Bench &bench, Operation operation, std::vector<Solid> solids) { return Several(bench, operation, std::move(solids)).combine(); }
+Sources combine(Bench &bench, Operation operation, std::vector<Solid> solids)
+{
+    for (Solid solid : solids)
+        require_solid(bench, solid);
+    std::vector<Model> others;
+    for (auto solid = solids.begin() + 1; solid != solids.end(); ++solid)
+        others.push_back(Model::whole(bench, *solid));
+    return sources_of(combined_with(bench, operation, solids[0], others).regions);
+}
 
 Sources join_faces(Bench &bench, Solid solid)
 {
@@ -149,12 +93,10 @@ Sources join_faces(Bench &bench, Solid solid)
     const Held held(bench, before, false);
     AllNames names(bench);
     const Combined found = Assembly(held, regions, names).made(solid, why);
-    Sources sources;
-    if (found.model.edges.size() != before.edges.size()) {
-        make_anew(bench, found.model);
-        follow(bench, found.regions, sources);
-    }
-    return sources;
+    if (found.model.edges.size() == before.edges.size())
+        return {};
+    make_anew(bench, found.model);
+    return sources_of(found.regions);
 }
 
 void tell(const Sources &sources, std::vector<std::uint32_t> &list)

@@ -11,8 +11,8 @@ enum class Operation { unite, subtract, intersect };
 /// Faces that there are, and those of all solids as they were that went into them.
 using Sources = std::map<Face, std::set<Face>>;
 
-/// The first of some solids becomes what is made of them: all, the first without the others, or what all have in common; the others go. They are taken two at a
-/// time, and two that can't be combined wait until others were. Refused: NoSolid; NotFlat. Not possible: OffLattice; Meets; NothingLeft.
+/// The first of some solids becomes what is made of them all at once: all, the first without the others, or what all have in common; the others go. Refused:
+/// NoSolid; NotFlat. Not possible: OffLattice; Meets; NothingLeft.
 Sources combine(Bench &bench, Operation operation, std::vector<Solid> solids);
 
 /// Faces of one plane beside each other become one, and so do edges that go on straight. Refused: NoSolid; NotFlat. Not possible: Meets.

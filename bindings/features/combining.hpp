@@ -220,7 +220,7 @@ inline std::vector<Sheet> sheets_of(const Model &model)
 // ---- what is made
 
 /// Whether near a box models meet or touch themselves as none of those before did.
-inline bool touch_anew(std::initializer_list<const Model *> before, std::initializer_list<const Model *> after, const Box &box)
+inline bool touch_anew(const std::vector<const Model *> &before, const std::vector<const Model *> &after, const Box &box)
 {
     std::set<Findings::Finding> found;
     for (const Model *model : after)
@@ -232,19 +232,26 @@ inline bool touch_anew(std::initializer_list<const Model *> before, std::initial
     return !found.empty();
 }
 
-/// A part of a solid with what is laid on its faces, which may be the faces of another solid. Not possible: NothingLeft; what `lay` and `check` say; what
+/// A part of a solid with what is laid on its faces, which may be the faces of other solids. Not possible: NothingLeft; what `lay` and `check` say; what
 /// the caller says where what comes of them meets or touches itself near a box as nothing did before.
 template <class Lay, class Check>
-Combined combined(const Bench &bench, const Model &part, const Box &box, const Model &other, AllNames &names, const Failure &why, Lay lay, Check check)
+Combined combined(const Bench &bench, const Model &part, const Box &box, const std::vector<Model> &others, AllNames &names, const Failure &why, Lay lay,
+                  Check check)
 {
     const std::vector<Sheet> sheets = sheets_of(part);
     const std::vector<Sheet> regions = lay(sheets);
     if (regions.empty() && all(bench.faces(part.solid), [&](Face face) { return part.faces.count(face) != 0; }))
         throw impossible(Misfit::nothing_left, part.solid.number());
-    const Held held(bench, part.with(Model(), other));
+    Model all = part;
+    std::vector<const Model *> before = {&part};
+    for (const Model &other : others) {
+        all.take_in(other);
+        before.push_back(&other);
+    }
+    const Held held(bench, std::move(all));
     Combined found = Assembly(held, regions, names).made(part.solid, why);
     check(found, sheets);
-    require(!touch_anew({&part, &other}, {&found.model}, box), why);
+    require(!touch_anew(before, {&found.model}, box), why);
     return found;
 }
 
@@ -307,20 +314,20 @@ inline std::set<Loop> wanted_besides(const Bench &bench, const Part &part, const
 }
 
 /// Makes what comes of the faces of a solid near a box: by operators on those that differ, without the loops elsewhere, else with the
-/// wanted ones; where that can't be, all of the solid is made anew. The solid whose faces are added, where they are any's, is taken away.
+/// wanted ones; where that can't be, all of the solid is made anew. The solids whose faces are added, where they are any's, are taken away.
 template <class Lay, class Check>
-Combined make_near(Bench &bench, Solid solid, const Box &box, const Model &other, const Failure &why, Lay lay, Check check)
+Combined make_near(Bench &bench, Solid solid, const Box &box, const std::vector<Model> &others, const Failure &why, Lay lay, Check check)
 {
     Surroundings &known = Surroundings::of(bench);
     for (std::set<Loop> wanted, more;; wanted.merge(more)) {
         const Surface &surface = known.surface(bench, solid);
         const Part part = part_near(bench, surface, solid, box, wanted);
         AllNames names(bench);
-        Combined found = combined(bench, part.model, box, other, names, why, lay, check);
+        Combined found = combined(bench, part.model, box, others, names, why, lay, check);
         const auto operators = found.beyond.empty() ? operators_for(bench, surface, part, found, names) : std::nullopt;
         if (!operators && !(more = wanted_besides(bench, part, found)).empty())
             continue;
-        if (!other.faces.empty())
+        for (const Model &other : others)
             take_away(bench, other.solid);
         if (!operators) {
             make_anew(bench, Model::whole(bench, solid).with(part.model, found.model));

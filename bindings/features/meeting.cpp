@@ -25,7 +25,7 @@ struct Along {
 /// to the next: each such side changes it.
 class Line {
 public:
-    Line(Operands &all, Pieces &pieces, const Pair &faces) : all_(all), pieces_(pieces), faces_(faces)
+    Line(Operands &all, std::vector<Trace> &traces, const Pair &faces) : all_(all), traces_(traces), faces_(faces)
     {
         const Vector product = cross(all.sheet(faces[0]).plane.across, all.sheet(faces[1]).plane.across);
         way_ = line_of(product);
@@ -159,7 +159,7 @@ private:
             for (std::size_t at = first; at < last; at++)
                 pass(stops_[at], in_[stops_[at].which]);
             if (last < end_ && is_beside(0) && is_beside(1))
-                put_piece(stops_[first].point, stops_[last].point);
+                put_trace(stops_[first].point, stops_[last].point);
         }
     }
 
@@ -192,15 +192,26 @@ private:
     }
 
     /// Both faces have a part of the line: it lies within each that lies on both sides of it, else it is of an edge.
-    void put_piece(Number from, Number to)
+    void put_trace(Number from, Number to)
     {
+        Trace found{from, to, way_, {none, none}, none};
         for (std::uint32_t which : {0U, 1U})
             if (in_[which][0] && in_[which][1])
-                pieces_.put_across(pieces_.between(from, to, way_), faces_[which]);
+                found.faces[which] = faces_[which];
+            else
+                found.edge = edge_along(which, from, to);
+        if (found.faces != std::array{none, none})
+            traces_.push_back(found);
+    }
+
+    [[nodiscard]] Number edge_along(std::uint32_t which, Number from, Number to) const
+    {
+        const auto row = std::find_if(along_[which].begin(), along_[which].end(), [&](const Along &of) { return covers(of, from, to); });
+        return row != along_[which].end() ? row->edge : none;
     }
 
     Operands &all_;
-    Pieces &pieces_;
+    std::vector<Trace> &traces_;
     Pair faces_;
     Vector way_{}; ///< of the line
     int turn_ = 1; ///< whether the first face's normal, the other's and the line turn left (1), or right (-1)
@@ -260,26 +271,35 @@ void meet_in_plane(Operands &all, Pair faces)
     }
 }
 
+void meet(Operands &all, const Pair &faces, Meetings &found)
+{
+    const Plane &plane = all.sheet(faces[0]).plane;
+    const Sheet &across = all.sheet(faces[1]);
+    if (plane.across != across.plane.across && plane.across != negative(across.plane.across)) {
+        Line(all, found.traces, faces).meet();
+    } else if (plane.height(across.sides[0].start) == 0) {
+        meet_in_plane(all, faces);
+        found.in_plane.push_back(faces), found.in_plane.push_back({faces[1], faces[0]});
+    }
+}
+
 } // namespace
 
-std::vector<Pair> meet(Operands &all, Pieces &pieces)
+Meetings meet(Operands &all)
 {
-    std::vector<Pair> in_plane;
-    for (Number own = 0; own < all.faces.size() && all.faces[own].solid == 0; own++) {
-        go_on();
-        const Plane &plane = all.sheet(own).plane;
-        for (std::size_t beyond : all.beyond(all.sheet(own).box)) {
-            const auto other = static_cast<Number>(beyond);
-            const Sheet &across = all.sheet(other);
-            if (plane.across != across.plane.across && plane.across != negative(across.plane.across)) {
-                Line(all, pieces, {own, other}).meet();
-            } else if (plane.height(across.sides[0].start) == 0) {
-                meet_in_plane(all, {own, other});
-                in_plane.push_back({own, other}), in_plane.push_back({other, own});
-            }
+    Meetings found;
+    BoxIndex later; // the faces of solids that come later
+    for (Number solid = all.count(); solid-- > 0;) {
+        const Number first = all.first_face(solid), last = all.first_face(solid + 1);
+        for (Number own = first; own < last && last < all.faces.size(); own++) {
+            go_on();
+            for (std::size_t beyond : later.meeting(all.sheet(own).box))
+                meet(all, {own, static_cast<Number>(beyond)}, found);
         }
+        for (Number own = first; own < last; own++)
+            later.put(all.sheet(own).box, own);
     }
-    return in_plane;
+    return found;
 }
 
 } // namespace gwb_session::meeting

@@ -1,4 +1,4 @@
-/// @file meeting.hpp Where the faces of two solids meet, pair by pair: the points at which edges are cut, and the pieces that lie within faces.
+/// @file meeting.hpp Where the faces of solids meet, pair by pair: the points at which edges are cut, and the traces that lie within faces.
 #pragma once
 #include "pieces.hpp"
 
@@ -9,8 +9,12 @@ using namespace pieces;
 /// Two faces of different solids.
 using Pair = std::array<Number, 2>;
 
-/// Finds where the faces of two solids meet: cuts their edges there, and puts in the pieces that lie within faces.
-/// @return the faces that lie in one plane, each pair both ways round
-std::vector<Pair> meet(Operands &all, Pieces &pieces);
+struct Meetings {
+    std::vector<Trace> traces;
+    std::vector<Pair> in_plane; ///< faces that lie in one plane, each pair both ways round
+};
+
+/// Finds where the faces of solids meet, and cuts their edges there.
+Meetings meet(Operands &all);
 
 } // namespace gwb_session::meeting

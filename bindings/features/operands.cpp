@@ -3,11 +3,28 @@
 
 namespace gwb_session::operands {
 
-Operands::Operands(const std::array<std::vector<Sheet>, 2> &sheets)
+Operands::Operands(const std::vector<std::vector<Sheet>> &solids)
 {
-    for (Number solid : {0U, 1U})
-        for (const Sheet &sheet : sheets[solid])
+    for (const std::vector<Sheet> &sheets : solids) {
+        const auto solid = static_cast<Number>(firsts_.size());
+        firsts_.push_back(static_cast<Number>(faces.size()));
+        for (const Sheet &sheet : sheets)
             put(sheet, solid);
+        around_.push_back(sheets.empty() ? Box() : box_of(sheets));
+        if (!sheets.empty())
+            solids_.put(around_.back(), solid);
+    }
+    firsts_.push_back(static_cast<Number>(faces.size()));
+}
+
+std::vector<Number> Operands::beside(Number solid) const
+{
+    const Box all{{-farthest, -farthest, -farthest}, {farthest, farthest, farthest}};
+    std::vector<Number> found;
+    for (std::size_t other : solids_.meeting(solid == 0 ? all : around_[solid]))
+        if (other != solid)
+            found.push_back(static_cast<Number>(other));
+    return found;
 }
 
 void Operands::put(const Sheet &sheet, Number solid)
@@ -15,8 +32,6 @@ void Operands::put(const Sheet &sheet, Number solid)
     go_on();
     const auto own = static_cast<Number>(faces.size());
     FlatFace &face = faces.emplace_back(FlatFace{&sheet, solid});
-    if (solid == 1)
-        seconds_.put(sheet.box, own);
     for (const Side &side : sheet.sides) {
         const Number from = points.whole(side.start), to = points.whole(side.end);
         const auto [edge, is_new] = edge_numbers_.try_emplace(side.half.edge(), static_cast<Number>(edges.size()));
@@ -66,7 +81,10 @@ Place Operands::locate(Number face, const ScaledPoint &point)
 
 void Operands::touch_face(Number face, Number point, bool is_corner)
 {
-    put_spot(faces[face].solid, point, is_corner ? Spot{Spot::corner} : Spot{Spot::face, face});
+    FlatFace &own = faces[face];
+    if (!is_corner && count() > 2)
+        own.touched.push_back(point);
+    put_spot(own.solid, point, is_corner ? Spot{Spot::corner} : Spot{Spot::face, face});
 }
 
 void Operands::touch_edge(Number edge, Number point)
@@ -80,13 +98,24 @@ void Operands::touch_edge(Number edge, Number point)
 
 void Operands::put_spot(Number solid, Number point, const Spot &spot)
 {
-    std::vector<Spot> &spots = spots_[solid];
-    if (spots.size() <= point)
-        spots.resize(std::max<std::size_t>(point + 1, points.count()));
-    if (spots[point].what == Spot::nowhere || spot.what < spots[point].what) // (of a face, an edge and a corner the least is where it lies)
-        spots[point] = spot;
+    if (first_rows_.size() <= point)
+        first_rows_.resize(std::max<std::size_t>(point + 1, points.count()), none);
+    for (Number at = first_rows_[point]; at != none; at = rows_[at].next)
+        if (Row &row = rows_[at]; row.solid == solid) {
+            if (spot.what < row.spot.what) // (of a face, an edge and a corner the least is where it lies)
+                row.spot = spot;
+            return;
+        }
+    rows_.push_back({solid, spot, first_rows_[point]});
+    first_rows_[point] = static_cast<Number>(rows_.size() - 1);
 }
 
-Spot Operands::spot(Number solid, Number point) const { return point < spots_[solid].size() ? spots_[solid][point] : Spot(); }
+Spot Operands::spot(Number solid, Number point) const
+{
+    Number at = point < first_rows_.size() ? first_rows_[point] : none;
+    while (at != none && rows_[at].solid != solid)
+        at = rows_[at].next;
+    return at != none ? rows_[at].spot : Spot();
+}
 
 } // namespace gwb_session::operands

@@ -1,4 +1,4 @@
-/// @file operands.hpp Two solids of which something is made: their faces and edges with the points at which they meet, and where these lie on each.
+/// @file operands.hpp Solids of which something is made: their faces and edges with the points at which they meet, and where these lie on each.
 #pragma once
 #include "points.hpp"
 #include "sheets.hpp"
@@ -7,6 +7,7 @@
 namespace gwb_session::operands {
 
 using namespace sheets;
+using namespace integers;
 using points::none;
 using points::Number;
 using points::Points;
@@ -16,8 +17,9 @@ struct FlatFace {
     const Sheet *sheet;
     Number solid;
     std::vector<Number> corners = {}, nexts = {}, edges = {};
-    bool is_met = false;                      ///< by the other solid
+    bool is_met = false;                      ///< by another solid
     std::unique_ptr<BoxIndex> by_boxes = {};  ///< the places of its sides, where these are many
+    std::vector<Number> touched = {};         ///< of more than two solids: points within it at which corners and edges of others lie
 };
 
 /// An edge, as its first half-edge runs, with the faces left of it and right, and the points at which it is cut.
@@ -33,18 +35,22 @@ struct Spot {
     Number number = 0;
 };
 
-/// Two solids by their faces.
+/// Solids by their faces.
 class Operands {
 public:
-    explicit Operands(const std::array<std::vector<Sheet>, 2> &sheets);
+    explicit Operands(const std::vector<std::vector<Sheet>> &solids);
 
     Points points;
-    std::vector<FlatFace> faces; ///< those of the first solid first
+    std::vector<FlatFace> faces; ///< those of the first solid first, and so on
     std::vector<CutEdge> edges;
 
+    [[nodiscard]] Number count() const { return static_cast<Number>(firsts_.size() - 1); }
+    /// The first face of a solid: that of the one after it comes after its last one.
+    [[nodiscard]] Number first_face(Number solid) const { return firsts_[solid]; }
+    /// The solids whose edges may lie within one: those whose boxes meet its own, of the first one, of which only faces near the others are known, all.
+    [[nodiscard]] std::vector<Number> beside(Number solid) const;
+
     [[nodiscard]] const Sheet &sheet(Number face) const { return *faces[face].sheet; }
-    /// The faces of the second solid whose boxes meet a box.
-    [[nodiscard]] std::vector<std::size_t> beyond(const Box &box) const { return seconds_.meeting(box); }
 
     /// Whether the sides of a face are so many that those near something are looked up.
     [[nodiscard]] bool is_large(Number face) const { return faces[face].edges.size() > many_sides; }
@@ -53,7 +59,7 @@ public:
     /// Where a point of the plane of a face lies.
     [[nodiscard]] Place locate(Number face, const ScaledPoint &point);
 
-    /// A point lies on the other solid, and on this face, at its corner or within; or on this edge, within or at its ends.
+    /// A point lies on another solid, and on this face, at its corner or within; or on this edge, within or at its ends.
     void touch_face(Number face, Number point, bool is_corner);
     void touch_edge(Number edge, Number point);
     void put_spot(Number solid, Number point, const Spot &spot);
@@ -66,8 +72,17 @@ private:
     [[nodiscard]] const BoxIndex &sides_by_boxes(Number face);
 
     std::unordered_map<Edge, Number> edge_numbers_;
-    BoxIndex seconds_;
-    std::array<std::vector<Spot>, 2> spots_; ///< of points on each solid that lie on the other
+    std::vector<Number> firsts_;
+    std::vector<Box> around_; ///< solids that have faces
+    BoxIndex solids_;         ///< by these
+    /// Where a point lies on a solid that has it, and the next such row of the point.
+    struct Row {
+        Number solid;
+        Spot spot;
+        Number next;
+    };
+    std::vector<Row> rows_;
+    std::vector<Number> first_rows_; ///< of points
 };
 
 } // namespace gwb_session::operands

@@ -4,7 +4,7 @@ namespace gwb_session::outlines {
 
 namespace {
 
-using Owners = std::array<Number, 2>;
+using Owners = std::vector<Number>;
 
 /// The least common multiple of scales: the greatest value stands for all that are larger.
 class Factor {
@@ -41,7 +41,7 @@ public:
     {
         for (const auto &[point, ends] : between_)
             if (!ends.go_on_straight())
-                factor.take(all_.points.at(point).scale);
+                factor.take(all_.points.scale(point));
     }
 
     void put_regions(std::vector<Sheet> &found, const Failure &why)
@@ -71,15 +71,27 @@ private:
     {
         const Bound *last = &first;
         HalfEdge half = first.half;
-        Owners owners = first.owners;
+        Owners owners;
+        take_owners(first, owners);
         while (between_.count(last->to) != 0) {
             last = between_.at(last->to).out[0];
             half = half != HalfEdge() ? half : last->half;
-            for (std::size_t solid : {0, 1})
-                owners[solid] = owners[solid] != none ? owners[solid] : last->owners[solid];
+            take_owners(*last, owners);
         }
         sides_.push_back({all_.points.at(first.from).at, all_.points.at(last->to).at, half});
-        owners_[{sides_.back().start, sides_.back().end}] = owners;
+        owners_[{sides_.back().start, sides_.back().end}] = std::move(owners);
+    }
+
+    /// The faces that a bound is a part of join those of its side, where there is none of their solid.
+    void take_owners(const Bound &bound, Owners &owners) const
+    {
+        const auto take = [&](Number face) {
+            if (!any(owners, [&](Number other) { return all_.faces[other].solid == all_.faces[face].solid; }))
+                owners.push_back(face);
+        };
+        take(bound.owner);
+        for (Number face : bound.others)
+            take(face);
     }
 
     /// Whether this is all of a face that stays.
@@ -99,7 +111,7 @@ private:
         std::set<Number> found;
         for (const Side &side : joined(cycles)) {
             const Owners &owners = owners_.at({side.start, side.end});
-            std::copy_if(owners.begin(), owners.end(), std::inserter(found, found.end()), [](Number owner) { return owner != none; });
+            found.insert(owners.begin(), owners.end());
         }
         return mapped(found, [&](Number face) { return all_.sheet(face).owners[0]; });
     }

@@ -13,15 +13,38 @@ Piece &Pieces::between(Number from, Number to, const Vector &way)
 
 void Pieces::put_wing(Piece &piece, const Wing &wing)
 {
-    const Number solid = all_.faces[wing.face].solid;
-    if (!piece.has(wing, solid))
-        piece.wings[solid].push_back(wing);
+    if (!piece.has(wing))
+        piece.wings.push_back(wing);
 }
 
 void Pieces::put_across(Piece &piece, Number face)
 {
     put_wing(piece, {face, true});
     put_wing(piece, {face, false});
+    for (Number end : {piece.from, piece.to})
+        all_.put_spot(all_.faces[face].solid, end, {Spot::face, face});
+}
+
+void Pieces::sort(std::vector<Number> &stops) const
+{
+    std::sort(stops.begin(), stops.end(), [&](Number a, Number b) { return all_.points.comes_before(a, b); });
+    stops.erase(std::unique(stops.begin(), stops.end()), stops.end());
+}
+
+void Pieces::put_trace(Trace &trace)
+{
+    const auto is_between = [&](Number stop) { return all_.points.comes_before(trace.from, stop) && all_.points.comes_before(stop, trace.to); };
+    if (trace.edge != none)
+        trace.stops = filtered(all_.edges[trace.edge].stops, is_between);
+    sort(trace.stops);
+    trace.stops.push_back(trace.to);
+    Number last = trace.from;
+    for (Number next : trace.stops) {
+        for (Number face : trace.faces)
+            if (face != none)
+                put_across(between(last, next, trace.way), face);
+        last = next;
+    }
 }
 
 void Pieces::put_edges()
@@ -35,8 +58,7 @@ void Pieces::put_edges()
 void Pieces::put_edge(CutEdge &edge)
 {
     std::vector<Number> &stops = edge.stops;
-    std::sort(stops.begin(), stops.end(), [&](Number a, Number b) { return all_.points.comes_before(a, b); });
-    stops.erase(std::unique(stops.begin(), stops.end()), stops.end());
+    sort(stops);
     if (all_.points.comes_before(edge.to, edge.from))
         std::reverse(stops.begin(), stops.end());
     Number last = edge.from;
@@ -73,15 +95,13 @@ void Pieces::put_in_plane(Number face, Number other)
 void Pieces::put_within(const CutEdge &edge, Number of, Number from, Number to, Number face)
 {
     Piece &piece = between(from, to, edge.side.way());
-    const Number solid = all_.faces[face].solid;
-    const bool is_on_edge = any(piece.wings[solid], [&](const Wing &wing) { return wing.face == face; });
+    const bool is_on_edge = any(piece.wings, [&](const Wing &wing) { return wing.face == face; });
     const ScaledPoint middle = all_.points.at(from).between(all_.points.at(to));
     if (is_on_edge || all_.locate(face, middle) != Place::inside)
         return;
     put_across(piece, face);
     for (Number end : {from, to}) {
         const bool is_corner = end == edge.from || end == edge.to;
-        all_.put_spot(solid, end, {Spot::face, face});
         all_.put_spot(edge.solid, end, is_corner ? Spot{Spot::corner} : Spot{Spot::edge, of});
     }
 }

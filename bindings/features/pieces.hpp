@@ -1,4 +1,4 @@
-/// @file pieces.hpp Parts of lines between two points that nothing cuts: of the edges of two solids, and of the lines along which their faces meet.
+/// @file pieces.hpp Parts of lines between two points that nothing cuts: of the edges of solids, and of the lines along which their faces meet.
 #pragma once
 #include "operands.hpp"
 
@@ -13,17 +13,50 @@ struct Wing {
     HalfEdge half = HalfEdge();
 };
 
-/// A piece, the faces of each solid at it (within a face both sides), and whether it lies within a solid that has none there.
+/// Whether something lies within the first solid, and within how many others.
+struct Within {
+    bool first = false;
+    Number others = 0;
+
+    /// It lies so against a solid of which nothing was known.
+    void put(Number solid, bool is_within)
+    {
+        if (solid == 0)
+            first = is_within;
+        else if (is_within)
+            others++;
+    }
+    /// It goes into a solid, or out of it.
+    void pass(Number solid, bool is_into)
+    {
+        if (solid == 0)
+            first = is_into;
+        else
+            is_into ? others++ : others--;
+    }
+};
+
+/// A piece, the faces of solids at it (within a face both sides), and within which of those it lies that have none there.
 struct Piece {
     Number from, to;
     Vector way;
-    std::array<std::vector<Wing>, 2> wings = {};
-    std::array<bool, 2> within = {};
+    std::vector<Wing> wings = {};
+    Within within = {};
 
-    [[nodiscard]] bool has(const Wing &wing, Number solid) const
+    [[nodiscard]] bool has(const Wing &wing) const
     {
-        return any(wings[solid], [&](const Wing &other) { return other.face == wing.face && other.is_left == wing.is_left && other.half == wing.half; });
+        return any(wings, [&](const Wing &other) { return other.face == wing.face && other.is_left == wing.is_left && other.half == wing.half; });
     }
+};
+
+/// A part of the line in which the planes of two faces of different solids meet that lies within both, or within one and along an edge of the other one, the
+/// way being from its first point to the last. None stands for that other face.
+struct Trace {
+    Number from, to;
+    Vector way;
+    std::array<Number, 2> faces;
+    Number edge;
+    std::vector<Number> stops = {}; ///< where it is cut
 };
 
 /// All pieces: one between two points, whichever way it is asked for.
@@ -34,14 +67,18 @@ public:
     [[nodiscard]] std::vector<Piece> &all() { return pieces_; }
     /// That between two points, which runs this way where it is new.
     Piece &between(Number from, Number to, const Vector &way);
-    /// It lies within a face.
-    void put_across(Piece &piece, Number face);
+    /// Those of a trace, between its stops.
+    void put_trace(Trace &trace);
     /// Those of edges, between the points at which they are cut, which come to lie in order.
     void put_edges();
-    /// Edges of one face that lie in the plane of another, of the other solid, are within that or not.
+    /// Edges of one face that lie in the plane of another, of another solid, are within that or not.
     void put_in_plane(Number face, Number other);
 
 private:
+    /// Points along a line one way, each once.
+    void sort(std::vector<Number> &stops) const;
+    /// It lies within a face.
+    void put_across(Piece &piece, Number face);
     void put_wing(Piece &piece, const Wing &wing);
     void put_edge(CutEdge &edge);
     /// A part of an edge lies within a face.

@@ -13,8 +13,45 @@ Number Points::between(const Side &side, Wide before, Wide after)
     return number(on_way(side.start, step, numerator, denominator / steps));
 }
 
+Number Points::of_planes(const Plane &one, const Plane &two, const Plane &three)
+{
+    const std::array<Vector, 3> ways = {cross(two.across, three.across), cross(three.across, one.across), cross(one.across, two.across)};
+    FinePoint found{{}, wide_dot(one.across, ways[0])};
+    for (std::size_t axis = 0; axis < 3; axis++)
+        found.at[axis] = -(product_of(one.offset, ways[0][axis]) + product_of(two.offset, ways[1][axis]) + product_of(three.offset, ways[2][axis]));
+    Int<4> common = found.scale;
+    for (const Int<4> &part : found.at)
+        common = integers::greatest_divisor(common, part);
+    const bool is_turned = found.scale.sign() < 0;
+    for (Int<4> *part : {&found.at[0], &found.at[1], &found.at[2], &found.scale}) {
+        const Int<4> lowest = integers::divided(part->magnitude(), common).first;
+        *part = (part->sign() < 0) != is_turned ? -lowest : lowest;
+    }
+    if (Int<4>(greatest_scale) < found.scale)
+        return number(found);
+    return number(ScaledPoint{{found.at[0].narrow(), found.at[1].narrow(), found.at[2].narrow()}, found.scale.narrow()});
+}
+
+FinePoint Points::fine(Number point) const
+{
+    const auto &[at, scale] = points_[point];
+    if (is_fine(point))
+        return fine_points_[static_cast<std::size_t>(at[0])];
+    return {{Int<4>(at[0]), Int<4>(at[1]), Int<4>(at[2])}, Int<4>(scale)};
+}
+
+bool Points::Before::operator()(const FinePoint &a, const FinePoint &b) const
+{
+    for (std::size_t axis = 0; axis < 3; axis++)
+        if (const int order = (a.at[axis] * b.scale - b.at[axis] * a.scale).sign(); order != 0)
+            return order < 0;
+    return false;
+}
+
 bool Points::comes_before(Number one, Number other) const
 {
+    if (is_fine(one) || is_fine(other))
+        return Before()(fine(one), fine(other));
     const ScaledPoint &a = points_[one], &b = points_[other];
     return one != other && (a.scale == 1 && b.scale == 1 ? a.at < b.at : a < b);
 }
@@ -26,6 +63,17 @@ bool Points::is_in(Number point, const Box &box) const
         if (at[axis] < box.low[axis] * scale || at[axis] > box.high[axis] * scale)
             return false;
     return true;
+}
+
+Box Points::box(Number point) const
+{
+    const auto &[at, scale] = points_[point];
+    Box found;
+    for (std::size_t axis = 0; axis < 3; axis++) {
+        found.low[axis] = at[axis] / scale - (at[axis] % scale < 0 ? 1 : 0);
+        found.high[axis] = at[axis] / scale + (at[axis] % scale > 0 ? 1 : 0);
+    }
+    return found;
 }
 
 std::size_t Points::Hash::operator()(const ScaledPoint &point) const
@@ -44,6 +92,16 @@ Number Points::number(const ScaledPoint &point)
     const auto [found, is_new] = numbers_.try_emplace(point, static_cast<Number>(points_.size()));
     if (is_new)
         points_.push_back(point);
+    return found->second;
+}
+
+Number Points::number(const FinePoint &point)
+{
+    const auto [found, is_new] = fine_.try_emplace(point, static_cast<Number>(points_.size()));
+    if (is_new) {
+        points_.push_back({{static_cast<Wide>(fine_points_.size()), 0, 0}, 0});
+        fine_points_.push_back(point);
+    }
     return found->second;
 }
 

@@ -18,70 +18,96 @@ struct Rim {
     Bound bound;
 };
 
-/// A piece with what lies round it.
+/// What lies round pieces, one after another.
 class Round {
 public:
-    Round(const Operands &all, const Piece &piece, const Made &made, const Failure &why)
-        : all_(all), piece_(piece), made_(made), why_(why), axes_(flat_axes(piece.way)), within_(piece.within)
-    {
-        for (Number solid : {0U, 1U})
-            for (const Wing &wing : piece.wings[solid]) {
-                const Vector &across = all.sheet(wing.face).plane.across;
-                turned_.push_back({wing.is_left ? across : negative(across), wing, solid});
-            }
-        std::sort(turned_.begin(), turned_.end(), [&](const Turned &a, const Turned &b) { return turns::order(a.normal, b.normal, axes_) < 0; });
-    }
+    Round(const Operands &all, const Made &made, const Failure &why) : all_(all), made_(made), others_(all.count() - 1), why_(why) {}
 
-    void put(Bounds &found)
+    void put(const Piece &piece, Bounds &found)
     {
+        turn(piece);
         if (turned_.size() == 1) { // what lies beyond isn't near, and stays
-            if (made_.at({true, within_[1]}))
+            if (made_.at({true, within_.others}, others_))
                 found.kept.push_back(bound(0, 1, turned_[0].wing.is_left));
             return;
         }
-        const std::vector<Rim> rims = this->rims();
-        require(rims.size() <= 2 || piece_.wings[0].empty() || piece_.wings[1].empty(), why_);
-        if (rims.size() == 2 && turns::same_turn(rims[0].normal, negative(rims[1].normal), axes_)) {
-            if (rims[0].bound.owner != rims[1].bound.owner)
-                found.seams.push_back({rims[0].bound, rims[1].bound});
+        put_rims();
+        require(rims_.size() <= 2 || in_.size() == 1, why_);
+        if (rims_.size() == 2 && turns::same_turn(rims_[0].normal, negative(rims_[1].normal), axes_)) {
+            if (rims_[0].bound.owner != rims_[1].bound.owner)
+                found.seams.push_back({std::move(rims_[0].bound), std::move(rims_[1].bound)});
             return;
         }
-        for (const Rim &rim : rims)
-            found.kept.push_back(rim.bound);
+        for (Rim &rim : rims_)
+            found.kept.push_back(std::move(rim.bound));
     }
 
 private:
-    /// The faces that are made here. The room behind a face on the left comes before it in the turn, that behind one on the right after it.
-    [[nodiscard]] std::vector<Rim> rims()
+    /// A solid of which the piece has wings, and whether a place lies within.
+    struct In {
+        Number solid;
+        bool is_within;
+    };
+
+    /// Sorts the wings at a piece by their turn, those of the first solid first.
+    void turn(const Piece &piece)
     {
-        std::vector<Rim> found;
+        piece_ = &piece, axes_ = flat_axes(piece.way), within_ = piece.within;
+        turned_.clear(), in_.clear();
+        for (const Wing &wing : piece.wings) {
+            const FlatFace &face = all_.faces[wing.face];
+            const Vector &across = face.sheet->plane.across;
+            turned_.push_back({wing.is_left ? across : negative(across), wing, face.solid});
+            if (!any(in_, [&](const In &in) { return in.solid == face.solid; }))
+                in_.push_back({face.solid, false});
+        }
+        std::stable_sort(turned_.begin(), turned_.end(), [&](const Turned &a, const Turned &b) {
+            const int order = turns::order(a.normal, b.normal, axes_);
+            return order != 0 ? order < 0 : a.solid < b.solid;
+        });
+    }
+
+    [[nodiscard]] bool &is_within(Number solid)
+    {
+        return std::find_if(in_.begin(), in_.end(), [&](const In &in) { return in.solid == solid; })->is_within;
+    }
+
+    /// The faces that are made here. The room behind a face on the left comes before it in the turn, that behind one on the right after it.
+    void put_rims()
+    {
+        rims_.clear();
         for (const Turned &one : turned_) // (the last one of each solid tells what comes before the first)
-            within_[one.solid] = !one.wing.is_left;
+            is_within(one.solid) = !one.wing.is_left;
+        for (const In &in : in_)
+            within_.put(in.solid, in.is_within);
         for (std::size_t first = 0, last = 0; first < turned_.size(); first = last) {
-            const std::array<bool, 2> before = within_;
+            const bool is_left = made_.at(within_, others_);
             for (; last < turned_.size() && turns::same_turn(turned_[first].normal, turned_[last].normal, axes_); last++)
                 pass(turned_[last]);
-            if (const bool is_left = made_.at(before); is_left != made_.at(within_))
-                found.push_back({turned_[first].normal, bound(first, last, is_left)});
+            if (is_left != made_.at(within_, others_))
+                rims_.push_back({turned_[first].normal, bound(first, last, is_left)});
         }
-        return found;
     }
 
     void pass(const Turned &one)
     {
-        require(within_[one.solid] == one.wing.is_left, why_); // else the solid touches itself here
-        within_[one.solid] = !one.wing.is_left;
+        bool &is_in = is_within(one.solid);
+        require(is_in == one.wing.is_left, why_); // else the solid touches itself here
+        is_in = !is_in;
+        within_.pass(one.solid, is_in);
     }
 
     /// The piece as the side of a face that is made of those wings, at one angle. What is made there has the least face's name, and of several in one plane
     /// looks as those do that bound it.
     [[nodiscard]] Bound bound(std::size_t first, std::size_t last, bool is_left) const
     {
-        Bound found{is_left ? piece_.from : piece_.to, is_left ? piece_.to : piece_.from, is_left ? piece_.way : negative(piece_.way), none, {none, none}, false,
+        const Piece &piece = *piece_;
+        Bound found{is_left ? piece.from : piece.to, is_left ? piece.to : piece.from, is_left ? piece.way : negative(piece.way), none, false,
                     half(first, last)};
         for (std::size_t at = first; at < last; at++) {
-            const auto &[normal, wing, solid] = turned_[at];
-            found.owners[solid] = wing.face;
+            const Wing &wing = turned_[at].wing;
+            if (found.owner != none)
+                found.others.push_back(std::max(wing.face, found.owner));
             if (wing.face < found.owner)
                 found.owner = wing.face, found.is_turned = wing.is_left != is_left;
         }
@@ -104,12 +130,15 @@ private:
     }
 
     const Operands &all_;
-    const Piece &piece_;
     const Made &made_;
+    Number others_; ///< how many solids there are besides the first
     const Failure &why_;
-    Axes axes_;
-    std::array<bool, 2> within_;
+    const Piece *piece_ = nullptr;
+    Axes axes_{};
+    Within within_;
     std::vector<Turned> turned_;
+    std::vector<In> in_;
+    std::vector<Rim> rims_;
 };
 
 } // namespace
@@ -117,9 +146,10 @@ private:
 Bounds turned_round(const Operands &all, const std::vector<Piece> &pieces, const Made &made, const Failure &why)
 {
     Bounds found;
+    Round round(all, made, why);
     for (const Piece &piece : pieces) {
         go_on();
-        Round(all, piece, made, why).put(found);
+        round.put(piece, found);
     }
     return found;
 }

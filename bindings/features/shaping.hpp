@@ -207,7 +207,7 @@ inline Combined change(Bench &bench, Face face, const Tool &tool, bool is_cut)
         require(has(regions), regions.error().is(Misfit::off_lattice) ? regions.error() : meets);
         return *regions;
     };
-    return make_near(bench, solid, box_of(*added), Model(), meets, lay, [&](const Combined &found, const std::vector<Sheet> &sheets) {
+    return make_near(bench, solid, box_of(*added), {}, meets, lay, [&](const Combined &found, const std::vector<Sheet> &sheets) {
         require(found.marked(0, tool[lids].size()).empty(), impossible(Misfit::outline_outside, face.number()));
         require(!comes_into(sheets, *added), meets);
     });

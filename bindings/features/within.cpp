@@ -1,5 +1,5 @@
 #include "within.hpp"
-#include "turns.hpp"
+#include "cones.hpp"
 
 namespace gwb_session::within {
 
@@ -8,19 +8,23 @@ namespace {
 /// Whether a piece that leads away from a point within a face lies within the solid: none where it leads along the face.
 std::optional<bool> told_by_face(const Sheet &face, const Vector &away)
 {
-    const Wide up = dot(face.plane.across, away);
+    const int up = sign_of_dot(face.plane.across, away);
     return up != 0 ? std::optional(up < 0) : std::nullopt;
 }
 
-/// The same of a point within an edge: none where it leads along the edge, or along one of its faces. The solid lies from the right face's normal turned
-/// round to the left face's one, where each is turned by a quarter: so is what leads away.
+/// The same of a point within an edge: none where it leads along the edge, or into one of its faces. The solid lies behind both faces, or where these turn
+/// back, behind one of them.
 std::optional<bool> told_by_edge(const Operands &all, const CutEdge &edge, const Vector &away)
 {
-    const Vector way = edge.side.way(), seen = cross(way, away);
-    if (edge.left == none || edge.right == none || is_zero(seen))
+    if (edge.left == none || edge.right == none)
         return std::nullopt;
-    const Vector &left = all.sheet(edge.left).plane.across, right = negative(all.sheet(edge.right).plane.across);
-    return turns::comes_first(right, seen, left, flat_axes(way));
+    const Vector &left = all.sheet(edge.left).plane.across, &right = all.sheet(edge.right).plane.across;
+    const int turn = sign_of_dot(edge.side.way(), cross(left, right)), one = sign_of_dot(left, away), other = sign_of_dot(right, away);
+    if (turn == 0)
+        return left == right ? told_by_face(all.sheet(edge.left), away) : std::nullopt;
+    if (one == 0 || other == 0) // beyond an edge, along one of the faces' planes
+        return one + other == turn ? std::optional(turn < 0) : std::nullopt;
+    return turn > 0 ? one < 0 && other < 0 : one < 0 || other < 0;
 }
 
 std::optional<bool> told_at(const Operands &all, const Spot &spot, const Vector &away)
@@ -32,87 +36,154 @@ std::optional<bool> told_at(const Operands &all, const Spot &spot, const Vector 
     }
 }
 
-/// The pieces of one solid alone, as to the other one: those that meet at points off that lie alike.
+/// The pieces of other solids, as to one: those that meet at points off that lie alike.
 class Alone {
 public:
-    Alone(Operands &all, Pieces &pieces, Number other, const Failure &why) : all_(all), pieces_(pieces.all()), other_(other), why_(why) {}
-
-    void tell(const IsWithin &is_within)
+    Alone(Operands &all, std::vector<Piece> &pieces, const Failure &why) : all_(all), pieces_(pieces), why_(why), own_(all.count())
     {
+        for (std::size_t at = 0; at < pieces.size(); at++)
+            for (const Wing &wing : pieces[at].wings)
+                if (std::vector<std::size_t> &own = own_[solid_of(wing)]; own.empty() || own.back() != at)
+                    own.push_back(at);
+        is_beside_.assign(all.count(), false);
+        is_near_.assign(pieces.size(), false);
+        known_.resize(pieces.size());
+        first_.assign(all.points.count(), SIZE_MAX);
+    }
+
+    /// Tells of all pieces near a solid.
+    void tell(Number solid, const IsWithin &is_within)
+    {
+        solid_ = solid;
+        const std::vector<Number> beside = all_.beside(solid);
+        gather(beside);
         join_pieces();
-        join_faces();
-        for (std::size_t at = 0; at < pieces_.size(); at++)
-            if (is_alone(pieces_[at]) && !known_[sets_.name(at)])
-                known_[sets_.name(at)] = told_at_ends(pieces_[at]);
-        for (std::size_t at = 0; at < pieces_.size(); at++)
-            if (is_alone(pieces_[at])) {
-                std::optional<bool> &known = known_[sets_.name(at)];
-                if (!known)
-                    known = is_within(other_, point_off(pieces_[at]));
-                pieces_[at].within[other_] = *known;
-            }
+        for (Number other : beside)
+            join_faces(other);
+        tell_sets([&](const Piece &piece) { return is_far(piece) ? std::optional(false) : told_at_ends(piece); });
+        tell_sets([&](const Piece &piece) {
+            const std::optional<ScaledPoint> point = point_off(piece);
+            return point ? std::optional(is_within(solid, *point)) : std::nullopt;
+        });
+        tell_sets([&](const Piece &piece) { return told_by_corner(piece); });
+        put_known(beside);
     }
 
 private:
-    [[nodiscard]] bool is_alone(const Piece &piece) const { return piece.wings[other_].empty(); }
-    [[nodiscard]] bool is_off(Number point) const { return all_.spot(other_, point).what == Spot::nowhere; }
+    [[nodiscard]] Number solid_of(const Wing &wing) const { return all_.faces[wing.face].solid; }
+    /// Whether a piece is of a solid that isn't near.
+    [[nodiscard]] bool is_far(const Piece &piece) const { return !all(piece.wings, [&](const Wing &wing) { return is_beside_[solid_of(wing)]; }); }
+
+    /// The pieces of solids beside this one, without its own.
+    void gather(const std::vector<Number> &beside)
+    {
+        for (Number other : beside) {
+            is_beside_[other] = true;
+            for (std::size_t at : own_[other])
+                if (!is_near_[at] && !any(pieces_[at].wings, [&](const Wing &wing) { return solid_of(wing) == solid_; })) {
+                    is_near_[at] = true;
+                    near_.push_back(at);
+                }
+        }
+    }
+
+    /// Tells of the sets of which nothing is known yet.
+    template <class Told> void tell_sets(Told told)
+    {
+        for (std::size_t at : near_)
+            if (std::optional<bool> &known = known_[sets_.name(at)]; !known)
+                known = told(pieces_[at]);
+    }
+
+    [[nodiscard]] bool is_off(Number point) const { return all_.spot(solid_, point).what == Spot::nowhere; }
 
     void join_pieces()
     {
-        first_.assign(all_.points.count(), SIZE_MAX);
-        for (std::size_t at = 0; at < pieces_.size(); at++)
-            if (is_alone(pieces_[at]))
-                for (Number end : {pieces_[at].from, pieces_[at].to})
-                    if (is_off(end)) {
-                        first_[end] = std::min(first_[end], at);
-                        sets_.join(first_[end], at);
-                    }
+        for (std::size_t at : near_)
+            for (Number end : {pieces_[at].from, pieces_[at].to})
+                if (is_off(end)) {
+                    first_[end] = first_[end] != SIZE_MAX ? first_[end] : at;
+                    sets_.join(first_[end], at);
+                }
     }
 
-    /// The loops of a face that the other solid doesn't meet lie alike.
-    void join_faces()
+    /// The loops of a face that no other solid meets lie alike.
+    void join_faces(Number other)
     {
-        for (const FlatFace &face : all_.faces) {
+        for (Number at = all_.first_face(other); at < all_.first_face(other + 1); at++) {
             go_on();
-            if (face.solid == other_ || face.is_met || !is_off(face.corners[0]))
+            const FlatFace &face = all_.faces[at];
+            const std::size_t first = first_[face.corners[0]];
+            if (face.is_met || first == SIZE_MAX)
                 continue;
             for (Number corner : face.corners)
-                if (is_off(corner))
-                    sets_.join(first_[face.corners[0]], first_[corner]);
+                if (first_[corner] != SIZE_MAX)
+                    sets_.join(first, first_[corner]);
         }
     }
 
     [[nodiscard]] std::optional<bool> told_at_ends(const Piece &piece) const
     {
-        const std::optional<bool> told = told_at(all_, all_.spot(other_, piece.from), piece.way);
-        return told ? told : told_at(all_, all_.spot(other_, piece.to), negative(piece.way));
+        const std::optional<bool> told = told_at(all_, all_.spot(solid_, piece.from), piece.way);
+        return told ? told : told_at(all_, all_.spot(solid_, piece.to), negative(piece.way));
     }
 
-    /// A point of a piece off the other solid. What lies on neither a face nor an edge of that within is whole.
-    [[nodiscard]] ScaledPoint point_off(const Piece &piece) const
+    /// A point of a piece off the solid: none where neither an end nor what lies between corners of that is one.
+    [[nodiscard]] std::optional<ScaledPoint> point_off(const Piece &piece) const
     {
         go_on();
-        const ScaledPoint &from = all_.points.at(piece.from), &to = all_.points.at(piece.to);
-        const ScaledPoint point = is_off(piece.from) ? from : is_off(piece.to) ? to : from.between(to);
-        require(point.scale <= 2, why_);
-        return point;
+        const bool are_whole = all_.points.is_whole(piece.from) && all_.points.is_whole(piece.to);
+        for (Number end : {piece.from, piece.to})
+            if (all_.points.is_whole(end) && is_off(end))
+                return all_.points.at(end);
+        return are_whole ? std::optional(all_.points.at(piece.from).between(all_.points.at(piece.to))) : std::nullopt;
+    }
+
+    [[nodiscard]] bool told_by_corner(const Piece &piece) const
+    {
+        const bool is_first = all_.spot(solid_, piece.from).what == Spot::corner;
+        const Number end = is_first ? piece.from : piece.to;
+        require(is_first || all_.spot(solid_, end).what == Spot::corner, why_);
+        const std::optional<bool> told = cones::is_within(all_, solid_, end, is_first ? piece.way : negative(piece.way));
+        require(told.has_value(), why_);
+        return *told;
+    }
+
+    /// Writes down what is known of the pieces, and forgets it for the next solid.
+    void put_known(const std::vector<Number> &beside)
+    {
+        for (std::size_t at : near_)
+            pieces_[at].within.put(solid_, *known_[sets_.name(at)]);
+        for (std::size_t at : near_) {
+            known_[at].reset();
+            is_near_[at] = false;
+            first_[pieces_[at].from] = first_[pieces_[at].to] = SIZE_MAX;
+        }
+        for (Number other : beside)
+            is_beside_[other] = false;
+        near_.clear(), sets_ = {};
     }
 
     Operands &all_;
     std::vector<Piece> &pieces_;
-    Number other_;
     const Failure &why_;
-    JoinedSets<std::size_t> sets_;   ///< of pieces that lie alike
-    std::vector<std::size_t> first_; ///< piece at each point
-    std::unordered_map<std::size_t, std::optional<bool>> known_;
+    std::vector<std::vector<std::size_t>> own_; ///< pieces by the solids whose they are
+    Number solid_ = 0;
+    std::vector<bool> is_beside_;            ///< solids
+    std::vector<std::size_t> near_;          ///< pieces beside the solid of which it has no wing
+    std::vector<bool> is_near_;              ///< the same
+    JoinedSets<std::size_t> sets_;           ///< of pieces that lie alike
+    std::vector<std::size_t> first_;         ///< piece at each point off the solid
+    std::vector<std::optional<bool>> known_; ///< by the names of sets
 };
 
 } // namespace
 
 void tell(Operands &all, Pieces &pieces, const IsWithin &is_within, const Failure &why)
 {
-    for (Number other : {0U, 1U})
-        Alone(all, pieces, other, why).tell(is_within);
+    Alone alone(all, pieces.all(), why);
+    for (Number solid = 0; solid < all.count(); solid++)
+        alone.tell(solid, is_within);
 }
 
 } // namespace gwb_session::within

@@ -215,7 +215,7 @@ class SolidMethods(Methods):
         become one, and so do the edges that go on straight.
 
         Refused: NoSolid, NotFlat; OffLattice, with the least factor by which all must be scaled, or 0 where that passes 2^32 - 1; Meets: what is made would
-        touch itself. Of more than two solids two at a time are combined, and two that can't be wait until others were."""
+        touch itself. All are combined at once, so their order doesn't matter."""
         numbers = self._different('solids', solids, 'solid', 2)
         return self._combined('union', numbers[0], words(numbers), len(numbers))
 
