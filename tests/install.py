@@ -22,9 +22,9 @@ COMPANIONS = sorted(path.name for path in (TOP / 'companions').glob('gwb-*'))
 VERSION = (TOP / 'VERSION').read_text().strip()
 SONAME = 'libgwb.so.' + VERSION.split('.')[0]
 LIBRARY = ['include/gwb.h', 'include/gwb.hpp', 'include/gwb_history.hpp', 'include/gwb_features.h', 'include/gwb_made.hpp', 'include/gwb_features.hpp',
-           'include/gwb_triangles.hpp', 'include/gwb_export.hpp', 'include/gwb_cgal.hpp', 'include/gwb_names.h', 'lib/libgwb.a', 'lib/libgwb_c.a', 'lib/libgwb.so', f'lib/{SONAME}',
-           f'lib/libgwb.so.{VERSION}', 'lib/pkgconfig/gwb.pc', 'lib/pkgconfig/gwb-static.pc', 'lib/cmake/gwb/gwb-config.cmake',
-           'lib/cmake/gwb/gwb-config-version.cmake', 'share/gwb/heap.c', 'share/gwb/heap.h']
+           'include/gwb_triangles.hpp', 'include/gwb_export.hpp', 'include/gwb_lengths.hpp', 'include/gwb_cgal.hpp', 'include/gwb_names.h', 'lib/libgwb.a',
+           'lib/libgwb_c.a', 'lib/libgwb.so', f'lib/{SONAME}', f'lib/libgwb.so.{VERSION}', 'lib/pkgconfig/gwb.pc', 'lib/pkgconfig/gwb-static.pc',
+           'lib/cmake/gwb/gwb-config.cmake', 'lib/cmake/gwb/gwb-config-version.cmake', 'share/gwb/heap.c', 'share/gwb/heap.h']
 # What pages link to in the sources alone.
 SOURCES = ('bench', 'bindings/heap.c', 'companions/tests', 'crates', 'tests')
 PROGRAM = '''#include <gwb.h>

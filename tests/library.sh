@@ -142,6 +142,7 @@ for standard in c++17 c++20; do
     built "the tests in C++ are built as $standard" library_cpp.cpp "${CXX:-c++}" "-std=$standard" -Wold-style-cast -Wshadow
     counted "the tests in C++ as $standard" "$dir/alone/library_cpp"
 done
+counted 'lengths when compiled' tests/library_lengths.py
 built 'the tests without exceptions are built' library_results.cpp "${CXX:-c++}" -std=c++17 -fno-exceptions -Wold-style-cast -Wshadow
 counted 'the tests without exceptions' "$dir/built/library_results"
 built 'history is built' library_history.cpp "${CXX:-c++}" -std=c++17 -Wold-style-cast -Wshadow

@@ -21,6 +21,8 @@
  * - A handle may go from thread to thread: a session has no lock, no thread-local and no global variable. Only its heap has to be one that
  *   all of its threads may use, as malloc is.
  *
+ * How long a step from one coordinate to the next is, is the caller's affair.
+ *
  * A closed handle is one before gwb_open or after gwb_close. A call for a closed handle changes nothing and writes nothing. */
 #ifndef GWB_H
 #define GWB_H

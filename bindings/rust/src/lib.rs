@@ -19,7 +19,7 @@
 //! ```
 //!
 //! Numbers are types of their own ([`Solid`], [`Face`], [`Loop`], [`Edge`], [`Vertex`]), from 1 to 1,000,000; coordinates are whole numbers
-//! within 1,000,000,000 either way; what is outside is refused. A [`HalfEdge`] is one of the two sides of an edge: [`plus`], [`minus`]. A
+//! within 1,000,000,000 either way; what is outside is refused. What a step is, is the caller's affair: [`mm!`] takes it as 1/1000 mm. A [`HalfEdge`] is one of the two sides of an edge: [`plus`], [`minus`]. A
 //! [`Corner`] is where one starts, or [`lone`] for the one corner of a loop that has a vertex and no edge.
 //!
 //! The crate links `libgwb.a`, by `gwb-sys`: from bindings/out, from the folder that the environment variable `GWB_LIB_DIR` names, or from
@@ -34,6 +34,8 @@ mod exporting;
 mod features;
 mod history;
 mod ids;
+#[doc(hidden)]
+pub mod lengths;
 mod named;
 mod off_lattice;
 mod operators;
