@@ -54,7 +54,7 @@ static void try_nested()
 {
     Workbench bench;
     const Block block = bench.block({0, 0, 0}, {4, 4, 4});
-    Notes<Face, int> outer, inner;
+    Notes<Face, int> outer(bench), inner(bench);
     outer[block.sides[0]] = inner[block.top] = 7;
     Changes within;
     const Changes changes = follow(
@@ -100,8 +100,8 @@ static void try_splits()
 {
     Workbench bench;
     const Solid block = bench.block({0, 0, 0}, {12, 12, 12});
-    Colours colours;
-    Notes<Edge, int> marks;
+    Colours colours(bench);
+    Notes<Edge, int> marks(bench);
     for (Face face : bench.faces(block))
         colours[face] = plane_of(bench, face);
     marks[Edge(7)] = 7;
@@ -113,11 +113,11 @@ static void try_splits()
     follow(bench, [&] { bench.split(Solid(3), 1, 1, 1, -34, Solid(4)); }, colours, marks);
     check(are_right(bench, colours, 16, 23), "a corner that is cut off has the colours of its faces");
     const Colours whole = colours;
-    follow_undo(bench, colours, marks);
-    follow_undo(bench, colours, marks);
+    follow_undo(bench);
+    follow_undo(bench);
     check(are_right(bench, colours, 10, 12), "undo leaves one side");
-    follow_redo(bench, colours, marks);
-    follow_redo(bench, colours, marks);
+    follow_redo(bench);
+    follow_redo(bench);
     check(are_right(bench, colours, 16, 23) && colours.all() == whole.all(), "redo gives back what was there");
 }
 
@@ -127,13 +127,13 @@ static void try_gone()
     Workbench bench;
     bench.block(Solid(1), {0, 0, 0}, {4, 4, 4});
     bench.block(Solid(2), {0, 0, 4}, {4, 4, 4});
-    Notes<Face, std::string> names;
+    Notes<Face, std::string> names(bench);
     names[Face(1)] = "top", names[Face(8)] = "bottom", names[Face(3)] = "side";
     const Changes changes = follow(bench, [&] { bench.glue(Face(1), Face(8)); }, names);
     check(told(changes.faces.removed).size() == 2 && names.all().size() == 1 && changes.edges.removed.size() == 4, "what a gluing removes");
-    follow_undo(bench, names);
+    follow_undo(bench);
     check(names.all().size() == 3 && *names.find(Face(1)) == "top", "undo gives their names back");
-    follow_redo(bench, names);
+    follow_redo(bench);
     bench.undo();
     follow(bench, [&] { bench.undo(); bench.block(Solid(2), {0, 0, 4}, {2, 2, 2}); }, names);
     check(names.find(Face(8)) == nullptr && *names.find(Face(3)) == "side", "another face of the same number has no name");
@@ -147,39 +147,108 @@ static void try_numbers_used_again()
 {
     Workbench bench;
     const Solid block = bench.block({0, 0, 0}, {4, 4, 4});
-    Notes<Face, std::string> colours;
+    Notes<Face, std::string> colours(bench);
     colours[Face(3)] = "red";
     follow(bench, [&] { bench.split(block, 0, 0, 1, -2); }, colours);
-    follow_undo(bench, colours);
+    follow_undo(bench);
     colours.erase(Face(3));
     follow(bench, [&] { bench.block({40, 0, 0}, {4, 4, 4}); }, colours);
-    follow_undo(bench, colours);
-    follow_redo(bench, colours);
+    follow_undo(bench);
+    follow_redo(bench);
     check(colours.all().empty(), "a block that has the numbers of a part has no colour of it");
 
     Workbench other;
     other.block({0, 0, 0}, {4, 4, 4});
-    Notes<Face, std::string> names;
+    Notes<Face, std::string> names(other);
     names[Face(1)] = "red";
     follow(other, [&] { kill_solid(other, Solid(1)); }, names);
     follow(other, [&] { other.block(Solid(1), {9, 9, 9}, {4, 4, 4}); }, names);
     follow(other, [&] { kill_solid(other, Solid(1)); }, names);
-    follow_undo(other, names);
+    follow_undo(other);
     check(names.all().empty(), "nor has one with the numbers of one that is gone");
-    follow_undo(other, names);
-    follow_undo(other, names);
+    follow_undo(other);
+    follow_undo(other);
     check(names.all().size() == 1 && *names.find(Face(1)) == "red", "which has it when it is there again");
-    follow_redo(other, names);
-    follow_redo(other, names);
+    follow_redo(other);
+    follow_redo(other);
     names[Face(1)] = "blue";
-    follow_redo(other, names);
-    follow_undo(other, names);
+    follow_redo(other);
+    follow_undo(other);
     check(*names.find(Face(1)) == "blue", "the colour that it had when it went");
     other.undo();
     other.undo();
     follow(other, [&] { (void)other.mvfs({30, 0, 0}); }, names);
-    follow_undo(other, names);
+    follow_undo(other);
     check(!names.find(Face(7)), "commands that nothing followed");
+}
+
+// What came and went where nobody could see it: in a draft that was given up, and in one follow or draft.
+static void try_gone_unseen()
+{
+    Workbench bench;
+    Notes<Face, std::string> colours(bench);
+    Block block{};
+    follow(bench, [&] {
+        const Draft draft = bench.draft();
+        block = bench.block({0, 0, 0}, {4, 4, 4});
+        colours[block.top] = "red";
+    }, colours);
+    check(colours.find(block.top) == nullptr && birth(bench, block.top) == 0, "what was made in a draft that is given up has no colour");
+    follow(bench, [&] { block = bench.block({90, 0, 0}, {9, 9, 9}); }, colours);
+    check(block.top == Face(1) && colours.all().empty(), "nor has what has its number then");
+    follow(bench, [&] {
+        const Block other = bench.block({30, 0, 0}, {4, 4, 4});
+        colours[other.top] = "red";
+        kill_solid(bench, other);
+    }, colours);
+    const Block third = bench.block({60, 0, 0}, {4, 4, 4});
+    check(third.top == Face(7) && colours.find(third.top) == nullptr, "what was made, coloured and killed in one follow");
+    colours[third.top] = "blue";
+    Changes changes = follow(bench, [&] {
+        Draft draft = bench.draft();
+        kill_solid(bench, third);
+        (void)bench.block(third.solid, {-60, 0, 0}, {4, 4, 4});
+        draft.commit();
+    }, colours);
+    check(colours.find(third.top) == nullptr, "what was killed, and another made, in one draft");
+    check(changes.faces.made.size() == 6 && changes.faces.removed.size() == 6 && changes.faces.made[0].id == third.top, "and both are told");
+    bench.undo();
+    check(colours.find(third.top) != nullptr && colours.all().at(third.top) == "blue", "it has its colour again, though nobody followed");
+    bench.redo();
+    check(colours.all().empty(), "and not when it is gone");
+}
+
+// What has no value has none when it is there again, though what it was joined to has one.
+static void try_joined()
+{
+    Workbench bench;
+    const Block block = bench.block({0, 0, 0}, {4, 4, 4});
+    Notes<Face, std::string> colours(bench);
+    bench.mef(plus(Edge(7)), plus(Edge(11)), Edge(20), Face(20), Loop(20));
+    colours[bench.face_of(plus(Edge(20)))] = "red";
+    follow(bench, [&] { bench.kef(plus(Edge(20))); }, colours);
+    follow(bench, [&] { bench.undo(); }, colours);
+    check(bench.faces_of(Edge(20)).size() == 2 && colours.all().size() == 1, "one of two faces that were joined");
+    check(bench.count(block).faces == 7, "both are there again");
+}
+
+// All numbers become others, and values go along, also through undo.
+static void try_renumbered()
+{
+    Workbench bench;
+    const Block first = bench.block({0, 0, 0}, {4, 4, 4}), second = bench.block({30, 0, 0}, {4, 4, 4});
+    Notes<Face, std::string> colours(bench);
+    Notes<Vertex, int> corners(bench);
+    colours[second.top] = "red", colours[first.top] = "blue", corners[Vertex(9)] = 9;
+    follow(bench, [&] {
+        kill_solid(bench, first);
+        renumber(bench);
+    }, colours);
+    check(colours.all().size() == 1 && *colours.find(Face(1)) == "red" && *corners.find(Vertex(1)) == 9, "a colour goes along with its face");
+    bench.undo();
+    check(*colours.find(second.top) == "red" && colours.find(first.top) == nullptr && corners.all().size() == 1, "and back");
+    bench.undo();
+    check(colours.all().size() == 2, "and that of a face that is there again");
 }
 
 // What is accepted before a throw is followed, and what undo refuses is told.
@@ -187,7 +256,7 @@ static void try_throws()
 {
     Workbench bench;
     const Solid block = bench.block({0, 0, 0}, {4, 4, 4});
-    Notes<Face, std::string> colours;
+    Notes<Face, std::string> colours(bench);
     colours[Face(3)] = "red";
     bool was_thrown = false;
     try {
@@ -198,10 +267,10 @@ static void try_throws()
     check(was_thrown && colours.all().size() == 2, "a command before one that throws");
     Workbench empty;
     Attempts attempt = empty.attempt();
-    check(!follow_undo(attempt, colours) && !follow_redo(attempt, colours), "nothing to undo or redo");
+    check(!follow_undo(attempt) && !follow_redo(attempt), "nothing to undo or redo");
     const Draft draft = bench.draft();
     Attempts drafting = bench.attempt();
-    check(follow_undo(drafting, colours).error().problem == Problem::in_draft && colours.all().size() == 2, "undo in a draft");
+    check(follow_undo(drafting).error().problem == Problem::in_draft && colours.all().size() == 2, "undo in a draft");
 }
 
 // Walls are no parts of the face that is moved; a copy has the values of what it is of.
@@ -209,7 +278,7 @@ static void try_walls_and_copies()
 {
     Workbench bench;
     const Block block = bench.block({0, 0, 0}, {8, 8, 8});
-    Notes<Face, std::string> colours;
+    Notes<Face, std::string> colours(bench);
     colours[block.top] = "red";
     follow(bench, [&] { bench.sweep(block.top, {0, 0, 3}); }, colours);
     check(colours.all().size() == 1, "a face that is moved");
@@ -371,7 +440,7 @@ static void try_what_was_before()
     check(changes.faces.made.size() == 6, "a step of a draft that was open");
     draft.commit();
     changes = follow_undo(bench);
-    check(changes.faces.removed.size() == 12 && changes.turn == Turn::undo, "the whole draft is undone");
+    check(changes.faces.removed.size() == 12, "the whole draft is undone");
     changes = follow_undo(bench);
     check(changes.faces.removed.size() == 6, "and a command that nobody followed");
     changes = follow_undo(bench);
@@ -428,7 +497,8 @@ static void try_costs()
 
 int main()
 {
-    for (void (*part)() : {try_operators, try_nested, try_splits, try_gone, try_numbers_used_again, try_throws, try_walls_and_copies, try_touched,
+    for (void (*part)() : {try_operators, try_nested, try_splits, try_gone, try_numbers_used_again, try_gone_unseen, try_joined, try_renumbered, try_throws,
+                           try_walls_and_copies, try_touched,
                            try_what_was_before, try_draft_given_up, try_costs}) {
         try {
             part();

@@ -1,8 +1,8 @@
 //! What commands made, removed and split of a model, and values on faces and edges that follow it.
 use crate::readers::values;
-use crate::{Edge, Error, Face, Id, Session};
+use crate::{Edge, Error, Face, Id, Readers, Session};
 use std::collections::BTreeMap;
-use std::ops::Range;
+use std::marker::PhantomData;
 
 /// A number that is new or gone.
 #[derive(Clone, Copy, Debug, PartialEq, Eq)]
@@ -11,6 +11,10 @@ pub struct Change<N> {
     pub id: N,
     /// What it was split from, or joined to, if from or to anything.
     pub other: Option<N>,
+    /// The birth of what was made, or is gone.
+    pub birth: u64,
+    /// That of the other one, as it was where this was made, or as it is; none also where what is there came back.
+    pub other_birth: Option<u64>,
 }
 
 /// What commands did to the numbers of a kind.
@@ -22,31 +26,17 @@ pub struct ChangesOf<N> {
     pub removed: Vec<Change<N>>,
 }
 
-/// How a model changed.
-#[derive(Clone, Copy, Debug, Default, PartialEq, Eq)]
-#[allow(missing_docs)]
-pub enum Turn {
-    #[default]
-    Commands,
-    Undo,
-    Redo,
-}
-
 /// What commands did to a model.
 #[derive(Clone, Debug, Default, PartialEq, Eq)]
 #[allow(missing_docs)]
 pub struct Changes {
     pub faces: ChangesOf<Face>,
     pub edges: ChangesOf<Edge>,
-    /// Whether they were undone, or done again.
-    pub turn: Turn,
     /// How many commands could be undone before and after them.
     pub depths: [usize; 2],
-    /// What [`changes`](Readers::changes) was before and after them.
-    pub counts: [u64; 2],
 }
 
-/// What values can be noted on: [`Face`] and [`Edge`].
+/// What is told of changes: [`Face`] and [`Edge`].
 pub trait Noted: Id {
     /// What became of the numbers of this kind.
     fn of(changes: &Changes) -> &ChangesOf<Self>;
@@ -69,7 +59,6 @@ struct Watching<'session> {
     session: &'session mut Session,
     place: usize,
     depth: usize,
-    count: u64,
 }
 
 // SAFETY, for all calls in this file: as in readers.rs.
@@ -78,15 +67,14 @@ impl<'session> Watching<'session> {
         let mut place = 0;
         let answer = unsafe { gwb_sys::gwb_watch_from(session.handle(), &mut place) };
         session.answered(answer)?;
-        let (depth, count) = (session.depth(), session.changes());
-        Ok(Self { session, place, depth, count })
+        let depth = session.depth();
+        Ok(Self { session, place, depth })
     }
 
-    fn changes(&self, turn: Turn) -> Result<Changes, Error> {
+    fn changes(&self) -> Result<Changes, Error> {
         let answer = unsafe { gwb_sys::gwb_compare_from(self.session.handle(), self.place) };
         self.session.answered(answer)?;
-        let (depths, counts) = ([self.depth, self.session.depth()], [self.count, self.session.changes()]);
-        Ok(Changes { faces: self.changes_of(), edges: self.changes_of(), turn, depths, counts })
+        Ok(Changes { faces: self.changes_of(), edges: self.changes_of(), depths: [self.depth, self.session.depth()] })
     }
 
     fn changes_of<N: Noted>(&self) -> ChangesOf<N> {
@@ -94,13 +82,32 @@ impl<'session> Watching<'session> {
     }
 
     fn listed<N: Noted>(&self, are_made: bool) -> Vec<Change<N>> {
-        values(|rows, room| unsafe { gwb_sys::gwb_compared(self.session.handle(), N::KIND, are_made, rows, room) })
+        values(|rows, room| unsafe { gwb_sys::gwb_compared_births(self.session.handle(), N::KIND, are_made, rows, room) })
     }
 }
 
-impl<N: Id> From<gwb_sys::Change> for Change<N> {
-    fn from(row: gwb_sys::Change) -> Self {
-        Self { id: N::from_number(row.number), other: Some(row.other).filter(|&number| number != 0).map(N::from_number) }
+impl<N: Id> From<gwb_sys::BornChange> for Change<N> {
+    fn from(row: gwb_sys::BornChange) -> Self {
+        Self {
+            id: N::from_number(row.number),
+            other: Some(row.other).filter(|&number| number != 0).map(N::from_number),
+            birth: row.birth,
+            other_birth: known(row.other_birth),
+        }
+    }
+}
+
+/// A birth, where it is known.
+fn known(birth: u64) -> Option<u64> {
+    Some(birth).filter(|&birth| birth != 0)
+}
+
+impl Readers {
+    /// The birth of what has a number, which tells it from what has that number later: none where nothing has it, and where no birth is known, as before
+    /// the first [`Notes`] of the session.
+    #[must_use]
+    pub fn birth<N: Id>(&self, id: N) -> Option<u64> {
+        known(unsafe { gwb_sys::gwb_birth(self.handle(), N::KIND, id.number()) })
     }
 }
 
@@ -117,13 +124,13 @@ impl Session {
     /// # use gwb::{Error, Face, Notes, Session};
     /// # let mut session = Session::new()?;
     /// let block = session.block(None, [0, 0, 0], [4, 4, 4])?;
-    /// let mut colours = Notes::from([(Face(3), "red")]);
+    /// let mut colours = Notes::new(&mut session)?;
+    /// colours.insert(&session, Face(3), "red");
     /// let (_, changes) = session.followed(|session| session.split(block, [0, 0, 1, -2], None))?;
     /// colours.follow(&changes);
-    /// assert_eq!(colours.iter().count(), 2); // face 3, and the part of it that is above
-    /// let changes = session.followed_undo()?;
-    /// colours.follow(&changes);
-    /// assert_eq!(colours.iter().count(), 1);
+    /// assert_eq!(colours.iter(&session).count(), 2); // face 3, and the part of it that is above
+    /// session.undo()?;
+    /// assert_eq!(colours.iter(&session).count(), 1);
     /// # Ok::<(), Error>(())
     /// ```
     ///
@@ -132,19 +139,19 @@ impl Session {
     pub fn followed<T>(&mut self, give: impl FnOnce(&mut Self) -> Result<T, Error>) -> Result<(T, Changes), (Error, Box<Changes>)> {
         let watching = Watching::new(self).map_err(|error| (error, Box::default()))?;
         let given = give(&mut *watching.session);
-        match (given, watching.changes(Turn::Commands)) {
+        match (given, watching.changes()) {
             (Ok(value), Ok(changes)) => Ok((value, changes)),
             (Err(error), changes) => Err((error, Box::new(changes.unwrap_or_default()))),
             (Ok(_), Err(error)) => Err((error, Box::default())),
         }
     }
 
-    /// Takes the last command back, and says what that did.
+    /// Takes the last command back, and says what that did. [`Notes`] need no such call: they follow births.
     ///
     /// # Errors
     /// As [`undo`](Self::undo); [`Error::Memory`] also where it is refused for what that did.
     pub fn followed_undo(&mut self) -> Result<Changes, Error> {
-        self.turned(Turn::Undo, Self::undo)
+        self.turned(Self::undo)
     }
 
     /// Does the command again that was taken back last, and says what that did.
@@ -152,13 +159,13 @@ impl Session {
     /// # Errors
     /// As [`redo`](Self::redo); [`Error::Memory`] also where it is refused for what that did.
     pub fn followed_redo(&mut self) -> Result<Changes, Error> {
-        self.turned(Turn::Redo, Self::redo)
+        self.turned(Self::redo)
     }
 
-    fn turned(&mut self, turn: Turn, give: impl FnOnce(&mut Self) -> Result<(), Error>) -> Result<Changes, Error> {
+    fn turned(&mut self, give: impl FnOnce(&mut Self) -> Result<(), Error>) -> Result<Changes, Error> {
         let watching = Watching::new(self)?;
         give(&mut *watching.session)?;
-        watching.changes(turn)
+        watching.changes()
     }
 }
 
@@ -169,116 +176,64 @@ impl From<(Error, Box<Changes>)> for Error {
     }
 }
 
-/// Values on faces or on edges, which follow what becomes of them: a part that was split off has a copy of the value; what is gone has none, and has
-/// it back where undo or redo of the command by which it went makes it again. A copy of a solid has the values that
-/// [`copied`](Self::copied) gives it.
+/// Values on faces, on edges or on what else has a number. Each is of one thing, told by its [`birth`](Readers::birth): another one that has the number later
+/// hasn't it, and where undo, redo or a draft brings the thing back, so does the value come back. Of faces and edges a part that was split off by commands
+/// that are [`followed`](Session::followed) has a copy of the value; of a copy of a solid that is what [`copied`](Self::copied) gives. Where memory for births
+/// is refused, nothing is found any more.
 #[derive(Clone, Debug, PartialEq, Eq)]
 pub struct Notes<N, V> {
-    values: BTreeMap<N, V>,
-    steps: Vec<Step<N, V>>,
-    seen: u64,
+    values: BTreeMap<u64, V>,
+    kind: PhantomData<N>,
 }
 
-/// Followed commands, of those that could be undone the ones of these places; and the values of what went when they were done, and of what went when
-/// they were undone.
-#[derive(Clone, Debug, PartialEq, Eq)]
-struct Step<N, V> {
-    commands: Range<usize>,
-    done: BTreeMap<N, V>,
-    undone: BTreeMap<N, V>,
-}
+impl<N: Id, V> Notes<N, V> {
+    /// No values: of what the session has from here on. All later ones are of the same session.
+    ///
+    /// # Errors
+    /// [`Error::Memory`].
+    pub fn new(session: &mut Session) -> Result<Self, Error> {
+        Watching::new(session)?;
+        Ok(Self { values: BTreeMap::new(), kind: PhantomData })
+    }
 
-impl<N: Noted, V: Clone> Notes<N, V> {
-    /// No values.
+    /// Gives what has a number a value; the one that it had is returned. Nothing happens where nothing has the number.
+    pub fn insert(&mut self, of: &Readers, id: N, value: V) -> Option<V> {
+        self.values.insert(of.birth(id)?, value)
+    }
+
+    /// Takes the value of what has a number.
+    pub fn remove(&mut self, of: &Readers, id: N) -> Option<V> {
+        self.values.remove(&of.birth(id)?)
+    }
+
+    /// The value of what has a number, where it has one.
     #[must_use]
-    pub fn new() -> Self {
-        Self::default()
-    }
-
-    /// Gives a number a value; the one that it had is returned.
-    pub fn insert(&mut self, id: N, value: V) -> Option<V> {
-        self.values.insert(id, value)
-    }
-
-    /// Takes the value of a number.
-    pub fn remove(&mut self, id: N) -> Option<V> {
-        self.values.remove(&id)
-    }
-
-    /// The value of a number, where it has one.
-    #[must_use]
-    pub fn get(&self, id: N) -> Option<&V> {
-        self.values.get(&id)
+    pub fn get(&self, of: &Readers, id: N) -> Option<&V> {
+        self.values.get(&of.birth(id)?)
     }
 
     /// All that have one, rising.
-    pub fn iter(&self) -> impl Iterator<Item = (N, &V)> {
-        self.values.iter().map(|(&id, value)| (id, value))
+    pub fn iter<'all>(&'all self, of: &'all Readers) -> impl Iterator<Item = (N, &'all V)> {
+        of.numbers::<N>().filter_map(move |id| Some((id, self.get(of, id)?)))
     }
+}
 
-    /// After commands that changed so much. What commands did that it didn't follow can't be undone with their values.
-    pub fn follow(&mut self, changes: &Changes) {
-        let (of, step) = (N::of(changes), self.step_of(changes));
-        let had = step.filter(|_| changes.turn != Turn::Commands).map(|at| self.steps[at].gone(changes.turn == Turn::Undo));
-        let value = |made: &Change<N>| had.and_then(|had| had.get(&made.id)).or_else(|| self.values.get(&made.other?)).cloned();
-        let parts: Vec<(N, V)> = of.made.iter().filter_map(|made| value(made).map(|value| (made.id, value))).collect();
-        for removed in &of.removed {
-            let value = self.values.remove(&removed.id);
-            if let Some(step) = step.map(|at| &mut self.steps[at]) {
-                let gone = if changes.turn == Turn::Undo { &mut step.undone } else { &mut step.done };
-                gone.remove(&removed.id);
-                gone.extend(value.map(|value| (removed.id, value)));
+impl<N: Id, V: Clone> Notes<N, V> {
+    /// After commands that changed so much.
+    pub fn follow(&mut self, changes: &Changes)
+    where
+        N: Noted,
+    {
+        for made in &N::of(changes).made {
+            if let Some(value) = made.other_birth.and_then(|birth| self.values.get(&birth)).cloned() {
+                self.values.entry(made.birth).or_insert(value);
             }
         }
-        self.values.extend(parts);
     }
 
-    /// The parts of a copy have the values of those that they are of: `notes.copied(|face| copy.face(face))`.
-    pub fn copied(&mut self, of: impl Fn(N) -> Option<N>) {
-        let made: Vec<(N, V)> = self.values.iter().filter_map(|(&id, value)| Some((of(id)?, value.clone()))).collect();
+    /// The parts of a copy have the values of those that they are of: `notes.copied(&session, |face| copy.face(face))`.
+    pub fn copied(&mut self, of: &Readers, copy: impl Fn(N) -> Option<N>) {
+        let made: Vec<(u64, V)> = self.iter(of).filter_map(|(id, value)| Some((of.birth(copy(id)?)?, value.clone()))).collect();
         self.values.extend(made);
-    }
-
-    /// All numbers have become others ([`renumber`](crate::Operators::renumber)), which following doesn't tell: `notes.renumbered(|face| all.face(face))`,
-    /// after its undo of `all.back()`.
-    pub fn renumbered(&mut self, of: impl Fn(N) -> Option<N>) {
-        let values = std::mem::take(&mut self.values);
-        self.values = values.into_iter().filter_map(|(id, value)| Some((of(id)?, value))).collect();
-        self.steps.clear();
-    }
-
-    /// The step that changed, a new one for new commands; none where it wasn't followed, or was within a draft.
-    fn step_of(&mut self, changes: &Changes) -> Option<usize> {
-        let [from, to] = changes.depths;
-        if std::mem::replace(&mut self.seen, changes.counts[1]) != changes.counts[0] {
-            self.steps.clear();
-        }
-        if changes.turn == Turn::Commands {
-            self.steps.retain(|step| step.commands.end <= from);
-            if to > from {
-                self.steps.push(Step { commands: from..to, done: BTreeMap::new(), undone: BTreeMap::new() });
-            }
-            return self.steps.len().checked_sub(1).filter(|_| to > from);
-        }
-        self.steps.iter().rposition(|step| step.commands.contains(&from.min(to)))
-    }
-}
-
-impl<N, V> Step<N, V> {
-    /// What went when it was done, or undone.
-    fn gone(&self, is_done: bool) -> &BTreeMap<N, V> {
-        if is_done { &self.done } else { &self.undone }
-    }
-}
-
-impl<N: Noted, V, const COUNT: usize> From<[(N, V); COUNT]> for Notes<N, V> {
-    fn from(values: [(N, V); COUNT]) -> Self {
-        Self { values: BTreeMap::from(values), ..Self::default() }
-    }
-}
-
-impl<N, V> Default for Notes<N, V> {
-    fn default() -> Self {
-        Self { values: BTreeMap::new(), steps: Vec::new(), seen: 0 }
     }
 }

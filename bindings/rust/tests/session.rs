@@ -371,48 +371,85 @@ fn plane_of(session: &Session, face: Face) -> [i128; 4] {
 fn colours_follow_splits() {
     let mut session = Session::new().unwrap();
     let block = session.block(None, [0, 0, 0], [12, 12, 12]).unwrap();
-    let mut colours = Notes::new();
+    let mut colours = Notes::new(&mut session).unwrap();
     for face in session.faces(block) {
-        colours.insert(face, plane_of(&session, face));
+        colours.insert(&session, face, plane_of(&session, face));
     }
     let mut counts = Vec::new();
     for (solid, plane, above) in [(1, [0, 0, 1, -6], 2), (2, [1, 0, 0, -6], 3), (3, [1, 1, 1, -34], 4)] {
         let (_, changes) = session.followed(|session| session.split(Solid(solid), plane, Solid(above))).unwrap();
         colours.follow(&changes);
-        assert!(colours.iter().all(|(face, plane)| *plane == plane_of(&session, face)));
-        counts.push((colours.iter().count(), session.numbers::<Face>().count()));
+        assert!(colours.iter(&session).all(|(face, plane)| *plane == plane_of(&session, face)));
+        counts.push((colours.iter(&session).count(), session.numbers::<Face>().count()));
     }
     assert_eq!(counts, [(10, 12), (13, 18), (16, 23)]);
-    let whole = colours.clone();
-    for turn in [Session::followed_undo, Session::followed_undo, Session::followed_redo, Session::followed_redo] {
-        colours.follow(&turn(&mut session).unwrap());
+    let whole: Vec<(Face, [i128; 4])> = colours.iter(&session).map(|(face, plane)| (face, *plane)).collect();
+    for turn in [Session::undo, Session::undo, Session::redo, Session::redo] {
+        turn(&mut session).unwrap();
     }
-    assert!(colours.iter().eq(whole.iter()));
+    assert!(colours.iter(&session).map(|(face, plane)| (face, *plane)).eq(whole));
 }
 
 /// A number that comes again has the value that it had when it went by that command, and none of another command.
 #[test]
 fn numbers_used_again_have_no_colour() {
     let mut session = block();
-    let mut colours = Notes::from([(Face(1), "red")]);
-    let follow = |session: &mut Session, colours: &mut Notes<_, _>, give: fn(&mut Session) -> Result<(), Error>| {
-        colours.follow(&session.followed(give).unwrap().1);
-    };
-    follow(&mut session, &mut colours, |session| session.kill_solid(Solid(1)));
-    follow(&mut session, &mut colours, |session| session.block(Solid(1), [9, 9, 9], [4, 4, 4]).map(drop));
-    follow(&mut session, &mut colours, |session| session.kill_solid(Solid(1)));
-    colours.follow(&session.followed_undo().unwrap());
-    assert_eq!(colours.iter().count(), 0);
-    colours.follow(&session.followed_undo().unwrap());
-    colours.follow(&session.followed_undo().unwrap());
-    assert_eq!((colours.get(Face(1)), colours.iter().count()), (Some(&"red"), 1));
+    let mut colours = Notes::new(&mut session).unwrap();
+    colours.insert(&session, Face(1), "red");
+    session.kill_solid(Solid(1)).unwrap();
+    session.block(Solid(1), [9, 9, 9], [4, 4, 4]).unwrap();
+    assert_eq!(colours.iter(&session).count(), 0);
+    session.kill_solid(Solid(1)).unwrap();
+    session.undo().unwrap();
+    assert_eq!(colours.iter(&session).count(), 0);
+    session.undo().unwrap();
+    session.undo().unwrap();
+    assert_eq!((colours.get(&session, Face(1)), colours.iter(&session).count()), (Some(&"red"), 1));
+}
+
+/// What came and went where nobody could see it: in a draft that was given up, and in one command that was followed. A renumbered face has its colour.
+#[test]
+fn what_went_unseen_has_no_colour() {
+    let mut session = Session::new().unwrap();
+    let mut colours = Notes::new(&mut session).unwrap();
+    let given_up = session.followed(|session| {
+        let mut draft = session.draft()?;
+        let top = draft.block(None, [0, 0, 0], [4, 4, 4]).map(|_| Face(1))?;
+        colours.insert(&draft, top, "red");
+        Ok(())
+    });
+    colours.follow(&given_up.unwrap().1);
+    let (other, changes) = session.followed(|session| session.block(None, [9, 0, 0], [4, 4, 4])).unwrap();
+    colours.follow(&changes);
+    assert_eq!((colours.get(&session, Face(1)), session.birth(Face(99))), (None, None));
+    colours.insert(&session, Face(1), "blue");
+    let replaced = session.followed(|session| {
+        let mut draft = session.draft()?;
+        draft.kill_solid(other)?;
+        draft.block(other, [30, 0, 0], [4, 4, 4])?;
+        draft.commit()
+    });
+    let changes = replaced.unwrap().1;
+    colours.follow(&changes);
+    assert_eq!((changes.faces.made.len(), changes.faces.removed.len(), colours.iter(&session).count()), (6, 6, 0));
+    session.undo().unwrap();
+    session.block(Solid(7), [90, 0, 0], [4, 4, 4]).unwrap();
+    colours.insert(&session, Face(7), "green");
+    session.kill_solid(other).unwrap();
+    session.renumber().unwrap();
+    assert_eq!(colours.iter(&session).collect::<Vec<_>>(), [(Face(1), &"green")]);
+    session.undo().unwrap();
+    session.undo().unwrap();
+    assert_eq!(colours.iter(&session).collect::<Vec<_>>(), [(Face(1), &"blue"), (Face(7), &"green")]);
+    assert_eq!((colours.remove(&session, Face(1)), colours.get(&session, Face(1))), (Some("blue"), None));
 }
 
 /// What is followed within another is told to both.
 #[test]
 fn followed_within_another() {
     let mut session = block();
-    let mut colours = Notes::from([(Face(3), "red")]);
+    let mut colours = Notes::new(&mut session).unwrap();
+    colours.insert(&session, Face(3), "red");
     let (within, changes) = session
         .followed(|session| {
             session.split(Solid(1), [0, 0, 1, -2], None)?;
@@ -420,25 +457,27 @@ fn followed_within_another() {
         })
         .unwrap();
     colours.follow(&changes);
-    assert_eq!((within.faces.made.len(), changes.faces.made.len(), colours.iter().count()), (6, 12, 2));
+    assert_eq!((within.faces.made.len(), changes.faces.made.len(), colours.iter(&session).count()), (6, 12, 2));
 }
 
 /// What is accepted before a refusal is followed; walls are no parts of the face that is moved; a copy has the values of what it is of.
 #[test]
 fn what_notes_follow() {
     let mut session = block();
-    let mut colours = Notes::from([(Face(1), "red"), (Face(3), "blue")]);
+    let mut colours = Notes::new(&mut session).unwrap();
+    colours.insert(&session, Face(1), "red");
+    colours.insert(&session, Face(3), "blue");
     let (error, changes) = session
         .followed(|session| session.split(Solid(1), [0, 0, 1, -2], None).and_then(|_| session.split(Solid(1), [0, 0, 1, -9], None)))
         .unwrap_err();
     colours.follow(&changes);
-    assert_eq!((Err(error), colours.iter().count()), (refused::<()>(Refusal::PlaneMisses, 1), 3));
+    assert_eq!((Err(error), colours.iter(&session).count()), (refused::<()>(Refusal::PlaneMisses, 1), 3));
     colours.follow(&session.followed(|session| session.sweep(Face(1), [0, 0, 3])).unwrap().1);
-    assert_eq!(colours.iter().count(), 3);
+    assert_eq!(colours.iter(&session).count(), 3);
     let (copy, changes) = session.followed(|session| session.copy_solid(Solid(1), Motion::by([20, 0, 0]))).unwrap();
     colours.follow(&changes);
-    colours.copied(|face| copy.face(face));
-    assert_eq!((colours.get(copy.face(Face(3)).unwrap()), colours.iter().count()), (Some(&"blue"), 4));
+    colours.copied(&session, |face| copy.face(face));
+    assert_eq!((colours.get(&session, copy.face(Face(3)).unwrap()), colours.iter(&session).count()), (Some(&"blue"), 4));
     assert_eq!(session.followed_redo().map(drop), refused(Refusal::NothingToRedo, 0));
 }
 
@@ -515,19 +554,24 @@ fn zero_is_no_number_to_be_found() {
     assert_eq!(session.pattern(Solid(1), u32::MAX, [9, 0, 0]), refused(Refusal::NumbersSpent, 1));
 }
 
+fn told<N: Copy>(changes: &[Change<N>]) -> Vec<(N, Option<N>)> {
+    changes.iter().map(|change| (change.id, change.other)).collect()
+}
+
 #[test]
 fn what_operators_did_is_known() {
     let mut session = block();
     let (_, changes) = session.followed(|session| session.mef(plus(Edge(7)), plus(Edge(11)), Edge(20), Face(20), Loop(20))).unwrap();
-    assert_eq!(changes.faces.made, [Change { id: Face(20), other: Some(Face(1)) }]);
-    assert_eq!((changes.edges.made, changes.edges.removed), (vec![Change { id: Edge(20), other: None }], vec![]));
+    assert_eq!(told(&changes.faces.made), [(Face(20), Some(Face(1)))]);
+    assert_eq!(changes.faces.made[0].other_birth, session.birth(Face(1)));
+    assert_eq!((told(&changes.edges.made), changes.edges.removed), (vec![(Edge(20), None)], vec![]));
     let (error, changes) = session.followed(|session| session.kvfs(Solid(1))).unwrap_err();
     assert_eq!((Err(error), changes.faces.made.len()), (refused::<()>(Refusal::NotBare, 1), 0));
     let after = session.next(minus(Edge(7))).unwrap();
     let ends = session.edge(Edge(7)).map(|row| (session.vertex(row.from).unwrap(), session.vertex(row.to).unwrap())).unwrap();
     let middle = [(ends.0.x + ends.1.x) / 2, (ends.0.y + ends.1.y) / 2, (ends.0.z + ends.1.z) / 2];
     let (_, changes) = session.followed(|session| session.mev(plus(Edge(7)), after, Edge(30), None, middle)).unwrap();
-    assert_eq!(changes.edges.made, [Change { id: Edge(30), other: Some(Edge(7)) }]);
+    assert_eq!(told(&changes.edges.made), [(Edge(30), Some(Edge(7)))]);
 }
 
 #[test]
