@@ -338,10 +338,9 @@ static void try_renumber()
     const auto wanted = shape(bench, holed);
     Attempts attempt = bench.attempt();
     check(attempt.block(Solid(999'999), {9, 9, 9}, {1, 1, 1}).error().is(GWB_WHY_NUMBERS_SPENT), "no number is left");
-    Notes<Face, int> notes;
+    Notes<Face, int> notes(bench);
     notes[Face(1'000'000)] = 7;
     const Renumbered all = renumber(bench);
-    notes.renumbered(all);
     check(shape(bench, all.of(holed)) == wanted && all.of(Solid(1'000'000)) == bench.greatest<Solid>(), "all is as it was");
     std::size_t faces = 0, edges = 0;
     for (Face face : bench.numbers<Face>())
@@ -351,8 +350,7 @@ static void try_renumber()
     check(notes.find(all.of(Face(1'000'000))) != nullptr && notes.all().size() == 1, "notes go along");
     const std::string after = bench.listing();
     bench.undo();
-    notes.renumbered(all.back());
-    check(bench.listing() == before && notes.find(Face(1'000'000)) != nullptr, "it is undone at once");
+    check(bench.listing() == before && notes.find(all.back().of(all.of(Face(1'000'000)))) != nullptr && notes.all().size() == 1, "it is undone at once");
     bench.redo();
     check(bench.listing() == after, "and redone");
     renumber(bench);

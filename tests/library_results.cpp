@@ -76,7 +76,7 @@ static void try_drafts(Session &session)
 
 static void try_layers(Session &session)
 {
-    Notes<Face, int> notes;
+    Notes<Face, int> notes(session);
     const Result<Copy> copy = copy_solid(session, Solid(1), Motion::move({9, 0, 0}));
     check(copy && *copy == Solid(2) && copy_solid(session, Solid(9)).error().is(GWB_WHY_NO_SOLID), "a copy");
     notes[*session.greatest<Face>()] = 7;
