@@ -578,13 +578,13 @@ class Sections(PageCase):
         tab.press('c')
         tab.value('View.choose({kind: "f", number: 1})')
         self.cut(tab, 'f', -3_000)
-        self.assertIn('-3000 from face 1', self.text(tab, '#cut-told'))
+        self.assertIn('-3000 mm from face 1', self.text(tab, '#cut-told'))
         self.assertAlmostEqual(self.caps(tab) / (abs(normal(model, 1)[2]) / 2), 1, 6)
 
     def test_what_is_cut_off_is_not_picked_and_a_cap_is_its_solid(self):
         for words in ('section=x3', 'section=x3&flat', 'section=x3&perspective'):
             tab = self.opened(page_of(stored('block_with_hole')), MIDDLE, words)
-            self.assertEqual(self.text(tab, '#cut-told'), 'x = 3')
+            self.assertEqual(self.text(tab, '#cut-told'), 'x = 3 mm')
             tab.click(*self.place(tab, (3, 1, 5)))
             self.require_said(tab, 'solid 1 picked, copied 1')
             self.assertIn('volume 192', self.text(tab, '#facts'))
@@ -638,7 +638,7 @@ class Handles(PageCase):
         before = tab.value('[View.view.turn, View.view.lift]')
         tab.drag([(x, y), (x, y + down / 2), (x + 7, y + down)])
         self.assertEqual((tab.value('View.state.cut.place'), tab.value('[View.view.turn, View.view.lift]')), (4, before))
-        self.assertEqual(self.text(tab, '#cut-told'), 'z = 4')
+        self.assertEqual(self.text(tab, '#cut-told'), 'z = 4 mm')
         self.assertEqual(tab.value('View.state.picked'), None)
         tab.drag([(x, y + down), (x, y + 90 * down)])
         self.assertEqual(tab.value('View.state.cut.place'), tab.value('+document.getElementById("cut-at").max'))
@@ -901,6 +901,8 @@ class Looks(PageCase):
         self.assertEqual(dict(tab.value('Measure.own(View.model, {kind: "f", number: 2})'))['area'], '5/4 ≈ 1.25 mm²')
         tab.value('View.choose({kind: "v", number: 7})')
         self.assertEqual(self.text(tab, '#facts'), '7vertex of solid 1 at 1 1.25 1.5 mmcopyin scripts 4 5 6')
+        tab.press('c')
+        self.assertEqual(self.text(tab, '#cut-told'), 'x = 0.5 mm')
 
     def test_a_film(self):
         tab = self.opened(page_of(model_in(self.TWO)), SMALL, 'flat', calm=True)

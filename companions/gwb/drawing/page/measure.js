@@ -40,6 +40,8 @@ const Measure = (() => {
   }
 
   const rounded = x => String(Number(x.toPrecision(10)));
+  // A length of the model, which may lie between coordinates, in millimetres.
+  const about = x => rounded(x * Number(unit[0]) / Number(unit[1]));
 
   // A fraction as text.
   function fraction(above, below = 1n) {
@@ -191,5 +193,5 @@ const Measure = (() => {
     return kind === 'f' ? [['area', area(model.faces[number][2])]] : [];
   }
 
-  return {between, ends, own, solid, facesOf, plane, place, setUnit};
+  return {about, between, ends, own, solid, facesOf, plane, place, setUnit};
 })();

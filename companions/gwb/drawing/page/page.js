@@ -465,7 +465,7 @@ const View = (() => {
   function cutAt(place) {
     state.cut.place = place;
     at('cut-at').value = place;
-    const told = String(+place.toFixed(6)), name = state.cut.axis === 'f' ? null : 'xyz'[state.cut.axis];
+    const told = `${Measure.about(place)} mm`, name = state.cut.axis === 'f' ? null : 'xyz'[state.cut.axis];
     at('cut-told').textContent = name ? `${name} = ${told}` : `${told} from face ${state.cut.face}`;
     at('cut-at').setAttribute('aria-valuetext', at('cut-told').textContent);
     isCutStale = true;
