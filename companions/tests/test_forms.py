@@ -1,7 +1,9 @@
 """The table of forms: what reads and writes each, names in each form's letters, and the lists of C++ and Rust."""
 
 import re
+import shutil
 import struct
+import subprocess
 import tempfile
 import unittest
 import zipfile
@@ -16,6 +18,7 @@ from gwb.formats.forms import COLOURS, EXPORTED, FORMS, MESHES, NAMES, READ, SOL
 from gwb.formats.importing import read_file
 from gwb.formats.parts import NotAMesh
 from gwb.formats.polygon_files import form_of
+from gwb.formats.writing import written
 
 TWO = listing([*box((0, 0, 0), (2, 2, 2))[0], *box((5, 0, 0), (7, 3, 2))[0]], box((0, 0, 0), (2, 2, 2))[1], box((5, 0, 0), (7, 3, 2), 9)[1])
 LOOKS = {('solid', 1): Appearance('Base plate', (255, 0, 0)), ('solid', 2): Appearance('Base cover', (0, 0, 255))}
@@ -105,6 +108,18 @@ class UniqueNames(InFolder):
         self.assertEqual([line for line in text.splitlines() if line.startswith('o ')], ['o Elbow_left_(solid_1)', 'o Elbow_left_(solid_2)'])
         found = read_file(self.file('part.obj', text))
         self.assertEqual([look.name for look in found.looks.values()], ['Elbow_left'] * 2)
+
+    def test_assimp_counts_as_many_parts(self):
+        if shutil.which('assimp') is None:
+            raise unittest.SkipTest('needs assimp')
+        boxes = [box((9 * place, 0, 0), (9 * place + 2, 2, 2), 8 * place + 1) for place in range(16)]
+        model = model_in(listing([point for points, _ in boxes for point in points], *(faces for _, faces in boxes)))
+        names = ['Base plate', 'Base cover', 'Base', 'Base_plate', *['Elbow'] * 6, *['Elbow left'] * 6]
+        said = Said({('solid', solid): Appearance(name) for solid, name in enumerate(names, 1)})
+        for ending in ('obj', 'glb', '3mf'):
+            path = self.file(f'parts.{ending}', written(model, said, self.folder / f'parts.{ending}'))
+            counted = subprocess.run(['assimp', 'info', path], capture_output=True, text=True, check=True).stdout
+            self.assertEqual(re.findall(r'^(?:Meshes|Faces): *(\d+)', counted, re.MULTILINE), ['16', '192'], f'{ending}: {counted}')
 
     def test_all_forms(self):
         """Names that are equal, or come to be, are different in the file."""
