@@ -388,16 +388,16 @@ class TwelveCommands(Twelve):
 
     def out_of_memory(self, place, is_caught):
         lines = self.bench._kernel.lines
-        ask, refused = lines.ask, MemoryRefused('memory was refused')
+        command, refused = lines.command, MemoryRefused('memory was refused')
 
-        def refusing(line):
-            lines.ask = ask
+        def refusing(*_):
+            lines.command = command
             raise refused
 
         try:
             with self.bench.draft():
                 self.give(end=place)
-                lines.ask = refusing
+                lines.command = refusing
                 try:
                     self.commands[place]()
                 except MemoryRefused:

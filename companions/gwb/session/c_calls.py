@@ -39,6 +39,12 @@ _CALLS: Dict[str, Tuple[Any, List[Any]]] = {
     'script': (SIZE, [SIZE, SIZE, _TEXT, SIZE]), 'greatest_number': (SIZE, [WORD]), 'stop_by': (None, [ADDRESS, ADDRESS]),
     'read_vertices': (SIZE, [ADDRESS, SIZE]), **dict.fromkeys(('read_half_edges', 'read_triangles'), (SIZE, [WORD, ADDRESS, SIZE])),
     'made': (SIZE, [WORD, _WORDS, SIZE])}
+# What a command takes after the handle, as its line has it: numbers, then lengths; a half-edge twice its edge's number, and 1 more for its second one.
+_COMMANDS: Dict[str, List[Any]] = {
+    **{word: [WORD] * words + [LENGTH] * lengths for words, lengths, listed in (
+        (0, 0, 'undo redo'), (1, 0, 'kvfs kev kef'), (2, 0, 'kemr kfmrh mfkrh glue'), (3, 0, 'mekr ringmv'), (5, 0, 'mef'), (4, 3, 'mvfs mev'),
+        (1, 6, 'block'), (1, 3, 'sweep')) for word in listed.split()},
+    'lamina': [WORD, _ROWS, SIZE], 'split': [WORD, *[LENGTH] * 4, WORD]}
 # What a feature or a search takes between the handle and the refusal; each returns the kind of its answer.
 _OUTLINE, _MADE, _STRIP = [WORD, _ROWS, SIZE], [_PAIR, _WORDS], [WORD, _POINT, _POINT, LENGTH, LENGTH]
 _FEATURES: Dict[str, List[Any]] = {
@@ -55,6 +61,7 @@ _FEATURES: Dict[str, List[Any]] = {
 # Of each call by its export what it returns, and all that it takes.
 PROTOTYPES: Dict[str, Tuple[Any, List[Any]]] = {
     **{f'gwb_{name}': (result, [_HANDLE, *taken]) for name, (result, taken) in _CALLS.items()},
+    **{f'gwb_{name}': (WORD, [_HANDLE, *taken]) for name, taken in _COMMANDS.items()},
     **{f'gwb_{name}': (WORD, [_HANDLE, *taken, _REFUSAL]) for name, taken in _FEATURES.items()},
     'gwb_advice_factor': (Wide, [ADDRESS]), 'gwb_advice_free': (None, [ADDRESS]), 'gwb_misfit_name': (ctypes.c_char_p, [WORD]),
     'gwb_circle': (ctypes.c_bool, [LENGTH, LENGTH, WORD, WORD, _ROWS])}

@@ -7,6 +7,7 @@ from typing import List, Optional
 from ..protocol.replies import Reply
 from . import arguments
 from .bench import Methods
+from .c_calls import rows
 from .reading import FacePart
 from .results import Block, Count, Lamina, NewEdge, NewFace, NewSolid, Plane, Sweep
 
@@ -81,17 +82,18 @@ class Commands(Methods):
         """A new solid of two faces, back to back, through up to 64 points. The front is seen with the points counterclockwise."""
         places = self._kernel.lengths.points('points', points, arguments.MOST_LAMINA_POINTS)
         number = self._new('solid', solid)
-        self._kernel.do('lamina', number, *(part for place in places for part in place))
+        self._kernel.do('lamina', number, *(part for place in places for part in place), typed=(number, rows(places), len(places)))
         fresh = self._kernel.lines.fresh
         front, back = fresh('face')
         return Lamina(number, front, back, fresh('edge'), fresh('vertex'))
 
     def block(self, point: arguments.Point, sizes: arguments.Point, *, solid: Optional[int] = None) -> Block:
         """A new solid: the block from the point on with edges along the axes, so long as the sizes say."""
-        place, lengths = self._kernel.lengths.point('point', point), self._kernel.lengths.point('sizes', sizes)
-        number = self._new('solid', solid)
-        self._kernel.do('block', number, *place, *lengths)
-        fresh = self._kernel.lines.fresh
+        kernel = self._kernel
+        lengths = kernel.lengths
+        place, size, number = lengths.point('point', point), lengths.point('sizes', sizes), self._new('solid', solid)
+        kernel.do('block', number, *place, *size)
+        fresh = kernel.lines.fresh
         top, bottom, *sides = fresh('face')
         return Block(number, top, bottom, tuple(sides), fresh('edge'), fresh('vertex'))
 

@@ -2,7 +2,7 @@
 
 from fractions import Fraction
 from threading import Condition
-from typing import Any, Callable, Dict, Iterable, Iterator, List, Optional, Sequence, Tuple, TypeVar
+from typing import Any, Callable, Dict, Iterable, Iterator, List, Optional, Sequence, Tuple, TypeVar, Union
 
 from ..errors import CompanionError, Complaint, InDraft, InGroup, OutOfStep, Refused
 from ..formats.appearance import Appearance, Thing
@@ -32,6 +32,8 @@ _MOST_EDGES = 20_000
 _FREEING = ('kvfs', 'kev', 'kef', 'kemr', 'mekr', 'kfmrh', 'glue', 'undo', 'redo', 'kill_solid', 'renumber', 'cut', 'trim', 'union', 'subtract',
             'intersect', 'separate', 'join_faces', 'glue_all', 'notch', 'slot', 'groove', 'shoulder', 'chamfer', 'chamfer_edges')
 _CUTS = ('cut', 'trim')
+# The ways of `ringmv` by the numbers that its call takes, where lone corners begin, and what stands for a word that no call takes.
+_WAYS, _LONE, _NO_CODE = ('in', 'out'), 2 ** 31, -2 ** 64
 
 
 class Kernel:
@@ -55,8 +57,9 @@ class Kernel:
     @property
     def lengths(self) -> Lengths:
         """Lengths in the step that there is now."""
-        if self._lengths.step != self.notes.now.unit:
-            self._lengths = Lengths(self.notes.now.unit)
+        unit = self.notes.now.unit
+        if self._lengths.step is not unit:
+            self._lengths = Lengths(unit)
         return self._lengths
 
     def close(self) -> None:
@@ -73,14 +76,16 @@ class Kernel:
             self.holder.require_end()
             self.lock.wait(_PATIENCE)
         self._is_giving = self._has_given = False
-        if self.lines.is_drafting and not any(block.is_draft for block in self.blocks):
+        if not self.settle() and self.lines.is_drafting and not any(block.is_draft for block in self.blocks):
             self.lines.abandon()    # (nobody has begun it)
-        self.settle()
+            self.settle()
 
-    def settle(self) -> None:
-        """The notes follow the commands. In a draft there is nothing new."""
-        if self.lines.is_open and not self.lines.is_drafting:
-            self.notes.settle(self.lines.depth)
+    def settle(self) -> bool:
+        """The notes follow the commands, unless a draft is open, in which there is nothing new, or the session is closed."""
+        depth = self.lines.settled
+        if depth is not None:
+            self.notes.settle(depth)
+        return depth is not None
 
     # What is held
 
@@ -102,10 +107,25 @@ class Kernel:
 
     # Commands
 
-    def do(self, *words: object) -> None:
-        """Gives a command of these words. A complaint is raised."""
-        line = ' '.join(map(str, words))
-        reply = self.ask(line)
+    def do(self, word: str, *values: Union[int, str], typed: Sequence[Any] = ()) -> None:
+        """Gives a command, with the values that its line has, as a typed call, which may take them otherwise. A complaint is raised, as that of the line."""
+        reply = self._barred(word, word)
+        if reply is None:
+            given = typed or [value if type(value) is int else _code(value) for value in values]
+            if _NO_CODE in given:
+                reply = self.ask(' '.join(map(str, (word, *values))))
+            elif self.giving(word, lambda: self.lines.command(word, given)):
+                return
+            else:
+                reply = self.lines.last_reply()
+        self._complain(' '.join(map(str, (word, *values))), reply)
+
+    def do_line(self, line: str) -> None:
+        """Gives the command of a line. A complaint is raised."""
+        self._complain(line, self.ask(line))
+
+    def _complain(self, line: str, reply: Reply) -> None:
+        """Raises the error of a reply that is a complaint about the line."""
         if reply.is_complaint:
             raise self.advised(complaint(line, reply), line, reply)
 
@@ -129,24 +149,30 @@ class Kernel:
     def ask(self, line: str) -> Reply:
         """The reply to any line. What it makes, undoes or redoes is taken account of. In a draft or a group nothing is undone or redone."""
         word = first_word(line.encode('utf-8', 'surrogateescape'))
-        if word in ('undo', 'redo') and self.lines.is_drafting:
+        return self._barred(word, line) or self.giving(word, lambda: self.lines.ask(line))
+
+    def _barred(self, word: str, line: str) -> Optional[Reply]:
+        """The reply to an undo or a redo that the library isn't asked for, if the line of this word is one."""
+        if word not in ('undo', 'redo'):
+            return None
+        if self.lines.is_drafting:
             raise InDraft(f'{line}: a draft is open, in which nothing is undone or redone')
-        if word in ('undo', 'redo') and self.notes.group_from is not None:
+        if self.notes.group_from is not None:
             raise InGroup(f'{line}: a group is open, which is undone when it has ended')
         if line.split() == ['redo'] and not self.notes.ahead():
             # (what was given up in a group is undone in the library, and isn't to be redone)
             self.lines.require_open()
             return Reply((f'refused {NUMBERS["NothingToRedo"]} 0',))
-        return self.giving(word, lambda: self.lines.ask(line))
+        return None
 
     def giving(self, word: str, give: Callable[[], Said]) -> Said:
         """Gives a command or a feature of this word, which may be a step of the draft."""
         if self._is_giving:
             raise OutOfStep('another call is under way')
         is_new = word not in ('undo', 'redo')
-        if is_new and not self.lines.is_drafting:
-            self.notes.expect()
         if is_new:
+            if not self.lines.is_drafting:
+                self.notes.expect()
             self.notes.give()
         if is_new and self._may_have_gone and not self._has_given:
             # What is gone has no label any more, before a turn makes something that may have its number. Undo gives it back.
@@ -257,6 +283,18 @@ class Kernel:
         return refused(word, why.number, why.value, text)
 
 
+def _code(value: Union[int, str]) -> int:
+    """What a typed call takes for a word of a line: a half-edge, `+e` or `-e`, a corner, which may be `@l`, or a way; a number stands for itself."""
+    if isinstance(value, int):
+        return value
+    if value in _WAYS:
+        return _WAYS.index(value)
+    number = int(value.lstrip('+-@'))
+    if not 1 <= number <= LARGEST:
+        return _NO_CODE    # (which the line tells better)
+    return _LONE + number if value[0] == '@' else 2 * number + (value[0] == '-')
+
+
 class NewNumbers:
     """The numbers of new things: above all that are or were in use, or in gaps."""
 
@@ -271,7 +309,8 @@ class NewNumbers:
 
     def next(self, kind: str) -> int:
         """One above all that are in use or were, else the next one in a gap, else one past the greatest there is, which the kernel refuses."""
-        return next(self._free(kind, self._unseen[kind]), LARGEST + 1)
+        above = max(self._ever[kind], self._lines.greatest(kind)) + 1
+        return above if above <= LARGEST else next(self._free(kind, self._unseen[kind]), LARGEST + 1)
 
     def instead_of(self, model: Model) -> Dict[str, Dict[int, int]]:
         """For each kind a free number for each of the model's: those that were never in use, then those in gaps. Refused: NumbersSpent."""

@@ -126,10 +126,12 @@ def along_way(way: Sequence[Exact], point: Sequence[Exact]) -> Exact:
 class Lengths:
     """Lengths in a lattice of this step, in millimetres."""
 
-    __slots__ = ('step', '_above', '_below')
+    __slots__ = ('step', '_above', '_below', '_near')
 
     def __init__(self, step: Fraction) -> None:
         self.step, self._above, self._below = step, step.denominator, step.numerator
+        # Whole millimetres below this are whole steps in range: none where some aren't whole.
+        self._near = _RANGE // self._above if self._below == 1 else 0
 
     def length(self, name: str, value: object) -> int:
         """A length in steps. Raises OffStep; ValueError where it is far out of range."""
@@ -146,6 +148,11 @@ class Lengths:
 
     def point(self, name: str, value: object) -> Vector:
         """The three coordinates of a point or a vector."""
+        if type(value) is tuple and len(value) == 3:
+            x, y, z = value
+            near = self._near
+            if type(x) is type(y) is type(z) is int and -near < x < near and -near < y < near and -near < z < near:
+                return (x * self._above, y * self._above, z * self._above)
         found = items(name, value)
         if len(found) != 3:
             raise ValueError(f'{name}: 3 lengths are wanted, not {len(found)}')

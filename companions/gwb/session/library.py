@@ -4,7 +4,7 @@ import ctypes
 import os
 import re
 from pathlib import Path
-from typing import Any, Callable, Iterable, Iterator, Optional, Tuple
+from typing import Any, Callable, Iterable, Iterator, Optional, Sequence, Tuple
 
 from ..errors import CompanionError, Ended, ProgramMissing
 from ..geometry.free_numbers import KINDS, from_least
@@ -17,6 +17,7 @@ from ..version import VERSION
 from .c_calls import ADDRESS, FOUND, OK, PLANE, PROTOTYPES, SIZE, WORD, EdgeRow, FaceRow, Handle, Pair, PlaneRow, Point, Refusal
 
 _NO_TEXT = SIZE(-1).value
+_PLACES = {kind: place for place, kind in enumerate(KINDS)}
 _ROOM = 256
 _MAJOR = int(VERSION.split('.')[0])
 _PACKAGE = Path(__file__).resolve().parents[1]
@@ -119,8 +120,18 @@ class Library:
         self.require_open()
         self._taken_back += first_word(data) in ('undo', 'redo')
         said = self.library.line(self.handle, data, len(data))
-        if said == OK:
-            return ACCEPTED
+        return ACCEPTED if said == OK else self.last_reply()
+
+    def command(self, word: str, values: Sequence[Any]) -> bool:
+        """Gives a command as a typed call: whether it was accepted. `last_reply` says why it wasn't."""
+        self.require_open()
+        if word in ('undo', 'redo'):
+            self._taken_back += 1
+        is_accepted: bool = getattr(self.library, word)(self.handle, *values) == OK
+        return is_accepted
+
+    def last_reply(self) -> Reply:
+        """The reply to the last line or command."""
         text: bytes = filled(ctypes.c_char, lambda buffer, room: int(self.library.reply(self.handle, buffer, room)))
         return only_reply(text.decode('ascii').split('\n')[:-1])
 
@@ -158,8 +169,9 @@ class Library:
 
     def fresh(self, kind: str) -> Tuple[int, ...]:
         """The fresh numbers of a kind of the last command that was accepted: none where it took none, as a split that cuts nothing."""
-        row = self._read('fresh', Pair(), KINDS.index(kind))
-        return tuple(range(row.first, row.second + 1)) if row else ()
+        self.require_open()
+        row = Pair()
+        return tuple(range(row.first, row.second + 1)) if self.library.fresh(self.handle, _PLACES[kind], row) == FOUND else ()
 
     # What is recorded
 
@@ -171,6 +183,14 @@ class Library:
     def state(self) -> Tuple[int, int, int]:
         """Numbers that are the same only while the model is."""
         return (self.depth, self.mark(), self._taken_back)
+
+    @property
+    def settled(self) -> Optional[int]:
+        """How many commands are held; None where a draft is open, or the session is closed."""
+        if not self.handle.is_open:
+            return None
+        held: int = self.library.recorded(self.handle)
+        return held if held == self.library.depth(self.handle) else None
 
     @property
     def ahead(self) -> int:
@@ -197,7 +217,7 @@ class Library:
     def greatest(self, kind: str) -> int:
         """The greatest number of the kind in use, 0 where none is."""
         self.require_open()
-        return int(self.library.greatest_number(self.handle, KINDS.index(kind)))
+        return int(self.library.greatest_number(self.handle, _PLACES[kind]))
 
     def numbers(self, kind: str) -> Tuple[int, ...]:
         """All numbers of a kind in use, rising."""

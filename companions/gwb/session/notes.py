@@ -73,6 +73,8 @@ class Notes:
 
     def settle(self, depth: int) -> None:
         """So many commands are held, and no draft is open."""
+        if depth == self.at and not self._coming:
+            return
         if self._coming and depth == self.at + 1:
             self.all[depth:] = [self._coming]
         elif self._coming or depth != self.at:

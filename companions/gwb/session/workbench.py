@@ -167,7 +167,7 @@ class Workbench(SolidMethods, FeatureMethods, Commands, Reading, Exporting):
             elif is_answered(line) and not is_comment(line):
                 text = line.decode('utf-8', 'surrogateescape')
                 try:
-                    self._kernel.do(text)
+                    self._kernel.do_line(text)
                 except (Complaint, InDraft) as error:
                     error.args = (f'{file}, line {number}: {error.args[0]}',)
                     raise
