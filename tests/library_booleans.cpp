@@ -442,6 +442,19 @@ static void try_twisted()
 
 // ---- several at once
 
+// Two blocks beside each other and a prism on both, which crosses an edge of each between whole points where the other one goes on: in all orders.
+static void try_covered()
+{
+    std::vector<std::size_t> order = {0, 1, 2};
+    do {
+        Workbench bench;
+        const std::vector<Solid> solids = {bench.block({0, 0, 0}, {4, 4, 4}), profile(bench, {{2, 1, 4}, {5, 2, 4}, {2, 3, 4}}, {0, 0, 3}).solid,
+                                           bench.block({4, 0, 0}, {4, 4, 4})};
+        const Solid all = unite(bench, {solids[order[0]], solids[order[1]], solids[order[2]]});
+        check(measures_of(bench, all) == Measures{6 * 137, 14, 21, 10}, "a prism on two blocks: " + text(measures_of(bench, all)));
+    } while (std::next_permutation(order.begin(), order.end()));
+}
+
 // Blocks in a ring, of which some touch in an edge or a corner alone until what lies between them is there: in any order.
 static void try_orders()
 {
@@ -456,6 +469,7 @@ static void try_orders()
         const Solid ring = unite(bench, blocks);
         check(ring == blocks[0] && measures_of(bench, ring) == Measures{6 * 512, 16, 24, 10}, "a ring of blocks: " + text(measures_of(bench, ring)));
     }
+    try_covered();
     Workbench bench;
     const Solid plate = bench.block({0, 0, 0}, {9, 9, 9}), one = bench.block({3, 3, -1}, {3, 3, 11}), two = bench.block({3, -1, 3}, {3, 11, 3});
     const Solid three = bench.block({-1, 3, 3}, {11, 3, 3});

@@ -5,26 +5,15 @@ namespace gwb_session::operands {
 
 Operands::Operands(const std::vector<std::vector<Sheet>> &solids)
 {
+    const Box everywhere{{-farthest, -farthest, -farthest}, {farthest, farthest, farthest}};
     for (const std::vector<Sheet> &sheets : solids) {
         const auto solid = static_cast<Number>(firsts_.size());
         firsts_.push_back(static_cast<Number>(faces.size()));
         for (const Sheet &sheet : sheets)
             put(sheet, solid);
-        around_.push_back(sheets.empty() ? Box() : box_of(sheets));
-        if (!sheets.empty())
-            solids_.put(around_.back(), solid);
+        around_.push_back(solid == 0 || sheets.empty() ? everywhere : box_of(sheets));
     }
     firsts_.push_back(static_cast<Number>(faces.size()));
-}
-
-std::vector<Number> Operands::beside(Number solid) const
-{
-    const Box all{{-farthest, -farthest, -farthest}, {farthest, farthest, farthest}};
-    std::vector<Number> found;
-    for (std::size_t other : solids_.meeting(solid == 0 ? all : around_[solid]))
-        if (other != solid)
-            found.push_back(static_cast<Number>(other));
-    return found;
 }
 
 void Operands::put(const Sheet &sheet, Number solid)

@@ -47,8 +47,8 @@ public:
     [[nodiscard]] Number count() const { return static_cast<Number>(firsts_.size() - 1); }
     /// The first face of a solid: that of the one after it comes after its last one.
     [[nodiscard]] Number first_face(Number solid) const { return firsts_[solid]; }
-    /// The solids whose edges may lie within one: those whose boxes meet its own, of the first one, of which only faces near the others are known, all.
-    [[nodiscard]] std::vector<Number> beside(Number solid) const;
+    /// A box beyond which nothing lies within a solid: of the first one, of which perhaps only faces near the others are known, that of all points.
+    [[nodiscard]] const Box &box(Number solid) const { return around_[solid]; }
 
     [[nodiscard]] const Sheet &sheet(Number face) const { return *faces[face].sheet; }
 
@@ -73,8 +73,7 @@ private:
 
     std::unordered_map<Edge, Number> edge_numbers_;
     std::vector<Number> firsts_;
-    std::vector<Box> around_; ///< solids that have faces
-    BoxIndex solids_;         ///< by these
+    std::vector<Box> around_;
     /// Where a point lies on a solid that has it, and the next such row of the point.
     struct Row {
         Number solid;

@@ -69,7 +69,13 @@ Box Points::box(Number point) const
 {
     const auto &[at, scale] = points_[point];
     Box found;
-    for (std::size_t axis = 0; axis < 3; axis++) {
+    for (std::size_t axis = 0; is_fine(point) && axis < 3; axis++) {
+        const FinePoint &of = fine_points_[static_cast<std::size_t>(at[0])];
+        const Wide whole = integers::divided(of.at[axis].magnitude(), of.scale).first.narrow();
+        found.low[axis] = of.at[axis].sign() < 0 ? -whole - 1 : whole;
+        found.high[axis] = of.at[axis].sign() < 0 ? -whole : whole + 1;
+    }
+    for (std::size_t axis = 0; !is_fine(point) && axis < 3; axis++) {
         found.low[axis] = at[axis] / scale - (at[axis] % scale < 0 ? 1 : 0);
         found.high[axis] = at[axis] / scale + (at[axis] % scale > 0 ? 1 : 0);
     }

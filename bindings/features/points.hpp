@@ -53,8 +53,9 @@ public:
     [[nodiscard]] std::size_t count() const { return points_.size(); }
     /// Along a line, one way: by x, then y, then z.
     [[nodiscard]] bool comes_before(Number one, Number other) const;
-    /// Whether a point that isn't fine lies in a box; the least box around it whose corners are whole.
+    /// Whether a point that isn't fine lies in a box.
     [[nodiscard]] bool is_in(Number point, const Box &box) const;
+    /// A box around a point whose corners are whole: the least one, but of a fine point.
     [[nodiscard]] Box box(Number point) const;
 
 private:

@@ -1,5 +1,6 @@
 #include "within.hpp"
 #include "cones.hpp"
+#include <numeric>
 
 namespace gwb_session::within {
 
@@ -39,14 +40,13 @@ std::optional<bool> told_at(const Operands &all, const Spot &spot, const Vector 
 /// The pieces of other solids, as to one: those that meet at points off that lie alike.
 class Alone {
 public:
-    Alone(Operands &all, std::vector<Piece> &pieces, const Failure &why) : all_(all), pieces_(pieces), why_(why), own_(all.count())
+    Alone(Operands &all, std::vector<Piece> &pieces, const Failure &why) : all_(all), pieces_(pieces), why_(why)
     {
-        for (std::size_t at = 0; at < pieces.size(); at++)
-            for (const Wing &wing : pieces[at].wings)
-                if (std::vector<std::size_t> &own = own_[solid_of(wing)]; own.empty() || own.back() != at)
-                    own.push_back(at);
-        is_beside_.assign(all.count(), false);
-        is_near_.assign(pieces.size(), false);
+        for (std::size_t at = 0; all.count() > 2 && at < pieces.size(); at++)
+            by_boxes_.put(box_of(pieces[at]), at);
+        for (const FlatFace &face : all.faces)
+            if (!face.is_met && face.sheet->cycles.size() > 1)
+                with_rings_.push_back(&face);
         known_.resize(pieces.size());
         first_.assign(all.points.count(), SIZE_MAX);
     }
@@ -55,36 +55,42 @@ public:
     void tell(Number solid, const IsWithin &is_within)
     {
         solid_ = solid;
-        const std::vector<Number> beside = all_.beside(solid);
-        gather(beside);
+        near_ = filtered(in_box(), [&](std::size_t at) { return !any(pieces_[at].wings, [&](const Wing &wing) { return solid_of(wing) == solid; }); });
         join_pieces();
-        for (Number other : beside)
-            join_faces(other);
-        tell_sets([&](const Piece &piece) { return is_far(piece) ? std::optional(false) : told_at_ends(piece); });
+        join_loops();
+        tell_sets([&](const Piece &piece) { return is_beyond(piece) ? std::optional(false) : told_at_ends(piece); });
         tell_sets([&](const Piece &piece) {
             const std::optional<ScaledPoint> point = point_off(piece);
             return point ? std::optional(is_within(solid, *point)) : std::nullopt;
         });
         tell_sets([&](const Piece &piece) { return told_by_corner(piece); });
-        put_known(beside);
+        put_known();
     }
 
 private:
     [[nodiscard]] Number solid_of(const Wing &wing) const { return all_.faces[wing.face].solid; }
-    /// Whether a piece is of a solid that isn't near.
-    [[nodiscard]] bool is_far(const Piece &piece) const { return !all(piece.wings, [&](const Wing &wing) { return is_beside_[solid_of(wing)]; }); }
-
-    /// The pieces of solids beside this one, without its own.
-    void gather(const std::vector<Number> &beside)
+    [[nodiscard]] Box box_of(const Piece &piece) const
     {
-        for (Number other : beside) {
-            is_beside_[other] = true;
-            for (std::size_t at : own_[other])
-                if (!is_near_[at] && !any(pieces_[at].wings, [&](const Wing &wing) { return solid_of(wing) == solid_; })) {
-                    is_near_[at] = true;
-                    near_.push_back(at);
-                }
-        }
+        Box box = all_.points.box(piece.from);
+        box.take(all_.points.box(piece.to));
+        return box;
+    }
+
+    /// The pieces in the box of the solid, and perhaps others.
+    [[nodiscard]] std::vector<std::size_t> in_box() const
+    {
+        if (all_.count() > 2 && solid_ != 0)
+            return by_boxes_.meeting(all_.box(solid_));
+        std::vector<std::size_t> all(pieces_.size());
+        std::iota(all.begin(), all.end(), std::size_t{0});
+        return all;
+    }
+    /// Whether an end of a piece lies beyond that box.
+    [[nodiscard]] bool is_beyond(const Piece &piece) const
+    {
+        const Box &box = all_.box(solid_);
+        const auto is_out = [&](Number end) { return all_.points.is_fine(end) ? !all_.points.box(end).meets(box) : !all_.points.is_in(end, box); };
+        return is_out(piece.from) || is_out(piece.to);
     }
 
     /// Tells of the sets of which nothing is known yet.
@@ -108,18 +114,13 @@ private:
     }
 
     /// The loops of a face that no other solid meets lie alike.
-    void join_faces(Number other)
+    void join_loops()
     {
-        for (Number at = all_.first_face(other); at < all_.first_face(other + 1); at++) {
-            go_on();
-            const FlatFace &face = all_.faces[at];
-            const std::size_t first = first_[face.corners[0]];
-            if (face.is_met || first == SIZE_MAX)
-                continue;
-            for (Number corner : face.corners)
-                if (first_[corner] != SIZE_MAX)
-                    sets_.join(first, first_[corner]);
-        }
+        for (const FlatFace *face : with_rings_)
+            if (const std::size_t first = first_[face->corners[0]]; first != SIZE_MAX)
+                for (Number corner : face->corners)
+                    if (first_[corner] != SIZE_MAX)
+                        sets_.join(first, first_[corner]);
     }
 
     [[nodiscard]] std::optional<bool> told_at_ends(const Piece &piece) const
@@ -150,31 +151,27 @@ private:
     }
 
     /// Writes down what is known of the pieces, and forgets it for the next solid.
-    void put_known(const std::vector<Number> &beside)
+    void put_known()
     {
         for (std::size_t at : near_)
             pieces_[at].within.put(solid_, *known_[sets_.name(at)]);
         for (std::size_t at : near_) {
             known_[at].reset();
-            is_near_[at] = false;
             first_[pieces_[at].from] = first_[pieces_[at].to] = SIZE_MAX;
         }
-        for (Number other : beside)
-            is_beside_[other] = false;
-        near_.clear(), sets_ = {};
+        sets_ = {};
     }
 
     Operands &all_;
     std::vector<Piece> &pieces_;
     const Failure &why_;
-    std::vector<std::vector<std::size_t>> own_; ///< pieces by the solids whose they are
+    BoxIndex by_boxes_;                        ///< of more than two solids: pieces
+    std::vector<const FlatFace *> with_rings_; ///< that no other solid meets
     Number solid_ = 0;
-    std::vector<bool> is_beside_;            ///< solids
-    std::vector<std::size_t> near_;          ///< pieces beside the solid of which it has no wing
-    std::vector<bool> is_near_;              ///< the same
-    JoinedSets<std::size_t> sets_;           ///< of pieces that lie alike
-    std::vector<std::size_t> first_;         ///< piece at each point off the solid
-    std::vector<std::optional<bool>> known_; ///< by the names of sets
+    std::vector<std::size_t> near_;            ///< pieces near the solid of which it has no wing
+    JoinedSets<std::size_t> sets_;             ///< of pieces that lie alike
+    std::vector<std::size_t> first_;           ///< piece at each point off the solid
+    std::vector<std::optional<bool>> known_;   ///< by the names of sets
 };
 
 } // namespace
