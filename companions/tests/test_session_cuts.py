@@ -236,8 +236,19 @@ class Unions(Stepwise):
         block = self.bench.block((8, -1, -1), (12, 8, 8)).solid
         factor = self.refuse('OffLattice', lambda: self.bench.subtract(wedge, [block])).value
         self.assertEqual(factor, 3)
-        self.bench.scale(factor)
-        self.one_step(lambda: self.bench.subtract(wedge, [block]))
+        step, cut = self.bench.step, Fraction(5 * 4, 2) * Fraction(4, 12)
+        before = self.bench.volume(wedge)
+        self.one_step(lambda: self.bench.subtract(wedge, [block], refine=True))
+        self.assertEqual((self.bench.step, before - self.bench.volume(wedge)), (step / 3, cut))
+
+    def test_a_step_that_can_not_be_so_fine(self):
+        far = 10 ** 9 * self.bench.step // 1
+        wedge = self.bench.profile([(far - 12, 0, 0), (far, 0, 0), (far - 12, 0, 1)], along=(0, 5, 0)).solid
+        block = self.bench.block((far - 4, -1, -1), (4, 8, 8)).solid
+        refused = self.refuse('PointRange', lambda: self.bench.subtract(wedge, [block], refine=True))
+        self.assertRegex(str(refused), '^in a step 3 times finer all points of what is made are multiples of it, but')
+        with self.assertRaisesRegex(Impossible, r'; in a step 3 times finer they are multiples of it, as refine=True makes it$'):
+            self.bench.union([wedge, block])
 
     def test_components_become_solids(self):
         left, _, right = self.blocks(((0, 0, 0), (4, 4, 4)), ((20, 0, 0), (4, 4, 4)), ((9, 0, 0), (2, 2, 2)))

@@ -160,8 +160,17 @@ class SolidMethods(Methods):
         1,000,000,000 steps out."""
         finer = arguments.positive('times', times)
         with Block(self._kernel, False):
-            self._kernel.give('scale', finer)
-            self._kernel.notes.now.unit /= finer
+            self._make_finer(finer)
+
+    def _make_finer(self, times: int, what: str = '') -> None:
+        """The step becomes so many times finer, in a draft that is open, for what asks for it. Refused: PointRange."""
+        try:
+            self._kernel.give('scale', times)
+        except Refused as refused:
+            if what:
+                refused.args = (f'in a step {times} times finer all points of {what} are multiples of it, but {refused}',)
+            raise
+        self._kernel.notes.now.unit /= times
 
     def renumber(self) -> Renumbered:
         """All numbers become as low as they can be, from 1 on in the order that they have, and may be taken again when they are free: where none is left.
@@ -210,27 +219,29 @@ class SolidMethods(Methods):
         where its points ask for one. Refused as cut is."""
         return self.cut(solid, plane, keep='below', refine=refine, scale=scale).lower_caps
 
-    def union(self, solids: Sequence[arguments.Solid]) -> int:
+    def union(self, solids: Sequence[arguments.Solid], *, refine: bool = False) -> int:
         """The solids, which may cross, touch or lie apart, become one: the number of the first of them. Faces of one plane beside each other
         become one, and so do the edges that go on straight.
 
-        Refused: NoSolid, NotFlat; OffLattice, with the least factor by which all must be scaled, or 0 where that passes 2^32 - 1; Meets: what is made would
-        touch itself. All are combined at once, so their order doesn't matter."""
-        numbers = self._different('solids', solids, 'solid', 2)
-        return self._combined('union', numbers[0], words(numbers), len(numbers))
+        With refine=True they are combined in a finer step where a corner of what is made asks for one, as one command.
 
-    def subtract(self, solid: arguments.Solid, tools: Sequence[arguments.Solid]) -> int:
+        Refused: NoSolid, NotFlat; OffLattice, with how many times finer the step must be, or 0 where that passes 2^32 - 1; Meets: what is made would touch
+        itself; with `refine` PointRange. All are combined at once, so their order doesn't matter."""
+        numbers = self._different('solids', solids, 'solid', 2)
+        return self._combined('union', numbers[0], words(numbers), len(numbers), refine=refine)
+
+    def subtract(self, solid: arguments.Solid, tools: Sequence[arguments.Solid], *, refine: bool = False) -> int:
         """The solid becomes what is left of it without the tools, which go: its number. What falls apart stays one solid. Refused: as `union`, and
         NothingLeft."""
         number, gone = self._number('solid', solid), self._different('tools', tools, 'solid', 1)
         if number in gone:
             raise ValueError(f'tools: the solid {number} itself is one of them')
-        return self._combined('subtract', number, number, words(gone), len(gone))
+        return self._combined('subtract', number, number, words(gone), len(gone), refine=refine)
 
-    def intersect(self, solids: Sequence[arguments.Solid]) -> int:
+    def intersect(self, solids: Sequence[arguments.Solid], *, refine: bool = False) -> int:
         """The first of the solids becomes what all have in common, and the others go: its number. Refused: as `subtract`."""
         numbers = self._different('solids', solids, 'solid', 2)
-        return self._combined('intersect', numbers[0], words(numbers), len(numbers))
+        return self._combined('intersect', numbers[0], words(numbers), len(numbers), refine=refine)
 
     def join_faces(self, solid: arguments.Solid) -> int:
         """Faces of one plane beside each other in a solid become one, and so do edges that go on straight: its number. Refused: NoSolid, NotFlat; Meets:
@@ -248,10 +259,20 @@ class SolidMethods(Methods):
             self._label_alike('solid', [pair for pair in pairs if pair[0] != pair[1]])
         return tuple(part for _, part in pairs)
 
-    def _combined(self, word: str, number: int, *given: Any) -> int:
+    def _combined(self, word: str, number: int, *given: Any, refine: object = False) -> int:
         """What comes of solids, of which this one stays, whose faces have the labels of what went into them."""
+        may_refine = arguments.flag('refine', refine)
         with Block(self._kernel, False):
-            self._kernel.give(word, *given)
+            try:
+                self._kernel.give(word, *given)
+            except Impossible as error:
+                if error.name != 'OffLattice' or not error.value:
+                    raise
+                if not may_refine:
+                    error.args = (f'{error.args[0]}; in a step {error.value} times finer they are multiples of it, as refine=True makes it',)
+                    raise
+                self._make_finer(error.value, 'what is made')
+                self._kernel.give(word, *given)
             merged: Dict[int, List[int]] = {}
             for face, part in self._kernel.pairs(INTO):
                 merged.setdefault(part, []).insert(0 if face == part else len(merged[part]), face)
@@ -319,12 +340,7 @@ class SolidMethods(Methods):
                                 'off_lattice() names planes near by',)
                 raise
         with Block(self._kernel, False):
-            try:
-                self._kernel.give('scale', factor)
-            except Refused as refused:
-                refused.args = (f'in a step {factor} times finer all points of the cut are multiples of it, but {refused}',)
-                raise
-            self._kernel.notes.now.unit /= factor
+            self._make_finer(factor, 'the cut')
             # (its offset stays in range, since it meets edges whose ends do)
             return new, self._parted(word, solid, without_common_factor((*plane[:3], plane[3] * factor)), new)
 
