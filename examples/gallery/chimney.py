@@ -3,9 +3,7 @@ from gwb import Workbench
 
 bench = Workbench()
 roof = bench.profile([(0, 0, 0), (0, 80, 0), (0, 40, 40)], along=(100, 0, 0))
-slope = bench.faces(normal=(0, 1, 1)).one()
 chimney = bench.block((60, 50, 0), (16, 14, 60))
-bench.cut(chimney.solid, bench.plane(slope), keep='above')
 part = bench.union([roof.solid, chimney.solid])
 top = bench.faces(plane=(0, 0, 1, -60)).one()
 bench.pocket(top, [(64, 54, 60), (72, 54, 60), (72, 60, 60), (64, 60, 60)], 40)

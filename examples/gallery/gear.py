@@ -17,9 +17,9 @@ for window in range(6):
     bench.hole(face, [at(radius, (window + part) / 6, 20) for radius, part in ((50, -0.3), (85, -0.34), (85, 0.34), (50, 0.3))])
 bench.boss(face, [at(36, corner / 16, 20) for corner in range(16)], 10)
 top = bench.faces(plane=(0, 0, 1, -30)).one()
-key = [(27, -4, 30), (27, 4, 30)]
-bench.hole(top, [*key, *(at(22, corner / 16, 30) for corner in range(1, 16))])
-part = wheel.solid
+bench.hole(top, [at(22, corner / 16, 30) for corner in range(16)])
+key = bench.block((0, -4, 0), (27, 8, 30))
+part = bench.subtract(wheel.solid, [key.solid])
 bench.label(bench.solid(part), 'gear', '#B0A060')
 
 print(*bench.bounding_box(part).sizes, bench.volume(part))
