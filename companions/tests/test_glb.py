@@ -77,8 +77,10 @@ class Written(unittest.TestCase):
         points, faces = box((0, 0, 0), (2 ** 24, 1, 1))
         self.assertTrue(glb_bytes(mesh_of(model_in(listing(points, faces)))))
         points, faces = box((0, 0, 0), (2 ** 24 + 1, 1, 1))
-        with self.assertRaisesRegex(Unfit, 'lies past 16,777,216'):
-            glb_bytes(mesh_of(model_in(listing(points, faces))))
+        self.assertTrue(glb_bytes(mesh_of(model_in(listing(points, faces)))))
+        more, others = box((1, 3, 0), (2 ** 25 + 4, 4, 1), 9)
+        with self.assertRaisesRegex(Unfit, 'lies past 16,777,216 from the middle'):
+            glb_bytes(mesh_of(model_in(listing(points + more, faces, others))))
 
     def test_every_part_of_a_colour_comes_back(self):
         self.assertEqual([_shown(_linear(part)) for part in range(256)], list(range(256)))

@@ -111,12 +111,20 @@ class Given(unittest.TestCase):
         part = self.bench.block((0, 0, 0), (40, 20, 10))
         self.bench.drill(part.top, (10, 10, 10), radius=5, sides=16)
         self.bench.chamfer(self.bench.edges(between=(part.bottom, part.sides[0])).one(), '1.234')
+        self.come_back((40, 20, 10))
+
+    def test_each_form_holds_twenty_metres(self):
+        self.bench.profile([(0, 0, 0), (20_000, 0, 0), (19_000, 3.5, 0)], along=(0, 0, '0.007'))
+        self.come_back((20_000, Fraction(7, 2), Fraction(7, 1000)))
+
+    def come_back(self, high):
+        """The one solid, so large, is written and read in each form."""
         for form in FORMS:
             with self.subTest(form), Workbench(library()) as again, warnings.catch_warnings():
                 warnings.simplefilter('error')
                 self.bench.export(self.folder / f'part{form}')
                 made = again.import_file(self.folder / f'part{form}')
-                self.assertEqual((made.moved, again.volume(made.one()), again.bounding_box(made.one()).high), (0, self.bench.volume(part), (40, 20, 10)))
+                self.assertEqual((made.moved, again.volume(made.one()), again.bounding_box(made.one()).high), (0, self.bench.volume(1), high))
 
 
 class Planes(unittest.TestCase):

@@ -35,12 +35,13 @@ _PRECISION = Fraction(1, 2 ** 22)
 def glb_bytes(mesh: Mesh, looks: Appearances = NO_APPEARANCES, unit: Fraction = Fraction(1)) -> bytes:
     """The mesh as GLB: a node for each solid, with its name, and a primitive for each colour of its faces. A coordinate has so many millimetres.
 
-    Raises Unfit at a coordinate past 16,777,216, which single precision doesn't hold exactly.
+    Single precision doesn't hold what is past 16,777,216 exactly: then an axis begins between its least and its greatest coordinate, and is divided by what all
+    have in common. Raises Unfit where one is past that still.
     """
     writer = _Writer(mesh, looks)
     nodes = [writer.node(solid, name) for solid, name in unique_names(mesh.model.solids, looks, 'solid ').items()]
-    size = float(unit / 1000)
-    whole = {'name': 'gwb', 'matrix': [size, 0, 0, 0, 0, 0, -size, 0, 0, size, 0, 0, 0, 0, 0, 1],
+    (x, width), (y, depth), (z, height) = ((start and float(unit * start / 1000), float(unit * grain / 1000)) for start, grain in writer.axes)
+    whole = {'name': 'gwb', 'matrix': [width, 0, 0, 0, 0, 0, -depth, 0, 0, height, 0, 0, x, z, -y, 1],
              'children': list(range(1, len(nodes) + 1))}
     return _file({'asset': {'version': '2.0', 'generator': 'gwb-mesh'}, 'scene': 0, 'scenes': [{'nodes': [0]}], 'nodes': [whole, *nodes],
                   **writer.lists(), 'buffers': [{'byteLength': len(writer.buffer)}]}, bytes(writer.buffer))
@@ -60,6 +61,8 @@ class _Writer:
     def __init__(self, mesh: Mesh, looks: Appearances) -> None:
         self.buffer = bytearray()
         self._mesh, self._looks = mesh, looks
+        # Where each axis begins, and what its coordinates are divided by from there on.
+        self.axes = [_axis(parts) for parts in zip(*mesh.model.vertices.values())] or [(0, 1)] * 3
         self._meshes: List[Any] = []
         self._accessors: List[Any] = []
         self._views: List[Any] = []
@@ -91,10 +94,11 @@ class _Writer:
 
     def _points(self, vertices: Sequence[int]) -> int:
         """The accessor of points."""
-        points = [self._mesh.model.vertices[vertex] for vertex in vertices]
-        far = next((point for point in points if any(abs(part) > _LARGEST for part in point)), None)
+        given = [self._mesh.model.vertices[vertex] for vertex in vertices]
+        points = [[(part - start) // grain for part, (start, grain) in zip(point, self.axes)] for point in given]
+        far = next((there for there, point in zip(given, points) if any(abs(part) > _LARGEST for part in point)), None)
         if far is not None:
-            raise Unfit('the point {} {} {} lies past {:,}, and GLB holds no more exactly'.format(*far, _LARGEST))
+            raise Unfit('the point {} {} {} lies past {:,} from the middle, and GLB holds no more exactly'.format(*far, _LARGEST))
         low, high = ([end(parts) for parts in zip(*points)] for end in (min, max))
         return self._accessor('f', list(chain.from_iterable(points)), _VERTICES, {
             'componentType': _FLOAT, 'count': len(points), 'type': 'VEC3', 'min': low, 'max': high})
@@ -109,6 +113,15 @@ class _Writer:
         self._accessors.append({'bufferView': len(self._views) - 1, **described})
         self.buffer += data
         return len(self._accessors) - 1
+
+
+def _axis(parts: Sequence[int]) -> Tuple[int, int]:
+    """Where an axis begins, and what its coordinates are divided by from there on: 0 and 1 where single precision holds them."""
+    low, high = min(parts), max(parts)
+    if max(-low, high) <= _LARGEST:
+        return 0, 1
+    grain = math.gcd(*(part - low for part in parts)) or 1
+    return low + (high - low) // grain // 2 * grain, grain
 
 
 def _material(colour: Colour) -> Dict[str, Any]:

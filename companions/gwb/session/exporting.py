@@ -81,7 +81,7 @@ class Exporting(Methods):
         """Writes what is held to a file, by the ending of its name: .step or .stp, .3mf, .glb, .obj (colours in a .mtl beside it), .off, .stl, .html.
         Names and colours go where the form has them. All have the size, in millimetres, GLB in metres; what is no decimal fraction of one
         is rounded to 9 places in OBJ, OFF and STL. Raises
-        ValueError for another ending, Unfit where a face isn't flat and plain, nothing is held, or a coordinate is past what GLB holds, OSError where
+        ValueError for another ending, Unfit where a face isn't flat and plain, nothing is held, or a coordinate is past what GLB holds exactly, OSError where
         the file can't be written, or a .mtl is there that the .obj doesn't name. Warns where solids touch and the form doesn't keep them apart."""
         from ..formats.forms import EXPORTED, FORMS, SOLIDS, by_ending, endings
         from ..formats.writing import written
