@@ -8,9 +8,9 @@ Each line of tests/library_features.table is a feature, and behind `=` what it g
 and rings of the solid and a sum over its points; or the name of what is refused. A face is told by the ends of a side of its outer loop, an edge by
 its own, in the direction of its first half-edge; a solid that is cut by its listing. `halve` cuts it in two, and tells of both; `union` adds a block
 at a point, `subtract` takes one away, and `intersect` leaves what is in it too; `around` tells of all of a row; `chamfers` takes a width and the ends of its edges; `pocket_along` and
-`boss_along` take a vector in place of a depth. The table was written by features in Python that shared no code with those of the library, a row by turned
-points, chamfers of several edges by cuts, features by vectors by products of areas with these, and the last 40 parts, of Booleans, by unit cubes. The last line
-counts.
+`boss_along` take a vector in place of a depth. A line `undo` takes the last feature back. The table was written by features in Python that shared no code
+with those of the library, a row by turned points, chamfers of several edges by cuts, features by vectors by products of areas with these, and the last 40
+parts, of Booleans, by unit cubes; what is undone was compared at random points with what was cut out or put on. The last line counts.
 """
 import re
 import sys
@@ -117,7 +117,7 @@ class Part:
             (bench.pocket if word == 'pocket_along' else bench.boss)(face, row.points(), along=along)
             return
         depth = row.number()
-        {'pocket': bench.pocket, 'boss': bench.boss, 'notch': bench.notch}[word](face, row.points(), depth)
+        {'pocket': bench.pocket, 'boss': bench.boss, 'notch': bench.notch, 'pad': bench.pad}[word](face, row.points(), depth)
 
 
     def _shape_whole(self, word: str, row: Row) -> None:
@@ -153,7 +153,7 @@ class Tried:
         """What is wrong with a line that isn't of what is said of a cut; empty for nothing."""
         words, _, stored = line.partition(' = ')
         word, *rest = words.split(' ')
-        given = self._begun() if word == 'part' else self._result(word, rest)
+        given = self._begun() if word == 'part' else self._undone() if word == 'undo' else self._result(word, rest)
         if given == stored or (self._part and self._part.is_turned and not (given + stored).count('ok')):
             return ''    # (of a chamfer that is turned what is refused may be found in its other face first)
         return f'{words}: {stored!r} is stored, {given!r} is given'
@@ -171,6 +171,11 @@ class Tried:
         if self._bench:
             self._bench.close()
         self._bench, self._part = Workbench(self._library, step=1), None
+        return ''
+
+    def _undone(self) -> str:
+        assert self._bench, 'the first line begins a part'
+        self._bench.undo()
         return ''
 
     def _result(self, word: str, words: Sequence[str]) -> str:

@@ -68,6 +68,7 @@ static enum gwb_kind boss(gwb *g) { return gwb_boss(g, 1, square, 4, 3, &outline
 static enum gwb_kind hole(gwb *g) { return gwb_hole(g, 1, square, 4, &outline, numbers, &why); }
 static enum gwb_kind ring(gwb *g) { return gwb_ring(g, 1, square, 4, &outline, numbers, others, &why); }
 static enum gwb_kind notch(gwb *g) { return gwb_notch(g, 1, at_edge, 4, 3, &why); }
+static enum gwb_kind pad(gwb *g) { return gwb_pad(g, 1, at_edge, 4, 3, &why); }
 static enum gwb_kind slot(gwb *g) { return gwb_slot(g, 1, &start, &end, 2, 3, &why); }
 static enum gwb_kind groove(gwb *g) { return gwb_groove(g, 1, &start, &end, 2, 3, &why); }
 static enum gwb_kind shoulder(gwb *g)
@@ -188,7 +189,7 @@ static const struct feature {
     enum gwb_kind (*prepare)(gwb *g); /* what it is made of, where that isn't there for all */
 } features[] = {
     {"pocket", pocket, NULL}, {"boss", boss, NULL}, {"hole", hole, NULL}, {"ring", ring, NULL}, {"notch", notch, NULL}, {"slot", slot, NULL},
-    {"groove", groove, NULL}, {"shoulder", shoulder, NULL}, {"chamfer", chamfer, NULL}, {"copy", copy, NULL}, {"move", move, NULL},
+    {"pad", pad, NULL}, {"groove", groove, NULL}, {"shoulder", shoulder, NULL}, {"chamfer", chamfer, NULL}, {"copy", copy, NULL}, {"move", move, NULL},
     {"kill", kill_one, NULL}, {"profile", make_profile, NULL}, {"pattern", pattern, NULL}, {"around", around, NULL}, {"chamfers", chamfers, NULL},
     {"polyhedron", polyhedron, NULL}, {"scale", scale, NULL}, {"split", split, NULL}, {"advice", advice, NULL}, {"image", image, NULL},
     {"glue_all", glue_all, NULL}, {"drill", drill, NULL}, {"find_faces", find_faces, NULL}, {"find_edges", find_edges, NULL}, {"cut", cut, NULL},

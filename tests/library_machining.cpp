@@ -113,6 +113,8 @@ public:
         return measures(bench_, solid_);
     }
 
+    void undo() { bench_.undo(); }
+
     // Whether the last feature was a chamfer of an edge whose first half-edge runs the other way than in Python, so that what is refused may
     // be found in its other face first.
     [[nodiscard]] bool is_turned() const { return is_turned_; }
@@ -223,6 +225,8 @@ private:
         const std::int64_t depth = given.number();
         if (word == "notch")
             return gives(notch(attempt_, face, given.points(), depth));
+        if (word == "pad")
+            return gives(pad(attempt_, face, given.points(), depth));
         return gives(word == "boss" ? boss(attempt_, face, given.points(), depth) : pocket(attempt_, face, given.points(), depth));
     }
 
@@ -246,6 +250,8 @@ public:
             part_.emplace();
         else if (line == "part")
             part_.reset();
+        else if (part_ && line == "undo")
+            part_->undo();
         else if (part_ && line[0] == '>')
             compare_advice(line.substr(2));
         else if (part_)
@@ -330,6 +336,8 @@ struct Rectangle {
 
 class Cubes {
 public:
+    std::map<std::string, int> told; // of features by tools
+
     explicit Cubes(std::uint32_t seed) : state_(seed)
     {
         for (std::int64_t x = 0; x < sizes[0]; x++)
@@ -345,7 +353,7 @@ public:
             faces.push_back(face);
         const Face face = faces[random(faces.size())];
         const Rectangle rectangle = rectangle_in(face);
-        const std::int64_t depth = 1 + static_cast<std::int64_t>(random(4));
+        const std::int64_t depth = random(9) == 0 ? 20 : 1 + static_cast<std::int64_t>(random(4));
         const std::string before = bench_.listing();
         const bool is_made = made(face, rectangle, depth);
         check(narrow(bench_.six_volumes(solid_)) == 6 * static_cast<std::int64_t>(filled_.size()), "a random part has the volume of its cubes");
@@ -368,7 +376,7 @@ private:
         found.level = -narrow(plane.d) / normal[found.axis];
         for (std::size_t side = 0; side < 2; side++) {
             const auto size = static_cast<std::size_t>(sizes[(found.axis + 1 + side) % 3]);
-            const auto start = static_cast<std::int64_t>(random(size));
+            const auto start = static_cast<std::int64_t>(random(size + 1)) - 1;
             found.sides[side] = {start, start + 1 + static_cast<std::int64_t>(random(3))};
         }
         return found;
@@ -389,7 +397,7 @@ private:
     bool made(Face face, const Rectangle &rectangle, std::int64_t depth)
     {
         const bool is_inside = are(rectangle.layers(1, 1, 1), true) && are(rectangle.layers(0, 0, 1), false);
-        switch (random(8)) {
+        switch (random(13)) {
         case 5: return made_cut();
         case 6: return made_trim();
         case 7: return made_union();
@@ -408,15 +416,146 @@ private:
             return is_made;
         }
         case 2: return made_hole(face, rectangle);
-        case 3: {
-            const bool is_made = static_cast<bool>(notch(attempt_, face, rectangle.outline(), depth));
-            check(is_made || !is_inside || !are(rectangle.layers(1, depth + 1, 1), true) || !lies_in(face, rectangle), "there is room for a notch");
-            if (is_made)
-                put(rectangle.layers(1, depth), false, "a notch");
-            return is_made;
+        case 3: return made_shoulder(face, rectangle, depth);
+        default: return made_by_tool(face, rectangle, depth);
         }
-        default: return made_slot(face, rectangle, depth);
+    }
+
+    // ---- tools
+
+    // The cubes behind the unit squares of a face in the plane of a rectangle.
+    [[nodiscard]] std::set<Cube> behind(Face face, const Rectangle &plane) const
+    {
+        const HalfEdge half = *bench_.half_edges_of(face).begin();
+        std::set<Cube> found;
+        std::vector<Cube> waiting = {behind_left(half, plane)};
+        while (!waiting.empty()) {
+            const Cube cube = waiting.back();
+            waiting.pop_back();
+            Cube before = cube;
+            before[plane.axis] += plane.looks_up ? 1 : -1;
+            if (filled_.count(cube) == 0 || filled_.count(before) != 0 || !found.insert(cube).second)
+                continue;
+            for (std::size_t way : {1, 2})
+                for (std::int64_t step : {-1, 1}) {
+                    waiting.push_back(cube);
+                    waiting.back()[(plane.axis + way) % 3] += step;
+                }
         }
+        return found;
+    }
+
+    // The cube behind the unit square left of the start of a half-edge.
+    [[nodiscard]] Cube behind_left(HalfEdge half, const Rectangle &plane) const
+    {
+        const Point from = bench_.vertex(bench_.start_of(half)), to = bench_.vertex(bench_.end_of(half));
+        const Cube start = {from.x, from.y, from.z}, end = {to.x, to.y, to.z};
+        const std::size_t u = (plane.axis + 1) % 3, v = (plane.axis + 2) % 3;
+        const std::int64_t turn = plane.looks_up ? 1 : -1;
+        const auto way = [&](std::size_t axis) { return (end[axis] > start[axis]) - (end[axis] < start[axis]); };
+        Cube found{};
+        found[u] = (2 * start[u] + way(u) - turn * way(v) - 1) / 2;
+        found[v] = (2 * start[v] + way(v) + turn * way(u) - 1) / 2;
+        found[plane.axis] = plane.looks_up ? plane.level - 1 : plane.level;
+        return found;
+    }
+
+    // Whether cubes touch in an edge or a vertex alone, at a corner of these.
+    static bool touch(const std::set<Cube> &cubes, const std::set<Cube> &changed)
+    {
+        return std::any_of(changed.begin(), changed.end(), [&](const Cube &cube) {
+            for (std::size_t corner = 0; corner < 8; corner++) {
+                std::size_t filled = 0;
+                for (std::size_t at = 0; at < 8; at++) {
+                    Cube place = cube;
+                    for (std::size_t axis = 0; axis < 3; axis++)
+                        place[axis] += static_cast<std::int64_t>(corner >> axis & 1) - static_cast<std::int64_t>(at >> axis & 1);
+                    filled |= cubes.count(place) << at;
+                }
+                if (touch_at(filled))
+                    return true;
+            }
+            return false;
+        });
+    }
+
+    // The eight places round a point, by bits: those that are filled hang together by faces, those that are empty too, and so it is round each edge.
+    static bool touch_at(std::size_t filled)
+    {
+        const auto alike = [&](std::size_t at, std::size_t other) { return (filled >> at & 1) == (filled >> other & 1); };
+        std::set<std::size_t> parts;
+        for (std::size_t first = 0; first < 8; first++) {
+            std::size_t part = std::size_t{1} << first;
+            for (std::size_t step = 0; step < 32; step++) // (no way is longer than four)
+                for (std::size_t bit : {1U, 2U, 4U})
+                    if ((part >> step % 8 & 1) != 0 && alike(step % 8, step % 8 ^ bit))
+                        part |= std::size_t{1} << (step % 8 ^ bit);
+            parts.insert(part);
+        }
+        for (std::size_t at = 0; at < 8; at++)
+            for (const auto &[one, other] : {std::pair(1U, 2U), {1U, 4U}, {2U, 4U}})
+                if (alike(at, at ^ one ^ other) && !alike(at, at ^ one) && !alike(at, at ^ other))
+                    return true;
+        return parts.size() > 2;
+    }
+
+    // What a tool does is done to the cubes: it is made where it may, and refused for the one cause that there is.
+    template <class Made> bool is_as_cubes(const std::string &what, const Result<Made> &made, const std::set<Cube> &tool, bool puts, bool is_outside)
+    {
+        std::set<Cube> left = filled_;
+        for (const Cube &cube : tool)
+            puts ? void(left.insert(cube)) : void(left.erase(cube));
+        const std::string wanted = is_outside ? "OutlineOutside" : left.empty() ? "NothingLeft" : touch(left, tool) ? "Meets" : "ok";
+        const std::string given = made ? "ok" : made.error().name();
+        check(given == wanted, what + " is told " + given + ", by cubes " + wanted);
+        told[given]++;
+        if (made)
+            filled_ = left;
+        return static_cast<bool>(made);
+    }
+
+    // A notch, pad or slot at a corner of a face: over edges, holes and other features.
+    bool made_by_tool(Face face, Rectangle rectangle, std::int64_t depth)
+    {
+        const bool is_slot = random(4) == 0, puts = !is_slot && random(2) == 0;
+        std::vector<HalfEdge> halves;
+        for (HalfEdge half : bench_.half_edges_of(face))
+            halves.push_back(half);
+        const Point corner = bench_.vertex(bench_.start_of(halves[random(halves.size())]));
+        for (std::size_t at = 0; at < 2; at++) {
+            const std::int64_t start = Cube{corner.x, corner.y, corner.z}[(rectangle.axis + 1 + at) % 3] - static_cast<std::int64_t>(random(4));
+            rectangle.sides[at] = {start, start + (is_slot && at == 1 ? 2 : 1 + static_cast<std::int64_t>(random(4)))};
+        }
+        const auto &side = rectangle.sides[1];
+        const std::set<Cube> of_face = behind(face, rectangle), lid = rectangle.layers(1, 1);
+        const bool is_outside = std::none_of(lid.begin(), lid.end(), [&](const Cube &cube) { return of_face.count(cube) != 0; });
+        const std::set<Cube> tool = puts ? rectangle.layers(1 - depth, 0) : rectangle.layers(1, depth);
+        if (puts)
+            return is_as_cubes("a pad", pad(attempt_, face, rectangle.outline(), depth), tool, true, is_outside);
+        if (!is_slot)
+            return is_as_cubes("a notch", notch(attempt_, face, rectangle.outline(), depth), tool, false, is_outside);
+        const Point start = rectangle.at(rectangle.sides[0][0], side[0] + 1), end = rectangle.at(rectangle.sides[0][1], side[0] + 1);
+        return is_as_cubes("a slot", slot(attempt_, face, start, end, 2, depth), tool, false, is_outside);
+    }
+
+    bool made_shoulder(Face face, Rectangle rectangle, std::int64_t depth)
+    {
+        const std::vector<HalfEdge> halves = bench_.half_edges(bench_.face(face).outer_loop);
+        const HalfEdge half = halves[random(halves.size())];
+        const std::int64_t width = 1 + static_cast<std::int64_t>(random(3));
+        const Cube least = behind_left(half, rectangle);
+        const Point from = bench_.vertex(bench_.start_of(half)), to = bench_.vertex(bench_.end_of(half));
+        const Cube start = {from.x, from.y, from.z}, end = {to.x, to.y, to.z};
+        for (std::size_t side : {0, 1}) {
+            const std::size_t axis = (rectangle.axis + 1 + side) % 3;
+            const bool is_along = start[axis] != end[axis], is_up = least[axis] == start[axis];
+            rectangle.sides[side] = is_along ? std::array{std::min(start[axis], end[axis]), std::max(start[axis], end[axis])}
+                                    : is_up  ? std::array{start[axis], start[axis] + width}
+                                             : std::array{start[axis] - width, start[axis]};
+        }
+        const std::set<Cube> of_face = behind(face, rectangle), lid = rectangle.layers(1, 1);
+        const bool is_outside = !std::includes(of_face.begin(), of_face.end(), lid.begin(), lid.end());
+        return is_as_cubes("a shoulder", shoulder(attempt_, face, half.edge(), width, depth), rectangle.layers(1, depth), false, is_outside);
     }
 
     // Whether the face is the one in its plane that the rectangle lies in.
@@ -434,17 +573,6 @@ private:
             last++;
         if (is_made)
             put(rectangle.layers(1, last), false, "a hole");
-        return is_made;
-    }
-
-    bool made_slot(Face face, Rectangle rectangle, std::int64_t depth)
-    {
-        auto &side = rectangle.sides[1];
-        side[1] = side[0] + 2;
-        const Point start = rectangle.at(rectangle.sides[0][0], side[0] + 1), end = rectangle.at(rectangle.sides[0][1], side[0] + 1);
-        const bool is_made = static_cast<bool>(slot(attempt_, face, start, end, 2, depth));
-        if (is_made)
-            put(rectangle.layers(1, depth), false, "a slot");
         return is_made;
     }
 
@@ -517,11 +645,20 @@ private:
 
 static void try_cubes(std::uint32_t times)
 {
+    std::map<std::string, int> told;
     for (std::uint32_t seed = 0; seed < times; seed++) {
         Cubes cubes(seed);
         for (int attempt = 0; attempt < 30; attempt++)
             cubes.attempt();
+        for (const auto &[name, count] : cubes.told)
+            told[name] += count;
     }
+    std::cout << "tools beside unit cubes:";
+    for (const auto &[name, count] : told)
+        std::cout << ' ' << name << ' ' << count;
+    std::cout << '\n';
+    for (const std::string name : {"ok", "Meets", "OutlineOutside"})
+        check(times < 50 || told[name] >= 20, "what is told of tools is told often: " + name);
 }
 
 // ---- what comes back, refusals and drafts
@@ -633,7 +770,7 @@ static void try_drafts()
     bench.back(mark);
     check(bench.listing() == pocketed, "a mark takes it back");
     Attempts attempt = bench.attempt();
-    check(!slot(attempt, Face(1), {3, 0, 8}, {3, 8, 8}, 2, 4), "a slot that isn't possible in a draft");
+    check(!slot(attempt, Face(1), {9, 0, 8}, {9, 8, 8}, 2, 4), "a slot that isn't possible in a draft");
     check(!hole(attempt, Face(1), {{2, 2, 8}, {4, 2, 8}, {4, 4, 8}}), "nor a hole");
     check(bench.listing() == pocketed, "it leaves the draft as it was");
     draft.commit();

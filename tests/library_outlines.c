@@ -144,7 +144,7 @@ static void try_many(void)
 
 /* ---- sizes */
 
-enum { POCKET, BOSS, NOTCH, SLOT, SLOT_DEPTH, GROOVE, GROOVE_DEPTH, SHOULDER, SHOULDER_DEPTH, CHAMFER, CHAMFER_OTHER, CHAMFERS, SCALE, FEATURES };
+enum { POCKET, BOSS, NOTCH, PAD, SLOT, SLOT_DEPTH, GROOVE, GROOVE_DEPTH, SHOULDER, SHOULDER_DEPTH, CHAMFER, CHAMFER_OTHER, CHAMFERS, SCALE, FEATURES };
 
 static enum gwb_kind give(gwb *g, int feature, int64_t far, int64_t size, gwb_refusal *why)
 {
@@ -156,6 +156,7 @@ static enum gwb_kind give(gwb *g, int feature, int64_t far, int64_t size, gwb_re
     case POCKET: return gwb_pocket(g, 1, square, 4, size, &made, sides, why);
     case BOSS: return gwb_boss(g, 1, square, 4, size, &made, sides, why);
     case NOTCH: return gwb_notch(g, 1, square, 4, size, why);
+    case PAD: return gwb_pad(g, 1, square, 4, size, why);
     case SLOT: return gwb_slot(g, 1, &start, &end, size, 2, why);
     case SLOT_DEPTH: return gwb_slot(g, 1, &start, &end, 2, size, why);
     case GROOVE: return gwb_groove(g, 1, &start, &end, size, 2, why);

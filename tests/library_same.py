@@ -192,6 +192,7 @@ _CALLS: Dict[str, Call] = {
     'hole': lambda s, n, w: s.outlined(s.bench.hole(n(), _points(w))),
     'drill': lambda s, n, w: s.drilled(s.bench.drill(n(), _three(w), n(), n(), depth=n() or None)),
     'notch': lambda s, n, w: s.counted(*s.bench.notch(n(), depth=n(), points=_points(w))),
+    'pad': lambda s, n, w: s.counted(*s.bench.pad(n(), height=n(), points=_points(w))),
     'slot': lambda s, n, w: s.counted(*s.bench.slot(n(), _three(w), _three(w), n(), n())),
     'groove': lambda s, n, w: s.counted(*s.bench.groove(n(), _three(w), _three(w), n(), n())),
     'shoulder': lambda s, n, w: s.counted(*s.bench.shoulder(n(), n(), n(), n())),
@@ -288,7 +289,7 @@ class Author:
 
     def _of_outline(self) -> Tuple[str, List[int]]:
         number, face = self._face()
-        word = self._random.choice(['pocket', 'pocket', 'boss', 'hole', 'ring', 'ring', 'notch', 'notch'])
+        word = self._random.choice(['pocket', 'pocket', 'boss', 'hole', 'ring', 'ring', 'notch', 'notch', 'pad'])
         spots = self._spots(face, self._random.choice([3, 4, 4, 4, 2] if not self._below(6) else [3, 4]))
         lengths = [] if word in ('hole', 'ring') else [1 + self._below(5)]
         return word, [number, *lengths, *(part for spot in spots for part in spot)]

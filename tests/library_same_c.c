@@ -255,12 +255,13 @@ static bool is_along(const char *word, uint32_t face)
 static bool is_of_outline(const char *word, uint32_t face)
 {
     const bool is_hole = strcmp(word, "hole") == 0, is_pocket = strcmp(word, "pocket") == 0, is_notch = strcmp(word, "notch") == 0;
-    if (!is_hole && !is_pocket && !is_notch && strcmp(word, "boss") != 0)
+    const bool is_pad = strcmp(word, "pad") == 0;
+    if (!is_hole && !is_pocket && !is_notch && !is_pad && strcmp(word, "boss") != 0)
         return false;
     const int64_t length = is_hole ? 0 : number();
     const size_t n = points();
-    if (is_notch)
-        put_lists(gwb_notch(&g, face, corners, n, length, &why), GWB_MADE_FLOOR, GWB_MADE_WALLS);
+    if (is_notch || is_pad)
+        put_lists((is_pad ? gwb_pad : gwb_notch)(&g, face, corners, n, length, &why), GWB_MADE_FLOOR, GWB_MADE_WALLS);
     else if (is_hole)
         put_outline(gwb_hole(&g, face, corners, n, &outline, made, &why), n);
     else

@@ -85,6 +85,7 @@ private:
             {"profile", &Given::profile},   {"ring", &Given::ring},       {"pocket", &Given::pocket},     {"boss", &Given::boss},
             {"pocket_along", &Given::pocket_along}, {"boss_along", &Given::boss_along}, {"drill_along", &Given::drill_along},
             {"hole", &Given::hole},         {"drill", &Given::drill},     {"notch", &Given::notch},       {"slot", &Given::slot},
+            {"pad", &Given::pad},
             {"groove", &Given::groove},     {"shoulder", &Given::shoulder}, {"chamfer", &Given::chamfer}, {"kill", &Given::kill},
             {"copy", &Given::copy},         {"move", &Given::move},       {"pattern", &Given::pattern},   {"scale", &Given::scale},
             {"glue_all", &Given::glue_all}, {"split", &Given::split},     {"off_lattice", &Given::off_lattice}, {"cut", &Given::cut},
@@ -250,6 +251,15 @@ private:
         const auto face = words.name<Face>();
         const std::int64_t depth = words.number();
         put_notch(gwb_session::notch(*attempt_, face, words.points(), depth));
+    }
+    void pad(Words &words)
+    {
+        const Face face = words.name<Face>();
+        const std::int64_t height = words.number();
+        if (const Result<Pad> made = gwb_session::pad(*attempt_, face, words.points(), height); is_well(made)) {
+            put_counted(made->top);
+            put_counted(made->walls);
+        }
     }
     void slot(Words &words)
     {

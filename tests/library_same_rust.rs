@@ -121,11 +121,12 @@ macro_rules! made {
             "ring" => bench
                 .ring(words.name(), &words.points())
                 .map(|made| told(&[made.face]) + &told(&[made.of_loop]) + &told(&made.edges) + &told(&made.vertices)),
-            "pocket" | "boss" | "notch" => {
+            "pocket" | "boss" | "notch" | "pad" => {
                 let (face, length, points) = (words.name::<Face>(), words.number(), words.points());
                 match $word {
                     "pocket" => bench.pocket(face, &points, length).map(|made| pocket(&made)),
                     "boss" => bench.boss(face, &points, length).map(|made| pocket(&made)),
+                    "pad" => bench.pad(face, &points, length).map(|made| counted(&made.top) + &counted(&made.walls)),
                     _ => bench.notch(face, &points, length).map(|made| notch(&made)),
                 }
             }

@@ -187,13 +187,12 @@ struct Combined {
     std::vector<Sheet> regions;
     std::vector<HalfEdge> beyond = {}; ///< of the rest, where they should become one edge with the ones before them
 
-    /// The faces that added sheets went into, rising, by the places of these among the added ones: so many from one on.
-    [[nodiscard]] std::vector<Face> marked(std::size_t from, std::size_t count) const
+    /// The faces of regions with a mark, rising.
+    [[nodiscard]] std::vector<Face> marked(std::size_t mark) const
     {
-        const auto is_marked = [&](std::size_t mark) { return from <= mark && mark - from < count; };
         std::set<Face> found;
         for (const Sheet &region : regions)
-            if (any(region.marks, is_marked))
+            if (std::find(region.marks.begin(), region.marks.end(), mark) != region.marks.end())
                 found.insert(region.face);
         return {found.begin(), found.end()};
     }

@@ -50,13 +50,8 @@ Combined combined_with(Bench &bench, Operation operation, Solid first, const std
         near = {{-farthest, -farthest, -farthest}, {farthest, farthest, farthest}};
     const Failure why = impossible(Misfit::meets, first.number());
     const auto lay = [&](const std::vector<Sheet> &sheets) {
-        require_flat(sheets);
         operands[0] = sheets;
-        const Surface &surface = Surroundings::of(bench).surface(bench, first);
-        const arrangement::IsWithin is_in = [&](points::Number of, const ScaledPoint &point) {
-            return of == 0 ? is_within(bench, surface, point) : is_bound(operands[of], point);
-        };
-        return arrangement::made_of(operands, made_by(operation), arrangement::Joins::of_two, is_in, why);
+        return laid(bench, operation, first, operands, why);
     };
     return make_near(bench, first, near, others, why, lay, [](const Combined &, const std::vector<Sheet> &) {});
 }
@@ -71,6 +66,16 @@ Sources sources_of(const std::vector<Sheet> &regions)
 }
 
 } // namespace
+
+std::vector<Sheet> laid(const Bench &bench, Operation operation, Solid first, const std::vector<std::vector<Sheet>> &operands, const Failure &why)
+{
+    require_flat(operands[0]);
+    const Surface &surface = Surroundings::of(bench).surface(bench, first);
+    const arrangement::IsWithin is_in = [&](points::Number of, const ScaledPoint &point) {
+        return of == 0 ? is_within(bench, surface, point) : is_bound(operands[of], point);
+    };
+    return arrangement::made_of(operands, made_by(operation), arrangement::Joins::of_two, is_in, why);
+}
 
 Sources combine(Bench &bench, Operation operation, std::vector<Solid> solids)
 {

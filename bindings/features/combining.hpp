@@ -21,25 +21,6 @@ inline bool is_bound(const std::vector<Sheet> &walls, const ScaledPoint &point)
             return place == Place::inside;
 }
 
-/// Whether a held sheet comes into the room that closed walls bound, otherwise than through their edges.
-inline bool comes_into(const std::vector<Sheet> &held, const std::vector<Sheet> &added)
-{
-    const Box around = box_of(added);
-    BoxIndex boxes;
-    for (std::size_t at = 0; at < added.size(); at++)
-        boxes.put(added[at].box, at);
-    return any(held, [&](const Sheet &sheet) {
-        go_on();
-        if (!sheet.is_flat())
-            return false;
-        if (any(boxes.meeting(sheet.box), [&](std::size_t at) { return added[at].passes_through(sheet); }))
-            return true;
-        const bool is_within = all(sheet.sides, [&](const Side &side) { return box_of(side.start).meets(around); });
-        const std::optional<ScaledPoint> inner = is_within ? sheet.inner_point() : std::nullopt;
-        return inner && is_bound(added, *inner);
-    });
-}
-
 // ---- what meets or touches
 
 /// What faces of a model near a box do: each as a kind and two numbers.

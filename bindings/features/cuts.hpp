@@ -50,18 +50,61 @@ inline std::vector<Side> open_sides(const std::vector<Sheet> &left, const Plane 
     return mapped(open, [](const auto &ends) { return Side{ends.first, ends.second}; });
 }
 
+/// Sheets of a plane become one, without their seams, which are there in both directions.
+inline void put_joined(const std::vector<Sheet> &sheets, const Plane &plane, const Failure &why, std::vector<Sheet> &left)
+{
+    if (sheets.size() == 1) {
+        left.push_back(sheets[0]);
+        return;
+    }
+    Sheet made = sheets[0];
+    std::set<std::pair<Vector, Vector>> ways;
+    std::vector<Side> sides;
+    for (const Sheet &sheet : sheets) {
+        append(sides, sheet.sides);
+        made.marks = {0};
+        if (&sheet != &sheets[0])
+            append(made.owners, sheet.owners);
+    }
+    for (const Side &side : sides)
+        ways.insert({side.start, side.end});
+    sides = filtered(sides, [&](const Side &side) { return ways.count({side.end, side.start}) == 0; });
+    for (const std::vector<Cycle> &cycles : regions_of(sides, plane.across, why))
+        left.push_back({Shape(cycles), made.owners, made.marks});
+}
+
+/// Closes what is left by caps, which have marks: faces in the plane beside them become one with them.
+inline void put_caps(std::vector<Sheet> &left, const Plane &plane, const Failure &why)
+{
+    const auto is_level = [&](const Sheet &sheet) { return lie_in(sheet.sides, plane); };
+    std::vector<Sheet> level = filtered(left, is_level);
+    for (const std::vector<Cycle> &cycles : regions_of(open_sides(left, plane), plane.across, why))
+        level.push_back({Shape(cycles), {}, {0}});
+    left.erase(std::remove_if(left.begin(), left.end(), is_level), left.end());
+    std::map<std::pair<Vector, Vector>, std::size_t> at_sides;
+    for (std::size_t at = 0; at < level.size(); at++)
+        for (const Side &side : level[at].sides)
+            at_sides[{side.start, side.end}] = at;
+    JoinedSets<std::size_t> joined_sheets;
+    for (const auto &[ends, at] : at_sides)
+        if (const std::size_t *beside = look_up(at_sides, std::pair(ends.second, ends.first)); beside != nullptr && level[at].marks != level[*beside].marks)
+            joined_sheets.join(std::min(joined_sheets.name(at), joined_sheets.name(*beside)), std::max(joined_sheets.name(at), joined_sheets.name(*beside)));
+    std::map<std::size_t, std::vector<Sheet>> members;
+    for (std::size_t at = 0; at < level.size(); at++)
+        members[joined_sheets.name(at)].push_back(level[at]);
+    for (const auto &[name, sheets] : members)
+        put_joined(sheets, plane, why, left);
+}
+
 /// The part of a solid below a plane, closed by caps, which are its faces that have marks.
 inline Combined part_below(const Held &held, const std::vector<Sheet> &sheets, const Plane &plane, Solid solid, AllNames &names)
 {
     const Failure meets = impossible(Misfit::meets, held.model.solid.number());
-    std::vector<Sheet> left, caps;
+    std::vector<Sheet> left;
     for (const Sheet &sheet : sheets)
         put_below(sheet, plane, meets, left);
-    for (const std::vector<Cycle> &cycles : regions_of(open_sides(left, plane), plane.across, meets))
-        caps.push_back({Shape(cycles), {Face()}, {caps.size()}});
-    Result<std::vector<Sheet>> laid = tried([&] { return overlaid(left, caps); });
-    require(has(laid), meets);
-    return Assembly(held, *laid, names).made(solid, meets);
+    put_caps(left, plane, meets);
+    return Assembly(held, left, names).made(solid, meets);
 }
 
 // ---- what is cut
@@ -97,7 +140,16 @@ inline Caps cut_by_faces(Bench &bench, Solid solid, const Plane &plane, const Pa
         make_anew(bench, lower.model);
     if (is_wanted)
         bench.load(upper.model.listing());
-    return {lower.marked(0, SIZE_MAX), upper.marked(0, SIZE_MAX)};
+    return {lower.marked(0), upper.marked(0)};
+}
+
+/// Whether a face lies in a plane: beside it split would leave a seam.
+inline bool has_face_in(const Model &model, const Plane &plane)
+{
+    return any(model.faces, [&](const auto &row) {
+        const std::vector<Side> sides = joined(model.cycles(row.first));
+        return !sides.empty() && lie_in(sides, plane);
+    });
 }
 
 /// What lies above a plane becomes another solid, or goes where it isn't wanted. Not possible: Meets: at corners that lie in the plane one of the parts
@@ -111,10 +163,14 @@ inline Caps cut(Bench &bench, Solid solid, const gwb_cut_plane &row, Solid above
     });
     const Path corners = filtered(points, [&](const Vector &at) { return plane.height(at) == 0; });
     const Model before = corners.empty() ? Model() : Model::whole(bench, solid);
+    const bool has_level = has_face_in(before, plane);
+    const std::size_t mark = gwb_mark(bench.handle());
     Result<Caps> caps = tried([&] { return split(bench, solid, row, above); });
     constexpr std::array coped_with = {GWB_WHY_TOUCHED_FACE, GWB_WHY_CUT_OFTEN, GWB_WHY_CUT_CROSSED, GWB_WHY_BRANCHED_VERTEX, GWB_WHY_SECTION_HOLES};
     require(has(caps) || any(coped_with, [&](gwb_why why) { return caps.error().is(why); }), caps.error());
-    if (!caps)
+    if (caps && has_level)
+        (void)gwb_back(bench.handle(), mark);
+    if (!caps || has_level)
         return cut_by_faces(bench, solid, plane, corners, above, is_wanted);
     if (!corners.empty()) {
         const Model lower = Model::whole(bench, solid), upper = is_wanted ? Model::whole(bench, above) : Model();

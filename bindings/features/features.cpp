@@ -478,43 +478,45 @@ gwb_kind gwb_drill_along(gwb *g, uint32_t face, const gwb_point *center, int64_t
 
 gwb_kind gwb_notch(gwb *g, uint32_t face, const gwb_point *points, size_t n, int64_t depth, gwb_refusal *why)
 {
-    return listed(g, GWB_MADE_FLOOR, why, [&](Bench &bench) {
-        return shaping::cut_in_face(bench, given<Face>(face), {points, n}, shaping::notch_tool, depth);
-    });
+    return listed(g, GWB_MADE_FLOOR, why, [&](Bench &bench) { return shaping::make_notch(bench, given<Face>(face), {points, n}, depth); });
+}
+
+gwb_kind gwb_pad(gwb *g, uint32_t face, const gwb_point *points, size_t n, int64_t height, gwb_refusal *why)
+{
+    return listed(g, GWB_MADE_FLOOR, why, [&](Bench &bench) { return shaping::make_pad(bench, given<Face>(face), {points, n}, height); });
 }
 
 gwb_kind gwb_slot(gwb *g, uint32_t face, const gwb_point *start, const gwb_point *end, int64_t width, int64_t depth, gwb_refusal *why)
 {
     return listed(g, GWB_MADE_FLOOR, why, [&](Bench &bench) {
-        return shaping::cut_in_face(bench, given<Face>(face), {*start, *end}, shaping::slot_tool, width, depth);
+        return shaping::make_slot(bench, given<Face>(face), {*start, *end}, width, depth);
     });
 }
 
 gwb_kind gwb_groove(gwb *g, uint32_t face, const gwb_point *start, const gwb_point *end, int64_t width, int64_t depth, gwb_refusal *why)
 {
     return listed(g, GWB_MADE_FLOOR, why, [&](Bench &bench) {
-        return shaping::cut_in_face(bench, given<Face>(face), {*start, *end}, shaping::groove_tool, width, depth);
+        return shaping::make_groove(bench, given<Face>(face), {*start, *end}, width, depth);
     });
 }
 
 gwb_kind gwb_shoulder(gwb *g, uint32_t face, uint32_t edge, int64_t width, int64_t depth, gwb_refusal *why)
 {
     return listed(g, GWB_MADE_FLOOR, why, [&](Bench &bench) {
-        const auto [strip, down] = machining::sizes_of(width, depth);
-        return shaping::cut_shoulder(bench, given<Face>(face), given<Edge>(edge), strip, down);
+        return shaping::make_shoulder(bench, given<Face>(face), given<Edge>(edge), width, depth);
     });
 }
 
 gwb_kind gwb_chamfer(gwb *g, uint32_t edge, int64_t width, int64_t other, uint32_t *face, gwb_refusal *why)
 {
-    return made(g, why, [&](Bench &bench, Lists &) { put(shaping::make_chamfers(bench, {given<Edge>(edge)}, machining::sizes_of(width, other)), face); });
+    return made(g, why, [&](Bench &bench, Lists &) { put(shaping::make_chamfers(bench, {given<Edge>(edge)}, width, other), face); });
 }
 
 gwb_kind gwb_chamfer_edges(gwb *g, const uint32_t *edges, size_t n, int64_t width, uint32_t *faces, gwb_refusal *why)
 {
     return made_if(n != 0, g, why, [&](Bench &bench, Lists &) {
         require_different(edges, n);
-        put(shaping::make_chamfers(bench, all_given<Edge>(edges, n), machining::sizes_of(width, width)), faces);
+        put(shaping::make_chamfers(bench, all_given<Edge>(edges, n), width, width), faces);
     });
 }
 

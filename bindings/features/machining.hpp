@@ -74,15 +74,21 @@ template <class Item> std::vector<Item> turned(std::vector<Item> points)
     return points;
 }
 
-/// The whole vector of this length along a normal of a face that is as short as it can be. Not possible where there is none in range: OffLattice.
-inline Vector steps_along(Face face, const Vector &across, std::int64_t length)
+/// How long a normal is that is as short as it can be: 0 where that isn't whole, or no whole vector along it is in range.
+inline Wide whole_length(const Vector &across)
 {
-    const bool is_short = longest(across) <= 2 * farthest;
-    const Wide square = is_short ? dot(across, across) : 0;
+    const Wide square = longest(across) <= 2 * farthest ? dot(across, across) : 0;
     Wide root = 0;
     for (Wide bit = Wide{1} << 62; bit != 0; bit >>= 1)
         root += (root + bit) * (root + bit) <= square ? bit : 0;
-    require(is_short && root * root == square && length % root == 0, impossible(Misfit::off_lattice, face.number()));
+    return root * root == square ? root : 0;
+}
+
+/// The whole vector of this length along such a normal of a face. Not possible where there is none in range: OffLattice.
+inline Vector steps_along(Face face, const Vector &across, std::int64_t length)
+{
+    const Wide root = whole_length(across);
+    require(root != 0 && length % root == 0, impossible(Misfit::off_lattice, face.number()));
     return times(across, length / root);
 }
 

@@ -238,11 +238,6 @@ public:
         return std::nullopt;
     }
 
-    /// Whether both run along one line within, some of the way.
-    [[nodiscard]] bool passes_through(const Shape &other) const
-    {
-        return !are_parallel(plane.across, other.plane.across) && overlap(cut_by(other.plane), [&] { return other.cut_by(plane); });
-    }
     /// Whether a part of a side in the plane lies within.
     [[nodiscard]] bool has_part(const Side &side) const
     {

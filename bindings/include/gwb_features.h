@@ -1,5 +1,5 @@
 /** @file gwb_features.h
- * Features of a session of gwb.h: whole solids killed, copied, moved, scaled and glued; profiles, rings, pockets, bosses, holes, notches, slots, grooves,
+ * Features of a session of gwb.h: whole solids killed, copied, moved, scaled and glued; profiles, rings, pockets, bosses, holes, notches, pads, slots, grooves,
  * shoulders and chamfers; faces and edges by where they lie; and what is to be said of a cut whose points aren't whole. Not with libgwb_c.a alone.
  *
  * Each is one command, or steps of the draft that is open. It answers
@@ -33,7 +33,7 @@ typedef struct gwb_motion {
 
 /** The lists of what the last feature made, for gwb_made. */
 enum gwb_list {
-    GWB_MADE_FLOOR = 0,    /**< faces at the floor of a notch, slot or shoulder: none where it goes through */
+    GWB_MADE_FLOOR = 0,    /**< faces at the floor of a notch, slot or shoulder, none where it goes through; at the top of a pad */
     GWB_MADE_WALLS = 1,    /**< its walls */
     GWB_MADE_FACES = 2,    /**< of a copy: each face and the one that it became, one after the other; of a row that for each copy */
     GWB_MADE_LOOPS = 3,    /**< loops alike */
@@ -137,7 +137,7 @@ typedef struct gwb_polyhedron_made {
 enum gwb_kind gwb_polyhedron(gwb *g, uint32_t solid, const gwb_point *points, size_t n, const uint32_t *corners, const uint32_t *sizes, size_t faces,
                              gwb_polyhedron_made *made, gwb_refusal *why);
 
-/** A face inside the face, and a ring around it. */
+/** A face inside the face, and a ring around it. Of this and the next four: what leaves the face or crosses something, gwb_notch or gwb_pad makes. */
 enum gwb_kind gwb_ring(gwb *g, uint32_t face, const gwb_point *points, size_t n, gwb_outline_made *made, uint32_t *edges, uint32_t *vertices,
                        gwb_refusal *why);
 enum gwb_kind gwb_pocket(gwb *g, uint32_t face, const gwb_point *points, size_t n, int64_t depth, gwb_outline_made *made, uint32_t *sides,
@@ -165,11 +165,28 @@ enum gwb_kind gwb_boss_along(gwb *g, uint32_t face, const gwb_point *points, siz
                              uint32_t *sides, gwb_refusal *why);
 enum gwb_kind gwb_drill_along(gwb *g, uint32_t face, const gwb_point *center, int64_t radius, uint32_t n, const gwb_point *along,
                               gwb_outline_made *made, uint32_t *sides, gwb_point *points, gwb_refusal *why);
-/** A pocket whose outline may reach the edges of the face. Lists: floor, walls. */
+/* Cut out or put on as a Boolean does it, whatever lies there: ring, pocket, boss, hole and drill draw an outline that lies strictly within the face, with as
+ * many sides as points; where one leaves the face, or crosses an edge, a hole or another feature, gwb_notch and gwb_pad make it.
+ *
+ * Refused: NoFace; NotFlat; SizeRange; PointRange; FewPoints; RepeatedPoint. Not possible: NO_AREA; OUTLINE_CROSSED; NOT_IN_PLANE; OUTLINE_OUTSIDE:
+ * nothing of what the outline goes round lies in face X, or of a shoulder and a chamfer not all of the strip beside the edge; OFF_LATTICE: a corner, or a
+ * step of this length along a normal, wouldn't be whole: X is the least factor by which all must be scaled for that, 0 where there is none or it passes
+ * 2^32 - 1; MEETS: what is made would touch itself; NOTHING_LEFT. Lists: floor, walls. */
+
+/** The prism under an outline in the plane of the face goes: the outline may leave the face and cross anything, and where it is deeper than the solid it
+ * goes through. */
 enum gwb_kind gwb_notch(gwb *g, uint32_t face, const gwb_point *points, size_t n, int64_t depth, gwb_refusal *why);
+/** The prism above such an outline is put on: also over an edge of the face, or into something that stands there. Lists: its top, its walls. */
+enum gwb_kind gwb_pad(gwb *g, uint32_t face, const gwb_point *points, size_t n, int64_t height, gwb_refusal *why);
+/** The same as a notch of a strip around a line in the plane of the face, with a flat floor, or like a V. Refused besides: RepeatedPoint, of a line of no
+ * length. */
 enum gwb_kind gwb_slot(gwb *g, uint32_t face, const gwb_point *start, const gwb_point *end, int64_t width, int64_t depth, gwb_refusal *why);
 enum gwb_kind gwb_groove(gwb *g, uint32_t face, const gwb_point *start, const gwb_point *end, int64_t width, int64_t depth, gwb_refusal *why);
+/** A step along an edge of the face: the strip begins at the edge, and ends at the line at its width from it, between the sides beside the edge, whose
+ * lines go on where they are shorter; square where they run outwards. Refused besides: NoEdge. Not possible besides: NOT_OF_FACE. */
 enum gwb_kind gwb_shoulder(gwb *g, uint32_t face, uint32_t edge, int64_t width, int64_t depth, gwb_refusal *why);
+/** The edge becomes a slope between two such strips in its faces: `width` in the face of its first half-edge and `other` in the other one. At an edge whose
+ * faces bend inwards the room is filled. Refused: NoEdge. Not possible besides: FLAT_EDGE. */
 enum gwb_kind gwb_chamfer(gwb *g, uint32_t edge, int64_t width, int64_t other, uint32_t *face, gwb_refusal *why);
 /** The same of `n` edges at once, all as far into the faces on both sides: where two or three of the edges that end at a vertex are among them, their
  * slopes meet there. `faces` has the slope of each. Refused: as a chamfer. Not possible: as a chamfer; NO_CORNER; NOT_ALIKE. GWB_NO_CALL where a

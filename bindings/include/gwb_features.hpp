@@ -381,10 +381,17 @@ Answer<Policy, Hole> drill_along(Commands<Policy> &bench, Face face, Point cente
     return features::drill(bench, "drill_along", gwb_drill_along, face, center, radius, sides, &along);
 }
 
-/// A pocket whose outline may reach the edges of the face.
+/// The prism under an outline in the plane of the face is cut out: the outline may leave the face, and cross edges, holes and other features.
 template <class Policy> Answer<Policy, Notch> notch(Commands<Policy> &bench, Face face, Items<Point> points, std::int64_t depth)
 {
     return features::notch(bench, "notch", gwb_notch, face, points.data(), points.size(), depth);
+}
+
+/// The prism above such an outline is put on, also over an edge of the face.
+template <class Policy> Answer<Policy, Pad> pad(Commands<Policy> &bench, Face face, Items<Point> points, std::int64_t height)
+{
+    const auto made = [&] { return Pad{features::faces(bench.handle(), GWB_MADE_FLOOR), features::faces(bench.handle(), GWB_MADE_WALLS)}; };
+    return bench.feature("pad", gwb_pad, made, face.number(), points.data(), points.size(), height);
 }
 
 /// A channel of this width along the line between two points on edges of the face, with a flat floor.

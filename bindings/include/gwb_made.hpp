@@ -90,6 +90,10 @@ struct Hole {
 struct Notch {
     std::vector<Face> floor, walls;
 };
+/// What a pad is: its top, and its walls.
+struct Pad {
+    std::vector<Face> top, walls;
+};
 
 /// Faces that became one with others, or several, each with one that it went into.
 using Merged = std::vector<std::pair<Face, Face>>;

@@ -15,7 +15,7 @@ from .session.feature_methods import Sketch
 from .session.lengths import OffStep
 from .session.library import is_proved
 from .session.reading import EdgePart, FacePart, LoopPart, Part, Selection, SolidPart, VertexPart
-from .session.results import (Block, Count, Cut, Hole, Lamina, NewEdge, NewFace, NewSolid, Notch, Plane, Pocket, Polyhedron, Profile, Renumbered,
+from .session.results import (Block, Count, Cut, Hole, Lamina, NewEdge, NewFace, NewSolid, Notch, Pad, Plane, Pocket, Polyhedron, Profile, Renumbered,
                               Ring, Split, Sweep)
 from .session.selection import OffLatticeCut
 from .session.solids import Copy
@@ -35,6 +35,6 @@ else:
 
 __all__ = ['Block', 'BoundingBox', 'CompanionError', 'Complaint', 'Copy', 'Count', 'Cut', 'EdgePart', 'Ended', 'Face', 'FacePart', 'Faulted', 'Hole',
            'Impossible', 'InDraft', 'InGroup', 'Inertia', 'Lamina', 'Lone', 'Loop', 'LoopPart', 'MemoryRefused', 'Model', 'NewEdge', 'NewFace',
-           'NewSolid', 'NoDraft', 'NoPart', 'NoVolume', 'NotOne', 'NotParallel', 'Notch', 'OffLatticeCut', 'OffStep', 'OutOfStep', 'Part', 'Plane',
+           'NewSolid', 'NoDraft', 'NoPart', 'NoVolume', 'NotOne', 'NotParallel', 'Notch', 'OffLatticeCut', 'OffStep', 'OutOfStep', 'Pad', 'Part', 'Plane',
            'Pocket', 'Polyhedron', 'Profile', 'ProgramMissing', 'Refused', 'Renumbered', 'Ring', 'Selection', 'Sketch', 'SolidPart', 'Split',
            'Sweep', 'Unfit', 'VertexPart', 'Workbench', '__proved__', '__version__', 'read_model']

@@ -143,22 +143,29 @@ class Shaped(Stepwise):
 
     def test_outlines_that_can_not_be(self):
         corner = [(0, 0, 10), (5, 0, 10), (5, 5, 10), (0, 5, 10)]
-        for name, points, depth in (('OutlineOutside', [(-1, 0, 10), *corner[1:3], (-1, 5, 10)], 3), ('NotInPlane', [*corner[:3], (0, 5, 9)], 3),
+        for name, points, depth in (('OutlineOutside', [(-5, 0, 10), (0, 0, 10), (0, 5, 10), (-5, 5, 10)], 3), ('NotInPlane', [*corner[:3], (0, 5, 9)], 3),
                                     ('FewPoints', corner[:2], 3), ('RepeatedPoint', [*corner, corner[0]], 3), ('OutlineCrossed', [
                                         (0, 0, 10), (5, 0, 10), (0, 5, 10), (6, 5, 10)], 3), ('NoArea', [(0, 0, 10), (5, 0, 10), (9, 0, 10)], 3),
-                                    ('Meets', corner, 11), ('NothingLeft', [(0, 0, 10), (40, 0, 10), (40, 20, 10), (0, 20, 10)], 10)):
+                                    ('NothingLeft', [(0, 0, 10), (40, 0, 10), (40, 20, 10), (0, 20, 10)], 10)):
             with self.subTest(name):
                 self.refuse(name, lambda: self.bench.notch(self.top, points, depth))
         self.refuse('NoFace', lambda: self.bench.notch(77, corner, 3))
 
     def test_parts_that_meet_something(self):
         self.bench.hole(self.block.sides[0], [(10, 0, 4), (20, 0, 4), (20, 0, 6), (10, 0, 6)])
-        for depth in (5, 6, 7, 10):
-            self.refuse('Meets', lambda: self.bench.slot(self.top, (0, 10, 10), (40, 10, 10), 4, depth))
-        for depth in (3, 4):
+        for depth, in_hole in ((3, 0), (4, 0), (5, 40), (6, 80), (7, 80), (10, 80), (11, 80)):
             self.one_step(lambda: self.bench.slot(self.top, (0, 10, 10), (40, 10, 10), 4, depth))
-            self.assertEqual(self.missing(), 400 + 160 * depth)
+            self.assertEqual(self.missing(), 400 + 160 * min(depth, 10) - in_hole)
             self.bench.undo()
+        self.refuse('Meets', lambda: self.bench.notch(self.top, [(5, 5, 10), (10, 5, 10), (10, 9, 10), (5, 9, 10)], 4))
+
+    def test_outlines_over_edges_and_features(self):
+        pad = self.one_step(lambda: self.bench.pad(self.top, [(30, 5, 10), (45, 5, 10), (45, 9, 10), (30, 9, 10)], 4))
+        self.assertEqual((self.missing(), len(pad.top), len(pad.walls)), (-15 * 4 * 4, 1, 4))
+        self.bench.pocket(self.top, [(5, 5, 10), (15, 5, 10), (15, 15, 10), (5, 15, 10)], 6)
+        cut = self.one_step(lambda: self.bench.notch(self.top, [(-3, 8, 10), (50, 8, 10), (50, 12, 10), (-3, 12, 10)], 3))
+        self.assertEqual((self.missing(), len(cut.floor)), (-240 + 600 + (40 * 4 - 10 * 4) * 3, 2))
+        self.refuse('OutlineOutside', lambda: self.bench.pad(self.top, [(40, 0, 10), (45, 0, 10), (45, 5, 10)], 2))
 
     def test_what_else_can_not_be(self):
         edge = self.edge((40, 0, 10), (40, 20, 10))
@@ -268,7 +275,7 @@ class RandomParts(unittest.TestCase):
         count = int(os.environ.get('RANDOM_PARTS', 20))
         told = try_parts(library(), count)
         print(f'\n{summary(count, told)}')
-        for name in ('notch', 'slot', 'shoulder', 'cut', 'union', 'notch Meets'):
+        for name in ('notch', 'slot', 'shoulder', 'cut', 'union', 'shoulder Meets'):
             self.assertGreater(told[name], 0, name)
 
 

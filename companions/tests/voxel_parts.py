@@ -156,7 +156,8 @@ class World:
         return self.random.choice(sorted(self.solids))
 
     def rectangle(self):
-        """A face of a solid, and a rectangle of squares in its box: the solid, the face, axis and way, the least cell and the sizes."""
+        """A face of a solid, and a rectangle of squares in its box: the solid, the face, axis and way, the least cell and the sizes, and how many of them
+        are of the face: none, some or all."""
         model = self.bench.listing()
         face = self.random.choice(sorted(model.faces))
         squares = list(self.face_squares(model, face))
@@ -165,8 +166,8 @@ class World:
         corner = [self.random.randint(low[place], high[place]) for place in AXES]
         sizes = [self.random.randint(1, high[place] - corner[place] + 1) for place in AXES]
         corner[axis], sizes[axis] = low[axis], 1
-        inside = all((axis, way, cell) in squares for cell in cells_of(corner, [part + size for part, size in zip(corner, sizes)]))
-        return model.faces[face].solid, face, axis, way, corner, sizes, inside
+        lies = {(axis, way, cell) in squares for cell in cells_of(corner, [part + size for part, size in zip(corner, sizes)])}
+        return model.faces[face].solid, face, axis, way, corner, sizes, lies
 
     def under(self, axis, way, corner, sizes, depth):
         """The cells under a rectangle, so deep; over it where the depth is negative."""
@@ -188,33 +189,33 @@ class World:
             points.append(self.at(cell))
         return points
 
-    def without(self, solid, gone, inside):
-        """What is expected where cells are cut out of a solid."""
+    def without(self, solid, gone, is_lid):
+        """What is expected where cells are cut out of a solid, under squares of a face as they have to be."""
         cells = self.solids[solid]
         left = cells - gone
-        if not inside or not gone <= cells or not left or touches(left) - touches(cells):
+        if not is_lid or not left or touches(left) - touches(cells):
             return None
         return ({solid: left},) if touches(cells) else {solid: left}
 
     def notch(self):
         """A notch, which may reach any edge, or none."""
-        solid, face, axis, way, corner, sizes, inside = self.rectangle()
+        solid, face, axis, way, corner, sizes, lies = self.rectangle()
         depth = self.random.randint(1, 4)
         gone = self.under(axis, way, corner, sizes, depth)
         points = self.corners(axis, way, corner, sizes)
         if self.random.random() < .5:
             points.reverse()
-        self.attempt('notch', lambda: self.bench.notch(face, points, depth * self.unit), self.without(solid, gone, inside))
+        self.attempt('notch', lambda: self.bench.notch(face, points, depth * self.unit), self.without(solid, gone, True in lies))
 
     def slot(self):
         """A slot: a rectangle by its middle line."""
-        solid, face, axis, way, corner, sizes, inside = self.rectangle()
+        solid, face, axis, way, corner, sizes, lies = self.rectangle()
         depth = self.random.randint(1, 4)
         a, b, c, d = self.corners(axis, way, corner, sizes)
         start, end = (tuple((one + two) // 2 for one, two in zip(*pair)) for pair in ((a, b), (d, c)))
         width = sum(abs(one - two) for one, two in zip(a, b))
         gone = self.under(axis, way, corner, sizes, depth)
-        self.attempt('slot', lambda: self.bench.slot(face, start, end, width, depth * self.unit), self.without(solid, gone, inside))
+        self.attempt('slot', lambda: self.bench.slot(face, start, end, width, depth * self.unit), self.without(solid, gone, True in lies))
 
     def shoulder(self):
         """A step along an edge of a face."""
@@ -237,37 +238,21 @@ class World:
         squares = set(self.face_squares(model, face))
         inside = all((axis, way, cell) in squares for cell in cells_of(corner, [part + size for part, size in zip(corner, sizes)]))
         gone = self.under(axis, way, corner, sizes, depth)
-        expected = self.without(solid, gone, inside)
-        short = self._short_beside(model, face, half, width, third, inner)
-        self.attempt('shoulder', lambda: self.bench.shoulder(face, abs(half), width * self.unit, depth * self.unit),
-                     (expected,) if short and isinstance(expected, dict) else expected)
-
-    def _short_beside(self, model, face, half, width, third, inner):
-        """Whether a side beside the half-edge ends before the strip does; or the face has both half-edges of the edge."""
-        loop = next(loop.halves for loop in (model.loops[number] for number in model.faces[face].loops) if half in loop.halves)
-        place = loop.index(half)
-        if -half in list(model.face_halves(face)):
-            return True
-        for corner, end in ((model.point(half), model.point(loop[place - 1])),
-                            (model.point(-half), model.point(-loop[(place + 1) % len(loop)]))):
-            rise = (end[third] - corner[third]) * inner
-            if 0 < rise < width * self.unit:
-                return True
-        return False
+        self.attempt('shoulder', lambda: self.bench.shoulder(face, abs(half), width * self.unit, depth * self.unit), self.without(solid, gone, inside))
 
     def pocket(self):
         """A pocket, or a refusal."""
-        solid, face, axis, way, corner, sizes, inside = self.rectangle()
+        solid, face, axis, way, corner, sizes, lies = self.rectangle()
         gone = self.under(axis, way, corner, sizes, 1)
-        if inside and gone < self.solids[solid]:
+        if False not in lies and gone < self.solids[solid]:
             self.attempt('pocket', lambda: self.bench.pocket(face, self.corners(axis, way, corner, sizes), self.unit),
                          ({solid: self.solids[solid] - gone},))
 
     def boss(self):
         """A boss, or a refusal."""
-        solid, face, axis, way, corner, sizes, inside = self.rectangle()
+        solid, face, axis, way, corner, sizes, lies = self.rectangle()
         more = self.under(axis, way, corner, sizes, -1)
-        if inside and not more & self.solids[solid]:
+        if False not in lies and not more & self.solids[solid]:
             self.attempt('boss', lambda: self.bench.boss(face, self.corners(axis, way, corner, sizes), self.unit),
                          ({solid: self.solids[solid] | more},))
 
@@ -317,7 +302,7 @@ class World:
 
     def part_on_part(self):
         """A block over a rectangle on a face, made one with the solid."""
-        solid, face, axis, way, corner, sizes, inside = self.rectangle()
+        solid, face, axis, way, corner, sizes, lies = self.rectangle()
         cells = self.under(axis, way, corner, sizes, -self.random.randint(1, 3))
         low, high = ([turned(cell[place] for cell in cells) for place in AXES] for turned in (min, max))
         size = [last - first + 1 for first, last in zip(low, high)]

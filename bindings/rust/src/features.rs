@@ -104,6 +104,8 @@ values! {
     Hole [] { other: Face, of_loop: Loop, sides: Vec<Face>, points: Vec<Point> }
     /// What a notch, slot, groove or shoulder leaves: its floor, none where it goes through, and its walls.
     Notch [] { floor: Vec<Face>, walls: Vec<Face> }
+    /// What [`pad`](Operators::pad) makes: its top, and its walls.
+    Pad [] { top: Vec<Face>, walls: Vec<Face> }
     /// What [`split_solid`](Operators::split_solid) and [`cut`](Operators::cut) make: the solid above the plane, and the faces that close both parts.
     Split [] { above: Solid, lower_caps: Vec<Face>, upper_caps: Vec<Face> }
 }
@@ -397,9 +399,14 @@ features! {
         gwb_sys::gwb_drill_along(face.0, &center.into(), radius, sides, &along.into(), &mut made, walls.as_mut_ptr().cast(), points.as_mut_ptr())
             => Hole { other: Face(made.face), of_loop: Loop(made.of_loop), sides: walls, points }
     }
-    /// A pocket whose outline may reach the edges of the face.
+    /// The prism under an outline in the plane of the face is cut out: the outline may leave the face, and cross edges, holes and other features.
     notch(this, face: Face, points: &[impl Copy + Into<Point>], depth: i64) -> Notch {
         gwb_sys::gwb_notch(face.0, listed(points).as_ptr(), points.len(), depth) => this.made_notch()
+    }
+    /// The prism above such an outline is put on, also over an edge of the face.
+    pad(this, face: Face, points: &[impl Copy + Into<Point>], height: i64) -> Pad {
+        gwb_sys::gwb_pad(face.0, listed(points).as_ptr(), points.len(), height)
+            => Pad { top: this.made(List::Floor, Face), walls: this.made(List::Walls, Face) }
     }
     /// A slot with a flat floor along a line from one point to another.
     slot(this, face: Face, start: impl Into<Point>, end: impl Into<Point>, width: i64, depth: i64) -> Notch {

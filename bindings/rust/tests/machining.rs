@@ -116,6 +116,11 @@ fn feature(session: &mut Session, solid: Solid, word: &str, numbers: &mut Number
             let depth = next();
             session.notch(face, &numbers.points(), depth)
         }
+        "pad" => {
+            let height = next();
+            let made = session.pad(face, &numbers.points(), height);
+            return given(session, solid, &made);
+        }
         other => return outlined(session, solid, other, face, numbers),
     };
     given(session, solid, &made)
@@ -174,6 +179,10 @@ fn as_in_python() {
         assert_eq!(advice, "", "more is said of a cut");
         if line == "part" {
             session = Session::new().unwrap();
+            continue;
+        }
+        if line == "undo" {
+            session.undo().unwrap();
             continue;
         }
         let (call, wanted) = line.split_once(" = ").unwrap();
@@ -249,7 +258,7 @@ fn in_a_draft() {
     draft.slot(Face(1), [6, 0, 8], [6, 8, 8], 2, 1).unwrap();
     assert_eq!(draft.six_volumes(block), Ok(6 * (512 - 16) - 36));
     draft.back(mark).unwrap();
-    assert!(draft.slot(Face(1), [3, 0, 8], [3, 8, 8], 2, 4).is_err());
+    assert!(draft.slot(Face(1), [9, 0, 8], [9, 8, 8], 2, 4).is_err());
     assert_eq!(draft.listing().unwrap(), pocketed);
     draft.commit().unwrap();
     assert_eq!((session.depth(), session.listing().unwrap()), (2, pocketed));

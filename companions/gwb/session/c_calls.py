@@ -55,7 +55,8 @@ _FEATURES: Dict[str, List[Any]] = {
     'polyhedron': [*_OUTLINE, _WORDS, _WORDS, SIZE, _PAIR], 'ring': [*_OUTLINE, *_MADE, _WORDS], 'pocket': [*_OUTLINE, LENGTH, *_MADE],
     'boss': [*_OUTLINE, LENGTH, *_MADE], **dict.fromkeys(('pocket_along', 'boss_along'), [*_OUTLINE, _POINT, *_MADE]),
     'hole': [*_OUTLINE, *_MADE], **{name: [WORD, _POINT, LENGTH, WORD, reach, *_MADE, _POINT] for name, reach in (('drill', LENGTH), ('drill_along', _POINT))},
-    'notch': [*_OUTLINE, LENGTH], 'slot': _STRIP, 'groove': _STRIP, 'shoulder': [WORD, WORD, LENGTH, LENGTH], 'chamfer': [WORD, LENGTH, LENGTH, _WORDS],
+    **dict.fromkeys(('notch', 'pad'), [*_OUTLINE, LENGTH]), **dict.fromkeys(('slot', 'groove'), _STRIP), 'shoulder': [WORD, WORD, LENGTH, LENGTH],
+    'chamfer': [WORD, LENGTH, LENGTH, _WORDS],
     'cut': [WORD, _PLANE, WORD], 'trim': [WORD, _PLANE], 'off_lattice': [WORD, _PLANE, SIZE, ctypes.POINTER(ADDRESS)],
     **{name: [ctypes.POINTER(query), _WORDS, SIZE, _SIZES] for name, query in (('find_faces', FaceQuery), ('find_edges', EdgeQuery))}}
 # Of each call by its export what it returns, and all that it takes.

@@ -20,7 +20,7 @@ from .circles import WITHIN, Circle, wanted
 from .kernel import Kernel
 from .lengths import ExactPlace, Length, along_way, direction, exact, place, plain
 from .reading import EdgePart, FacePart
-from .results import Hole, Notch, Numbers, Pocket, Polyhedron, Profile, Ring
+from .results import Hole, Notch, Numbers, Pad, Pocket, Polyhedron, Profile, Ring
 from .steps import Block
 
 
@@ -232,31 +232,37 @@ class FeatureMethods(Methods):
         return numbers[0]
 
     def notch(self, face: arguments.Face, points: arguments.Points, depth: Length) -> Notch:
-        """A pocket so deep behind the face whose outline may reach the edges of the face; there it is open, and where it is as deep as the
-        solid it goes through.
+        """What lies under an outline in the plane of the face goes, so deep: the outline may leave the face and cross edges, holes, pockets and other
+        features, and where it is as deep as the solid it goes through.
 
-        Refused: NoFace; NotFlat: the face isn't flat, or a face of the solid has no area; NotInPlane, FewPoints, RepeatedPoint, NoArea and
-        OutlineCrossed for the points; OutlineOutside: the outline reaches beyond the face; OffLattice: no whole vector along the normal is
-        so long, or edges would cross between whole coordinates; Meets: what is cut out reaches out of the solid elsewhere, or the solid
-        would touch itself."""
+        Refused: NoFace; NotFlat: the face isn't flat, or a face near it isn't; NotInPlane, FewPoints, RepeatedPoint, NoArea and OutlineCrossed for the
+        points; OutlineOutside: nothing of what the outline goes round lies in the face; OffLattice: no whole vector along the normal is so long, or a
+        corner would lie between whole coordinates: with how many times finer all must be, or 0 where nothing helps; Meets: the solid would touch
+        itself; NothingLeft."""
         number, outline = self._number('face', face), self._kernel.lengths.points('points', points)
-        return self._shaped('notch', number, rows(outline), len(outline), depth=depth)
+        return Notch(*self._shaped('notch', number, rows(outline), len(outline), depth=depth))
+
+    def pad(self, face: arguments.Face, points: arguments.Points, height: Length) -> Pad:
+        """What lies over an outline in the plane of the face is filled, so high: the outline may leave the face, and what is there already becomes one
+        with it. Refused as notch is."""
+        number, outline = self._number('face', face), self._kernel.lengths.points('points', points)
+        return Pad(*self._shaped('pad', number, rows(outline), len(outline), height=height))
 
     def slot(self, face: arguments.Face, start: arguments.Point, end: arguments.Point, width: Length, depth: Length) -> Notch:
         """A slot with a flat floor, so wide and deep, whose middle line runs in the face from one point to another. Refused as notch is;
         OffLattice: half of the width isn't whole across the line."""
-        return self._shaped('slot', face, start=start, end=end, width=width, depth=depth)
+        return Notch(*self._shaped('slot', face, start=start, end=end, width=width, depth=depth))
 
     def groove(self, face: arguments.Face, start: arguments.Point, end: arguments.Point, width: Length, depth: Length) -> Notch:
         """A groove like a V, so wide at the face and so deep under its middle line, which runs from one point to another; it has no floor.
         Refused as notch is; OffLattice: half of the width isn't whole across the line."""
-        return self._shaped('groove', face, start=start, end=end, width=width, depth=depth)
+        return Notch(*self._shaped('groove', face, start=start, end=end, width=width, depth=depth))
 
     def shoulder(self, face: arguments.Face, edge: arguments.Edge, width: Length, depth: Length) -> Notch:
         """A step along an edge of the face: so wide in the face, from the edge on, and so deep behind it. Refused as notch is; NoEdge,
         NotOfFace: the edge isn't one of the face."""
         number, along = self._number('face', face), self._number('edge', edge)
-        return self._shaped('shoulder', number, along, width=width, depth=depth)
+        return Notch(*self._shaped('shoulder', number, along, width=width, depth=depth))
 
     def chamfer(self, edge: arguments.Edge, width: Length, other: Optional[Length] = None) -> int:
         """The edge becomes a sloping face, which begins so far from it in the face of its half-edge `+e`, and in the other one as far, or so
@@ -305,14 +311,14 @@ class FeatureMethods(Methods):
         way = ', '.join(told(Fraction(part)) for part in lengths.place([times * part for part in across]))
         return f'; along=({way}) is {abs(times) * one * float(lengths.step):.4g} mm long'
 
-    def _shaped(self, word: str, face: arguments.Face, *values: Any, **more: Any) -> Notch:
+    def _shaped(self, word: str, face: arguments.Face, *values: Any, **more: Any) -> Tuple[Numbers, Numbers]:
         """Gives a feature in a face, with its ends and sizes by name, that leaves a floor and walls in its solid, whose labels the parts of its faces
-        get. Refused: NoFace."""
+        get: those. Refused: NoFace."""
         number, lengths = self._number('face', face), self._kernel.lengths
         sizes = [Point(*lengths.point(name, size)) if name in ('start', 'end') else lengths.positive(name, size) for name, size in more.items()]
         with self._parting(FacePart(self._kernel, number).solid.number) as new:
             self._kernel.give(word, number, *values, *sizes)
-            made = Notch(self._kernel.made(FLOOR), self._kernel.made(WALLS))
+            made = self._kernel.made(FLOOR), self._kernel.made(WALLS)
             new.update(*made)
         return made
 

@@ -30,7 +30,7 @@ _PATIENCE = 1.0
 _MOST_EDGES = 20_000
 # The commands and features after which numbers may be free that were in use.
 _FREEING = ('kvfs', 'kev', 'kef', 'kemr', 'mekr', 'kfmrh', 'glue', 'undo', 'redo', 'kill_solid', 'renumber', 'cut', 'trim', 'union', 'subtract',
-            'intersect', 'separate', 'join_faces', 'glue_all', 'notch', 'slot', 'groove', 'shoulder', 'chamfer', 'chamfer_edges')
+            'intersect', 'separate', 'join_faces', 'glue_all', 'notch', 'pad', 'slot', 'groove', 'shoulder', 'chamfer', 'chamfer_edges')
 _CUTS = ('cut', 'trim')
 # The ways of `ringmv` by the numbers that its call takes, where lone corners begin, and what stands for a word that no call takes.
 _WAYS, _LONE, _NO_CODE = ('in', 'out'), 2 ** 31, -2 ** 64

@@ -192,3 +192,10 @@ class Notch(NamedTuple):
 
     floor: Numbers
     walls: Numbers
+
+
+class Pad(NamedTuple):
+    """What a pad is: its top, in as many faces as there are, and its walls."""
+
+    top: Numbers
+    walls: Numbers

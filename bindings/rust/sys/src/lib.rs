@@ -425,6 +425,7 @@ extern "C" {
     ) -> u32;
     pub fn gwb_hole(g: *mut Gwb, face: u32, points: *const Point, n: usize, made: *mut OutlineMade, sides: *mut u32, why: *mut Refusal) -> u32;
     pub fn gwb_notch(g: *mut Gwb, face: u32, points: *const Point, n: usize, depth: i64, why: *mut Refusal) -> u32;
+    pub fn gwb_pad(g: *mut Gwb, face: u32, points: *const Point, n: usize, height: i64, why: *mut Refusal) -> u32;
     pub fn gwb_slot(g: *mut Gwb, face: u32, start: *const Point, end: *const Point, width: i64, depth: i64, why: *mut Refusal) -> u32;
     pub fn gwb_groove(g: *mut Gwb, face: u32, start: *const Point, end: *const Point, width: i64, depth: i64, why: *mut Refusal) -> u32;
     pub fn gwb_shoulder(g: *mut Gwb, face: u32, edge: u32, width: i64, depth: i64, why: *mut Refusal) -> u32;
