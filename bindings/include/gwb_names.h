@@ -106,11 +106,11 @@ enum gwb_misfit {
     GWB_MISFIT_OUTLINE_CROSSED = 3,
     /** the vector doesn't leave the plane of the points, on the side of the feature */
     GWB_MISFIT_ALONG_PLANE = 4,
-    /** the outline crosses or touches the boundary of face X, or doesn't lie inside */
+    /** the outline crosses or touches the boundary of face X, or doesn't lie inside; of a notch or a pad nothing of it lies in the face, of a strip not all */
     GWB_MISFIT_OUTLINE_OUTSIDE = 5,
     /** a ring of face X lies inside the outline */
     GWB_MISFIT_OUTLINE_AROUND_RING = 6,
-    /** a point or a vector at face X would not be whole; of a Boolean: all must be X times as large, or more where X is 0 */
+    /** a point or a vector at face X would not be whole; of a Boolean, a notch, a pad, a strip or a chamfer: all must be X times as large, or more where X is 0 */
     GWB_MISFIT_OFF_LATTICE = 7,
     /** what is made at face X would meet or touch the solid elsewhere; of a cut or a Boolean: solid X would touch itself */
     GWB_MISFIT_MEETS = 8,
@@ -254,9 +254,9 @@ static inline const char *gwb_misfit_text(uint32_t number)
     case GWB_MISFIT_NOT_IN_PLANE: return "point X of the outline lies off the plane of the others, or of the face";
     case GWB_MISFIT_OUTLINE_CROSSED: return "side X of the outline crosses or touches another one";
     case GWB_MISFIT_ALONG_PLANE: return "the vector doesn't leave the plane of the points, on the side of the feature";
-    case GWB_MISFIT_OUTLINE_OUTSIDE: return "the outline crosses or touches the boundary of face X, or doesn't lie inside";
+    case GWB_MISFIT_OUTLINE_OUTSIDE: return "the outline crosses or touches the boundary of face X, or doesn't lie inside; of a notch or a pad nothing of it lies in the face, of a strip not all";
     case GWB_MISFIT_OUTLINE_AROUND_RING: return "a ring of face X lies inside the outline";
-    case GWB_MISFIT_OFF_LATTICE: return "a point or a vector at face X would not be whole; of a Boolean: all must be X times as large, or more where X is 0";
+    case GWB_MISFIT_OFF_LATTICE: return "a point or a vector at face X would not be whole; of a Boolean, a notch, a pad, a strip or a chamfer: all must be X times as large, or more where X is 0";
     case GWB_MISFIT_MEETS: return "what is made at face X would meet or touch the solid elsewhere; of a cut or a Boolean: solid X would touch itself";
     case GWB_MISFIT_NO_OPPOSITE: return "there is no face behind the outline in face X";
     case GWB_MISFIT_NOT_PARALLEL: return "face X, behind the outline, isn't parallel";
@@ -284,9 +284,9 @@ enum class Misfit : uint32_t {
     not_in_plane = GWB_MISFIT_NOT_IN_PLANE /**< point X of the outline lies off the plane of the others, or of the face */,
     outline_crossed = GWB_MISFIT_OUTLINE_CROSSED /**< side X of the outline crosses or touches another one */,
     along_plane = GWB_MISFIT_ALONG_PLANE /**< the vector doesn't leave the plane of the points, on the side of the feature */,
-    outline_outside = GWB_MISFIT_OUTLINE_OUTSIDE /**< the outline crosses or touches the boundary of face X, or doesn't lie inside */,
+    outline_outside = GWB_MISFIT_OUTLINE_OUTSIDE /**< the outline crosses or touches the boundary of face X, or doesn't lie inside; of a notch or a pad nothing of it lies in the face, of a strip not all */,
     outline_around_ring = GWB_MISFIT_OUTLINE_AROUND_RING /**< a ring of face X lies inside the outline */,
-    off_lattice = GWB_MISFIT_OFF_LATTICE /**< a point or a vector at face X would not be whole; of a Boolean: all must be X times as large, or more where X is 0 */,
+    off_lattice = GWB_MISFIT_OFF_LATTICE /**< a point or a vector at face X would not be whole; of a Boolean, a notch, a pad, a strip or a chamfer: all must be X times as large, or more where X is 0 */,
     meets = GWB_MISFIT_MEETS /**< what is made at face X would meet or touch the solid elsewhere; of a cut or a Boolean: solid X would touch itself */,
     no_opposite = GWB_MISFIT_NO_OPPOSITE /**< there is no face behind the outline in face X */,
     not_parallel = GWB_MISFIT_NOT_PARALLEL /**< face X, behind the outline, isn't parallel */,
