@@ -315,6 +315,32 @@ class Forked(unittest.TestCase):
         for end in (is_closed, tell_closed):
             os.close(end)
 
+    def test_a_turn_of_a_thread_that_is_not_in_the_child_ends_its_session_there(self):
+        with Workbench(library(), step=STEP) as bench:
+            bench.block((0, 0, 0), (2, 2, 2))
+            script, has_turn, is_over = bench.script(), threading.Event(), threading.Event()
+
+            def have_turn():
+                with bench._kernel.lock:
+                    has_turn.set()
+                    is_over.wait(60)
+
+            other = threading.Thread(target=have_turn)
+            other.start()
+            has_turn.wait(60)
+            process = os.fork()
+            if process == 0:
+                signal.alarm(30)    # (which ends it where it hangs)
+                try:
+                    bench.solids()
+                except Ended:
+                    os._exit(0 if bench.script() == script else 2)
+                os._exit(1)
+            is_over.set()
+            other.join()
+            self.assertEqual(os.waitpid(process, 0)[1], 0)
+            self.assertEqual(bench.volume(bench.block((9, 0, 0), (1, 1, 1))), 1)
+
     def test_a_child_that_closes_leaves_the_session_of_its_parent(self):
         with Workbench(library(), step=STEP) as bench:
             bench.block((0, 0, 0), (2, 2, 2))

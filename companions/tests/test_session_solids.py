@@ -130,7 +130,7 @@ class Whole(unittest.TestCase):
         self.assertEqual(made.of(self.bench.solid(block.solid)).number, made.solid)
         self.assertEqual(made.of(top.edges[0]).number, made.edge(top.edges[0]))
         self.assertEqual(sorted(model.only(made.solid).loops), sorted(made.loops.values()))
-        with self.assertRaises(KeyError):
+        with self.assertRaises(LookupError):
             made.face(made.face(block.top))
 
     def test_a_row(self):

@@ -1,8 +1,10 @@
 """The session of the library, the notes on its commands, the drafts and groups that are open in it, features, and the numbers of new things."""
 
+import os
 from fractions import Fraction
 from threading import Condition
 from typing import Any, Callable, Dict, Iterable, Iterator, List, Optional, Sequence, Tuple, TypeVar, Union
+from weakref import WeakSet
 
 from ..errors import CompanionError, Complaint, InDraft, InGroup, OutOfStep, Refused
 from ..formats.appearance import Appearance, Thing
@@ -36,6 +38,10 @@ _CUTS = ('cut', 'trim')
 _WAYS, _LONE, _NO_CODE = ('in', 'out'), 2 ** 31, -2 ** 64
 
 
+# The sessions of this process.
+_KERNELS: 'WeakSet[Kernel]' = WeakSet()
+
+
 class Kernel:
     """A session, and what is held beside it. Each turn begins with both in agreement; one thread has the turn."""
 
@@ -53,6 +59,7 @@ class Kernel:
         self._lengths = Lengths(unit)
         # The commands that were held when the session ended, and the labels.
         self._ended: Optional[Tuple[List[str], Dict[Thing, Appearance]]] = None
+        _KERNELS.add(self)
 
     @property
     def lengths(self) -> Lengths:
@@ -67,6 +74,14 @@ class Kernel:
         if self.lines.is_open:
             self._ended = self.commands(), self.labels()
         self.lines.close()
+
+    def leave_threads(self) -> None:
+        """In the child of a process that was forked: where another thread had the turn, which isn't there, the session ends."""
+        if self.lock.acquire(blocking=False):
+            self.lock.release()
+            return
+        self.lock, self.is_inside, self.holder = Condition(), False, None
+        self.close()
 
     def begin_turn(self) -> None:
         """With the lock, waits for the end of what is held, unless what calls this is part of it. What an exception left half-way is put right."""
@@ -281,6 +296,14 @@ class Kernel:
             model = self.lines.model([why.value])
             text = (why_unfit(model, why.value) if model.faces else None) or ('' if why.value else "a slope wouldn't be flat")
         return refused(word, why.number, why.value, text)
+
+
+def _leave_threads() -> None:
+    for kernel in list(_KERNELS):
+        kernel.leave_threads()
+
+
+os.register_at_fork(after_in_child=_leave_threads)
 
 
 def _code(value: Union[int, str]) -> int:

@@ -52,7 +52,7 @@ class Part(TakesTurns):
 
 
 class NotThere(Refused, LookupError):
-    """There is no such vertex: no command is refused for one, so the refusal has no number of its own."""
+    """There is no such vertex, or none in the original of a copy: no command is refused for one, so the refusal has no number of its own."""
 
 
 class Selection(Sequence[Found]):

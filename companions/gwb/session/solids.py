@@ -21,7 +21,7 @@ from .bench import Methods, warn
 from .c_calls import EDGES, FACES, INTO, LOOPS, LOWER_CAPS, SOLIDS, UPPER_CAPS, VERTICES, WORD, CutPlane, FaceQuery, Motion, Point, words
 from .kernel import NewNumbers
 from .lengths import Length, exact
-from .reading import Found, Part
+from .reading import Found, NotThere, Part
 from .results import Cut, Numbers, Renumbered, Split
 from .steps import Block
 
@@ -35,8 +35,8 @@ _QUARTERS = ((1, 0), (0, 1), (-1, 0), (0, -1))
 class Copy:
     """A copy of a solid: its number, and for each face, loop, edge and vertex of the original, by its number, that of the copy.
 
-    What is asked for its copy is a number or a thing of the same workbench, else a ValueError or TypeError says so. KeyError: the original has no such
-    thing."""
+    What is asked for its copy is a number or a thing of the same workbench, else a ValueError or TypeError says so. NotThere, a LookupError: the original
+    has no such thing."""
 
     solid: int
     faces: Mapping[int, int]
@@ -48,32 +48,38 @@ class Copy:
 
     def face(self, face: arguments.Face) -> int:
         """The copy of the face."""
-        return self.faces[self._bench._number('face', face)]
+        return self._copied('face', self._bench._number('face', face))
 
     def loop(self, loop: arguments.LoopNumber) -> int:
         """The copy of the loop."""
-        return self.loops[self._bench._number('loop', loop)]
+        return self._copied('loop', self._bench._number('loop', loop))
 
     def edge(self, edge: arguments.Edge) -> int:
         """The copy of the edge."""
-        return self.edges[self._bench._number('edge', edge)]
+        return self._copied('edge', self._bench._number('edge', edge))
 
     def half_edge(self, half: arguments.Edge) -> int:
         """The copy of the half-edge: it starts at the copy of its vertex. In a mirrored copy the loop of its mate has it."""
         edge = self._bench._half_edge('half', half)
-        copied = self.edges[abs(edge)]
+        copied = self._copied('edge', abs(edge))
         return copied if edge > 0 else -copied
 
     def vertex(self, vertex: arguments.Vertex) -> int:
         """The copy of the vertex."""
-        return self.vertices[self._bench._number('vertex', vertex)]
+        return self._copied('vertex', self._bench._number('vertex', vertex))
 
     def of(self, part: Found) -> Found:
         """The copy of a thing of the original, as a thing of the same kind."""
         if not isinstance(part, Part):
             raise arguments.wrong('part', 'a thing of the model', part)
-        numbers = dict(zip(KINDS, ({self.original: self.solid}, self.faces, self.loops, self.edges, self.vertices)))
-        return type(part)(part._kernel, numbers[part.kind][self._bench._number('part', part, part.kind)])
+        return type(part)(part._kernel, self._copied(part.kind, self._bench._number('part', part, part.kind)))
+
+    def _copied(self, kind: str, number: int) -> int:
+        """The copy of a thing, by its number. Raises NotThere."""
+        numbers = dict(zip(KINDS, ({self.original: self.solid}, self.faces, self.loops, self.edges, self.vertices)))[kind]
+        if number not in numbers:
+            raise NotThere(f'No{kind.capitalize()}', number, 0, f'the original, solid {self.original}, has no {kind} {number}')
+        return numbers[number]
 
 
 class SolidMethods(Methods):
