@@ -59,7 +59,7 @@ try:
 	@$(MAKE) -s --no-print-directory -j 2 $(UNPROVED)
 	@echo '2 of 2: the library, with its features in C++: as long again'
 	@if command -v cc > /dev/null; then \
-	    $(MAKE) -s --no-print-directory -C bindings ARCHIVE=../out/libgwb_c-unproved.a OUT=$(TRIED) $(TRIED)/libgwb.so $(TRIED)/libgwb.a; \
+	    $(MAKE) -s --no-print-directory -j 4 -C bindings ARCHIVE=../out/libgwb_c-unproved.a OUT=$(TRIED) $(TRIED)/libgwb.so $(TRIED)/libgwb.a; \
 	else echo 'there is no cc, so the library for C, C++, Rust and Python is left out'; fi
 	@echo 'Built, and nothing of it proved: out/gwb-unproved, and where cc is there libgwb.a and libgwb.so in out/unproved. For example:'
 	@echo '    out/gwb-unproved examples/block_with_hole.gwb'
