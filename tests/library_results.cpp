@@ -63,7 +63,8 @@ static void try_readers(const Session &session)
             edges += (*session.faces_of(edge))[0] == face || (*session.faces_of(edge))[1] == face;
     check(edges == 24, "the edges of all faces");
     check(session.face(Face(9)).error().problem == Problem::absent && session.face(Face(9)).error().value == 9, "a face that is not in use");
-    check(session.half_edges(Loop(1)).size() == 4 && session.half_edge_rows().size() == 24 && session.vertex_rows().size() == 8, "all at once");
+    check(session.half_edges(Loop(1))->size() == 4 && session.half_edge_rows()->size() == 24 && session.vertex_rows()->size() == 8, "all at once");
+    check(session.half_edge_rows(Solid())->empty() && session.faces(Solid(9)).empty() && session.faces(Solid(9)).is_open(), "none of an open session");
 }
 
 static void try_drafts(Session &session)
@@ -101,12 +102,16 @@ static void try_ends(Session session)
 {
     Session moved = std::move(session);
     check(*moved.depth() == 2 && session.depth().error().problem == Problem::closed, "a session that was moved from");
+    const auto is_closed = [](const auto &result) { return result.error().problem == Problem::closed; };
+    check(is_closed(session.half_edge_rows()) && is_closed(session.half_edge_rows(Solid())) && is_closed(session.half_edge_rows(Face(1))), "its rows");
+    check(is_closed(session.vertex_rows()) && is_closed(session.half_edges(Loop(1))), "all of its rows");
+    check(!session.faces(Solid(1)).is_open() && moved.faces(Solid(1)).is_open(), "and its ranges are closed");
     std::size_t seen = 0;
     for (Face face : moved.faces(Solid(1))) {
         seen += face.number();
         gwb_close(moved.handle());
     }
-    check(seen == 1 && !moved.is_open() && moved.faces(Solid(1)).empty() && moved.half_edge_rows().empty(),
+    check(seen == 1 && !moved.is_open() && moved.faces(Solid(1)).empty() && !moved.faces(Solid(1)).is_open() && is_closed(moved.half_edge_rows()),
           "a range ends where its session is closed");
 }
 

@@ -688,7 +688,7 @@ private:
 
 /// A range of what the readers of gwb.h find one after another, by a rule. It can be gone through as often as wanted. Its iterators stay
 /// good as long as the workbench is there. Where that is closed or gone, a range throws Closed; where the model has changed since a walk
-/// round a loop, a vertex or a face began, Changed. Without exceptions it ends there.
+/// round a loop, a vertex or a face began, Changed. Without exceptions it ends there, and is_open() tells an end from a session that is closed.
 template <class Policy, class Rule> class Range {
 public:
     class iterator {
@@ -744,6 +744,8 @@ public:
     [[nodiscard]] iterator begin() const { return iterator(state_.get(), rule_); }
     [[nodiscard]] iterator end() const { return {}; }
     [[nodiscard]] bool empty() const { return begin() == end(); }
+    /// Whether its session is open.
+    [[nodiscard]] bool is_open() const { return gwb_is_open(&state_->handle); }
 
 private:
     std::shared_ptr<const State> state_;
@@ -1286,9 +1288,11 @@ public:
     [[nodiscard]] RangeOf<RoundVertex> around(HalfEdge half_edge) const { return range(RoundVertex(half_edge)); }
 
     /// The half-edges of a loop, from the least on: none where it has one vertex and no edge, or is not there.
-    [[nodiscard]] std::vector<HalfEdge> half_edges(Loop loop) const
+    [[nodiscard]] Returned<std::vector<HalfEdge>> half_edges(Loop loop) const
     {
         std::vector<HalfEdge> found;
+        if (!is_open())
+            return Policy::template failed<std::vector<HalfEdge>>("half-edges", {Problem::closed});
         half_edges(loop, found);
         return found;
     }
@@ -1363,26 +1367,26 @@ public:
     // All at once.
 
     /// The half-edges of a solid with their vertices, neighbours, loops and faces, as gwb_read_half_edges writes them.
-    [[nodiscard]] std::vector<gwb_half_edge_row> half_edge_rows(Solid solid) const
+    [[nodiscard]] Returned<std::vector<gwb_half_edge_row>> half_edge_rows(Solid solid) const
     {
-        if (solid == Solid()) // (for gwb_read_half_edges that would be all)
-            return {};
+        if (is_open() && solid == Solid()) // (for gwb_read_half_edges that would be all)
+            return std::vector<gwb_half_edge_row>();
         return rows<gwb_half_edge_row>(
             [&](gwb_half_edge_row *at, std::size_t room) { return gwb_read_half_edges(seen(), solid.number(), at, room); });
     }
     /// Those of all solids.
-    [[nodiscard]] std::vector<gwb_half_edge_row> half_edge_rows() const
+    [[nodiscard]] Returned<std::vector<gwb_half_edge_row>> half_edge_rows() const
     {
         return rows<gwb_half_edge_row>([&](gwb_half_edge_row *at, std::size_t room) { return gwb_read_half_edges(seen(), 0, at, room); });
     }
     /// Those of a face, loop by loop.
-    [[nodiscard]] std::vector<gwb_half_edge_row> half_edge_rows(Face face) const
+    [[nodiscard]] Returned<std::vector<gwb_half_edge_row>> half_edge_rows(Face face) const
     {
         return rows<gwb_half_edge_row>(
             [&](gwb_half_edge_row *at, std::size_t room) { return gwb_half_edge_rows(seen(), face.number(), at, room); });
     }
     /// All vertices with their points.
-    [[nodiscard]] std::vector<gwb_vertex_row> vertex_rows() const
+    [[nodiscard]] Returned<std::vector<gwb_vertex_row>> vertex_rows() const
     {
         return rows<gwb_vertex_row>([&](gwb_vertex_row *at, std::size_t room) { return gwb_read_vertices(seen(), at, room); });
     }
@@ -1745,14 +1749,12 @@ private:
     }
 
     /// All rows that a call writes, which is given room for them first.
-    template <class Row, class Write> std::vector<Row> rows(Write write) const
+    template <class Row, class Write> Returned<std::vector<Row>> rows(Write write) const
     {
         Row nothing{};
         std::size_t count = write(&nothing, 0);
-        if (count == SIZE_MAX) {
-            Policy::ended({Problem::closed});
-            return {};
-        }
+        if (count == SIZE_MAX)
+            return Policy::template failed<std::vector<Row>>("rows", {Problem::closed});
         std::vector<Row> found(count);
         if (count != 0)
             write(found.data(), count);
