@@ -1,22 +1,6 @@
 /* What each change is found from, gwb_compared of gwb.h says. */
-#include "history.h"
+#include "history_rows.h"
 #include <stdlib.h>
-
-/* A half-edge by something of it, and the place of its row. Those of one key stand in the order of their rows. */
-struct entry {
-    uint32_t key, place;
-};
-
-/* Solids at one time, with their half-edges by themselves, by their faces, and by the vertices at which they start. */
-struct reading {
-    const gwb_half_edge_row *rows;
-    const gwb_vertex_row *starts;
-    struct entry *by_itself, *by_face, *by_start;
-    size_t count;
-    const struct list *faces;
-};
-
-#define NOWHERE SIZE_MAX
 
 static int by_key(const void *one, const void *other)
 {
@@ -62,57 +46,6 @@ static void forget(struct reading *r)
 {
     if (r->by_itself != NULL)
         rattle_dealloc(r->by_itself);
-}
-
-/* The place of the first entry of a key, where there is one. */
-static size_t first_of(const struct reading *r, const struct entry *entries, uint32_t key) { return first_from(entries, r->count, sizeof *entries, key); }
-
-static bool is_of(const struct reading *r, const struct entry *entries, size_t at, uint32_t key) { return at < r->count && entries[at].key == key; }
-
-/* The place of a half-edge's row. */
-static size_t place_of(const struct reading *r, uint32_t half_edge)
-{
-    const size_t at = first_of(r, r->by_itself, half_edge);
-    return is_of(r, r->by_itself, at, half_edge) ? r->by_itself[at].place : NOWHERE;
-}
-
-/* ---- where they lie */
-
-__extension__ typedef __int128 wide;
-struct vector {
-    wide x, y, z;
-};
-
-static struct vector from_to(gwb_point a, gwb_point b) { return (struct vector){(wide)b.x - a.x, (wide)b.y - a.y, (wide)b.z - a.z}; }
-static wide dot(struct vector a, struct vector b) { return a.x * b.x + a.y * b.y + a.z * b.z; }
-static struct vector cross(struct vector a, struct vector b)
-{
-    return (struct vector){a.y * b.z - a.z * b.y, a.z * b.x - a.x * b.z, a.x * b.y - a.y * b.x};
-}
-static int sign(wide a) { return (a > 0) - (a < 0); }
-
-/* Where the half-edge of a place starts and ends, and the way between. */
-static gwb_point start(const struct reading *r, size_t place) { return r->starts[place].point; }
-static gwb_point end(const struct reading *r, size_t place) { return start(r, place_of(r, r->rows[place].half_edge ^ 1)); }
-static struct vector way(const struct reading *r, size_t place) { return from_to(start(r, place), end(r, place)); }
-
-static bool is_one_way(struct vector a, struct vector b)
-{
-    const struct vector across = cross(a, b);
-    return across.x == 0 && across.y == 0 && across.z == 0 && sign(a.x) == sign(b.x) && sign(a.y) == sign(b.y) && sign(a.z) == sign(b.z);
-}
-
-/* A vector across a face, as long as twice its area. */
-static struct vector across_face(const struct reading *r, uint32_t face)
-{
-    const size_t first = first_of(r, r->by_face, face);
-    struct vector sum = {0, 0, 0};
-    for (size_t i = first; is_of(r, r->by_face, i, face); i++) {
-        const gwb_point origin = start(r, r->by_face[first].place);
-        const struct vector part = cross(from_to(origin, start(r, r->by_face[i].place)), from_to(origin, end(r, r->by_face[i].place)));
-        sum = (struct vector){sum.x + part.x, sum.y + part.y, sum.z + part.z};
-    }
-    return sum;
 }
 
 /* Whether a face lies in the plane of one that has half-edges in another reading, and doesn't look the other way. */
@@ -197,13 +130,14 @@ static bool missing_edges(const struct reading *these, const struct reading *oth
     return true;
 }
 
-bool history_find(struct solids *before, struct solids *after, struct list changes[2][2])
+bool history_find(struct solids *before, struct solids *after, struct list changes[2][2], struct list *became)
 {
     struct reading was = {0}, is = {0};
     const bool is_well = read_solids(&was, before) && read_solids(&is, after) &&
                          missing_faces(&is, &was, face_before, &changes[OF_FACES][MADE]) &&
                          missing_faces(&was, &is, survivor, &changes[OF_FACES][REMOVED]) && missing_edges(&is, &was, &changes[OF_EDGES][MADE]) &&
-                         missing_edges(&was, &is, &changes[OF_EDGES][REMOVED]);
+                         missing_edges(&was, &is, &changes[OF_EDGES][REMOVED]) &&
+                         became_find(&was, &is, became);
     forget(&was);
     forget(&is);
     return is_well;

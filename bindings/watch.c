@@ -46,6 +46,7 @@ struct watch {
     size_t places;             /* how many were given */
     struct list asked;         /* of struct asked */
     struct list changes[2][2]; /* of gwb_born_change: what was found last (history.h) */
+    struct list became;        /* of gwb_became_row, alike */
 };
 
 #define NO_SOLIDS {{.size = sizeof(gwb_half_edge_row)}, {.size = sizeof(gwb_vertex_row)}, {.size = sizeof(uint32_t)}}
@@ -70,7 +71,7 @@ struct watch *watch_new(bool is_drafting)
         return NULL;
     struct watch *w = block.at;
     *w = (struct watch){.items = NO_COMMANDS(struct thing), .births = NO_BIRTHS({.size = sizeof(uint64_t)}), .there.size = sizeof(uint32_t),
-                        .calls.size = sizeof(struct call), .asked.size = sizeof(struct asked),
+                        .calls.size = sizeof(struct call), .asked.size = sizeof(struct asked), .became.size = sizeof(gwb_became_row),
                         .changes = {{NO_CHANGES, NO_CHANGES}, {NO_CHANGES, NO_CHANGES}}};
     w->items.is_drafting = is_drafting;
     if (!list_reserve(&w->items.items, 2) || !commands_reserve(&w->items)) {
@@ -120,6 +121,7 @@ void watch_free(struct watch *w)
     list_free(&w->asked);
     list_free(&w->calls);
     list_free(&w->there);
+    list_free(&w->became);
     births_free(&w->births);
     commands_free(&w->items);
     rattle_dealloc(w);
@@ -600,6 +602,7 @@ void watch_redo(struct watch *w, const gwb *g)
 
 static void forget_changes(struct watch *w)
 {
+    w->became.count = 0;
     for (size_t of = OF_FACES; of <= OF_EDGES; of++)
         w->changes[of][MADE].count = w->changes[of][REMOVED].count = 0;
 }
@@ -771,6 +774,17 @@ static void put_births(const struct watch *w, const struct asked *a, uint32_t ki
     sort(changes);
 }
 
+static void put_births_of_became(struct watch *w, const struct asked *a)
+{
+    gwb_became_row *rows = w->became.items;
+    for (size_t i = 0; i < w->became.count; i++) {
+        rows[i].old &= NUMBERS;
+        rows[i].old_birth = birth_before(a, key_of(rows[i].kind, rows[i].old));
+        rows[i].made_birth = birth_of(&w->births, key_of(rows[i].kind, rows[i].made));
+    }
+    became_sort(&w->became);
+}
+
 /* What was touched, as it is now. */
 static bool write_after(struct solids *after, const struct asked *a, const gwb *g)
 {
@@ -785,11 +799,12 @@ static bool compare(struct watch *w, struct asked *a, const gwb *g)
 {
     struct solids after = NO_SOLIDS;
     sort(&a->things);
-    bool is_well = !a->is_lost && write_after(&after, a, g) && mark(w, a) && history_find(&a->before, &after, w->changes);
+    bool is_well = !a->is_lost && write_after(&after, a, g) && mark(w, a) && history_find(&a->before, &after, w->changes, &w->became);
     free_solids(&after);
     for (uint32_t of = OF_FACES; is_well && of <= OF_EDGES; of++)
         for (uint32_t which = MADE; which <= REMOVED; which++)
             put_births(w, a, of == OF_FACES ? GWB_FACE : GWB_EDGE, which == MADE, &w->changes[of][which]);
+    put_births_of_became(w, a);
     if (!is_well)
         forget_changes(w);
     return is_well;
@@ -840,5 +855,14 @@ size_t gwb_compared_births(const gwb *g, uint32_t entity, bool is_made, gwb_born
     const size_t count = list != NULL ? list->count : 0;
     if (count > 0 && room > 0)
         memcpy(rows, list->items, (count < room ? count : room) * list->size);
+    return count;
+}
+
+size_t gwb_became(const gwb *g, gwb_became_row *rows, size_t room)
+{
+    const struct watch *w = gwb_is_open(g) ? beside_of(g)->watch : NULL;
+    const size_t count = w != NULL ? w->became.count : 0;
+    if (count > 0 && room > 0)
+        memcpy(rows, w->became.items, (count < room ? count : room) * sizeof *rows);
     return count;
 }

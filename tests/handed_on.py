@@ -24,7 +24,7 @@ CRATES = ('gwb_c', 'session_slots')
 BESIDE = {'gwb_succeeded', 'gwb_kind_text', 'gwb_is_open', 'gwb_use_heap', 'gwb_open_in', 'gwb_last_block', 'gwb_last_lamina', 'gwb_plus', 'gwb_minus',
           'gwb_lone', 'gwb_read_half_edges', 'gwb_read_vertices', 'gwb_read_triangles', 'gwb_face_triangles', 'gwb_load', 'gwb_lines', 'gwb_changes',
           'gwb_record', 'gwb_recorded', 'gwb_script', 'gwb_watch', 'gwb_watch_from', 'gwb_watch_to', 'gwb_compare', 'gwb_compare_from', 'gwb_compared',
-          'gwb_compared_births', 'gwb_birth',
+          'gwb_compared_births', 'gwb_birth', 'gwb_became',
           'gwb_stop_by', 'gwb_greatest_number'}
 # Exports that gwb.h doesn't show, since calls.c alone gives them. The library exports none of them.
 HIDDEN = {'gwb_lack'}
@@ -198,7 +198,7 @@ def complaints(text: str, folder: Path) -> List[str]:
     """What the stubs tell that is wrong."""
     (folder / 'stubs.h').write_text(text)
     program = str(folder / 'tried')
-    sources = [TOP / 'tests' / 'handed_on.c', *(BINDINGS / name for name in ('calls.c', 'record.c', 'watch.c', 'births.c', 'seeing.c', 'history.c', 'bulk.c', 'heap.c'))]
+    sources = [TOP / 'tests' / 'handed_on.c', *(BINDINGS / name for name in ('calls.c', 'record.c', 'watch.c', 'births.c', 'seeing.c', 'history.c', 'became.c', 'bulk.c', 'heap.c'))]
     build = ['cc', '-std=c11', '-O1', '-Werror=incompatible-pointer-types', '-DGWB_BLOCKS_ALONE', '-o', program,
              *(f'-I{at}' for at in (folder, BINDINGS, BINDINGS / 'include')), *map(str, sources)]
     for words in (build, [program]):

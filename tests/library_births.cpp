@@ -1,11 +1,15 @@
 // Births (gwb_birth) beside whole copies of what is in use: random calls, lines and features with undo, redo, drafts, marks, partial ones too, loads and
-// renumbering, watched from the beginning, from later on, or from within a draft. One birth is one thing's, always. The last line counts.
+// renumbering, watched from the beginning, from later on, or from within a draft. One birth is one thing's, always. And what became of things (gwb_became),
+// beside what the whole model says, pair by pair. The last line counts.
 //
 //     library_births [RUNS]     so many runs of 300 calls: 150 where none is said
 #include "gwb_features.h"
 #include <cstdio>
 #include <cstdlib>
+#include <algorithm>
+#include <array>
 #include <map>
+#include <set>
 #include <string>
 #include <vector>
 
@@ -36,6 +40,113 @@ struct Step {
     Things things, in_part;
 };
 
+// ---- what became of things, from whole models
+
+__extension__ typedef __int128 Wide;
+using Vector = std::array<Wide, 3>;
+Vector from_to(const gwb_point &a, const gwb_point &b) { return {Wide{b.x} - a.x, Wide{b.y} - a.y, Wide{b.z} - a.z}; }
+Wide dot(const Vector &a, const Vector &b) { return a[0] * b[0] + a[1] * b[1] + a[2] * b[2]; }
+Vector cross(const Vector &a, const Vector &b) { return {a[1] * b[2] - a[2] * b[1], a[2] * b[0] - a[0] * b[2], a[0] * b[1] - a[1] * b[0]}; }
+bool is_zero(const Vector &a) { return a == Vector{}; }
+bool are_same(const gwb_point &a, const gwb_point &b) { return is_zero(from_to(a, b)); }
+
+// A side of a face.
+struct Side {
+    std::uint32_t half, face, vertex;
+    gwb_point from, to;
+};
+using Thing = std::pair<std::uint32_t, std::uint64_t>; // its number and birth
+
+// All sides, and births, of a session.
+struct Whole {
+    explicit Whole(const gwb *g)
+    {
+        std::vector<gwb_half_edge_row> rows(gwb_read_half_edges(g, 0, nullptr, 0));
+        gwb_read_half_edges(g, 0, rows.data(), rows.size());
+        std::map<std::uint32_t, gwb_point> starts;
+        for (const gwb_half_edge_row &row : rows)
+            gwb_vertex(g, row.start, &starts[row.half_edge]);
+        for (const gwb_half_edge_row &row : rows) {
+            sides.push_back({row.half_edge, row.face, row.start, starts[row.half_edge], starts[row.half_edge ^ 1]});
+            for (const auto &[kind, number] : {std::pair(GWB_FACE, row.face), std::pair(GWB_EDGE, row.half_edge / 2), std::pair(GWB_VERTEX, row.start)})
+                births[kind][number] = gwb_birth(g, kind, number);
+        }
+        for (const Side &side : sides) {
+            const Vector part = cross(from_to({0, 0, 0}, side.from), from_to({0, 0, 0}, side.to));
+            for (std::size_t i = 0; i < 3; i++)
+                across[side.face][i] += part[i];
+        }
+    }
+    [[nodiscard]] Thing thing(std::uint32_t kind, std::uint32_t number) const { return {number, births.at(kind).at(number)}; }
+    [[nodiscard]] Thing edge(const Side &side) const { return thing(GWB_EDGE, side.half / 2); }
+    [[nodiscard]] Thing face(const Side &side) const { return thing(GWB_FACE, side.face); }
+    [[nodiscard]] Thing vertex(const Side &side) const { return thing(GWB_VERTEX, side.vertex); }
+
+    // What tells whether something is as it was: a vertex with its point, an edge with its ends, a face with its sides.
+    using Look = std::vector<std::array<std::int64_t, 7>>;
+    [[nodiscard]] std::map<std::pair<std::uint32_t, Thing>, Look> looks() const
+    {
+        std::map<std::pair<std::uint32_t, Thing>, Look> found;
+        for (const Side &side : sides) {
+            const std::array<std::int64_t, 7> here = {side.half, side.from.x, side.from.y, side.from.z, side.to.x, side.to.y, side.to.z};
+            found[{GWB_FACE, face(side)}].push_back(here);
+            if (side.half % 2 == 0)
+                found[{GWB_EDGE, edge(side)}].push_back(here);
+            found[{GWB_VERTEX, vertex(side)}] = {{side.from.x, side.from.y, side.from.z}};
+        }
+        for (auto &[key, look] : found)
+            std::sort(look.begin(), look.end());
+        return found;
+    }
+
+    std::vector<Side> sides;
+    std::map<std::uint32_t, std::map<std::uint32_t, std::uint64_t>> births;
+    std::map<std::uint32_t, Vector> across;
+};
+
+// Whether two sides have more than a point in common.
+bool have_part(const Side &one, const Side &other)
+{
+    const Vector way = from_to(one.from, one.to), from = from_to(one.from, other.from), to = from_to(one.from, other.to);
+    if (is_zero(way) || !is_zero(cross(way, from)) || !is_zero(cross(way, to)))
+        return false;
+    const Wide a = dot(way, from), b = dot(way, to);
+    return std::max(a, b) > 0 && std::min(a, b) < dot(way, way) && a != b;
+}
+
+bool is_one_way(const Vector &a, const Vector &b) { return is_zero(cross(a, b)) && dot(a, b) >= 0 && is_zero(a) == is_zero(b); }
+
+using Row = std::tuple<std::uint32_t, Thing, Thing>;
+
+// All rows that there may be, and those of them that there must be, as what was made or changed is of solids that were touched.
+struct Rows {
+    Rows(const Whole &was, const Whole &is) : before(was.looks()), after(is.looks())
+    {
+        for (const Side &old : was.sides)
+            for (const Side &made : is.sides) {
+                if (are_same(old.from, made.from))
+                    add(GWB_VERTEX, was.vertex(old), is.vertex(made));
+                if (!have_part(old, made))
+                    continue;
+                add(GWB_EDGE, was.edge(old), is.edge(made));
+                if (dot(from_to(old.from, old.to), from_to(made.from, made.to)) > 0 && is_one_way(was.across.at(old.face), is.across.at(made.face)))
+                    add(GWB_FACE, was.face(old), is.face(made));
+            }
+    }
+    void add(std::uint32_t kind, const Thing &old, const Thing &made)
+    {
+        const auto there = after.find({kind, old}), was = before.find({kind, made});
+        if (old == made || (there != after.end() && there->second == before.at({kind, old})))
+            return;
+        may.insert({kind, old, made});
+        if (was == before.end() || was->second != after.at({kind, made}))
+            must.insert({kind, old, made});
+    }
+
+    std::map<std::pair<std::uint32_t, Thing>, Whole::Look> before, after;
+    std::set<Row> may, must;
+};
+
 class Run {
 public:
     explicit Run(std::uint64_t seed) : state_(seed * 7919 + 5)
@@ -53,7 +164,10 @@ public:
         for (int turn = 0; turn < turns; turn++) {
             if (turn == begins)
                 begin();
-            step();
+            if (turn > begins && below(12) == 0 && gwb_greatest_number(&g_, GWB_EDGE) < 160)
+                step_that_is_compared();
+            else
+                step();
             if (turn >= begins)
                 compare();
         }
@@ -284,6 +398,32 @@ private:
         default: return is_drafting_ ? end_draft() : draft();
         }
     }
+    // One of which it is told what became of what was there.
+    void step_that_is_compared()
+    {
+        std::size_t place = 0;
+        check(gwb_watch_from(&g_, &place) == GWB_OK, "no watch from a place");
+        const Whole was(&g_);
+        step();
+        const Rows rows(was, Whole(&g_));
+        check(gwb_compare_from(&g_, place) == GWB_OK, "nothing to compare");
+        std::vector<gwb_became_row> told(gwb_became(&g_, nullptr, 0));
+        gwb_became(&g_, told.data(), told.size());
+        std::set<Row> found;
+        bool are_right = true;
+        for (std::size_t at = 0; at < told.size(); at++) {
+            const auto &[kind, old, made, old_birth, made_birth] = told[at];
+            const Row row = {kind, {old, old_birth}, {made, made_birth}};
+            are_right = are_right && rows.may.count(row) != 0 && found.insert(row).second;
+            const auto rank = [](const gwb_became_row &of) { return std::array{of.kind, of.old, of.made}; };
+            are_right = are_right && (at == 0 || rank(told[at - 1]) < rank(told[at]));
+        }
+        are_right = are_right && std::includes(found.begin(), found.end(), rows.must.begin(), rows.must.end());
+        check(are_right, ("what became of things, after " + last_).c_str());
+        for (const Row &row : found)
+            counts[std::get<0>(row) == GWB_FACE ? "faces that became others" : std::get<0>(row) == GWB_EDGE ? "edges" : "vertices"]++;
+        gwb_watch_to(&g_, place);
+    }
     void undo()
     {
         last_ = "undo";
@@ -387,7 +527,7 @@ int main(int count, char **arguments)
         Run(static_cast<std::uint64_t>(run)).go(300);
     for (const auto &[what, times] : Run::counts)
         std::printf("%s: %ld\n", what.c_str(), times);
-    check(runs < 40 || Run::counts.size() == 13, "something never came");
+    check(runs < 40 || Run::counts.size() == 16, "something never came");
     std::printf("%ld passed, %ld failed\n", passed, failed);
     return failed == 0 ? 0 : 1;
 }

@@ -218,6 +218,29 @@ static void try_gone_unseen()
     check(colours.all().empty(), "and not when it is gone");
 }
 
+// Two blocks become one by a union: their tops are one face, the edges between these go on straight, and their corners are at one point.
+static void try_became()
+{
+    Workbench bench;
+    const Block one = bench.block({0, 0, 0}, {4, 4, 4}), two = bench.block({4, 0, 0}, {4, 4, 4});
+    Edge before{};
+    for (Edge edge : bench.edges_of(two.top))
+        if (bench.faces_of(edge)[0] == two.sides[0] || bench.faces_of(edge)[1] == two.sides[0])
+            before = edge;
+    const Became became = follow(bench, [&] { (void)unite(bench, {one, two}); }).became;
+    const auto heir = [](const auto &rows, auto old) {
+        const auto found = std::find_if(rows.begin(), rows.end(), [&](const auto &row) { return row.old == old; });
+        return found != rows.end() ? found->made : decltype(old)();
+    };
+    check(heir(became.faces, two.top) == one.top && heir(became.faces, one.top) == Face(), "the top of one became that of the other");
+    const Edge along = heir(became.edges, before);
+    check(along != Edge() && along != before && bench.faces_of(along)[0].number() * bench.faces_of(along)[1].number() == one.top.number() * one.sides[0].number(),
+          "an edge that goes on straight");
+    check(became.faces.size() == 4 && became.vertices.empty(), "no more than that");
+    const Became none = follow(bench, [&] { bench.block({90, 0, 0}, {4, 4, 4}); }).became;
+    check(none.faces.empty() && none.edges.empty() && none.vertices.empty(), "what is new came of nothing");
+}
+
 // What has no value has none when it is there again, though what it was joined to has one.
 static void try_joined()
 {
@@ -497,7 +520,7 @@ static void try_costs()
 
 int main()
 {
-    for (void (*part)() : {try_operators, try_nested, try_splits, try_gone, try_numbers_used_again, try_gone_unseen, try_joined, try_renumbered, try_throws,
+    for (void (*part)() : {try_operators, try_nested, try_splits, try_gone, try_numbers_used_again, try_gone_unseen, try_became, try_joined, try_renumbered, try_throws,
                            try_walls_and_copies, try_touched,
                            try_what_was_before, try_draft_given_up, try_costs}) {
         try {

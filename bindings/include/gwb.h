@@ -743,6 +743,20 @@ typedef struct gwb_born_change {
 /** The same as gwb_compared with births. A reader. */
 size_t gwb_compared_births(const gwb *g, uint32_t entity, bool is_made, gwb_born_change *rows, size_t room);
 
+/** Something that is gone, or isn't as it was, and another one that came of it, with the births of both. */
+typedef struct gwb_became_row {
+    uint32_t kind; /**< GWB_FACE, GWB_EDGE or GWB_VERTEX */
+    uint32_t old, made;
+    uint64_t old_birth, made_birth;
+} gwb_became_row;
+
+/** Writes what became of faces, edges and vertices by what the last of these compared, such as a feature, by kinds and the old ones, as far as there is room.
+ * Of an edge that hasn't both ends where they were came each other one that runs along a part of it, of a vertex that isn't where it was each other one at
+ * its point, and of a face whose sides aren't what they were each other one of its plane that looks its way and has a part of a side in common with it. What
+ * is as it was has no row. A reader.
+ * @return how many there are */
+size_t gwb_became(const gwb *g, gwb_became_row *rows, size_t room);
+
 /** Whether work is to end. It is asked often while it is done, by the thread that does it, and gives no call for that handle. */
 typedef bool (*gwb_stop)(void *user) GWB_NOEXCEPT;
 

@@ -30,10 +30,24 @@ template <class Kind> struct ChangesOf {
     std::vector<Change<Kind>> removed;
 };
 
+/// Something that is gone or isn't as it was, and another one that came of it, with their births (gwb_became).
+template <class Kind> struct Heir {
+    Kind old, made;
+    std::uint64_t old_birth, made_birth;
+};
+
+/// What came of what isn't as it was, by the old ones.
+struct Became {
+    std::vector<Heir<Face>> faces;
+    std::vector<Heir<Edge>> edges;
+    std::vector<Heir<Vertex>> vertices;
+};
+
 /// What commands did to a model.
 struct Changes {
     ChangesOf<Face> faces;
     ChangesOf<Edge> edges;
+    Became became;
     /// How many commands could be undone before and after them.
     std::size_t from = 0, to = 0;
 
@@ -58,7 +72,7 @@ public:
     [[nodiscard]] Changes changes() const
     {
         require(gwb_compare_from(g_, place_));
-        return {changes_of<Face>(), changes_of<Edge>(), from_, gwb_depth(g_)};
+        return {changes_of<Face>(), changes_of<Edge>(), {heirs<Face>(), heirs<Edge>(), heirs<Vertex>()}, from_, gwb_depth(g_)};
     }
 
 private:
@@ -80,6 +94,18 @@ private:
         std::transform(rows.begin(), rows.end() - 1, found.begin(), [](const gwb_born_change &row) {
             return Change<Kind>{Kind(row.number), Kind(row.other), row.birth, row.other_birth};
         });
+        return found;
+    }
+
+    template <class Kind> [[nodiscard]] std::vector<Heir<Kind>> heirs() const
+    {
+        gwb_became_row none{};
+        std::vector<gwb_became_row> rows(gwb_became(g_, &none, 0) + 1); // (so that it has an address)
+        gwb_became(g_, rows.data(), rows.size());
+        std::vector<Heir<Kind>> found;
+        for (const gwb_became_row &row : rows)
+            if (row.kind == Kind::kind && row.old != 0)
+                found.push_back({Kind(row.old), Kind(row.made), row.old_birth, row.made_birth});
         return found;
     }
 

@@ -1,6 +1,6 @@
 //! What commands made, removed and split of a model, and values on faces and edges that follow it.
 use crate::readers::values;
-use crate::{Edge, Error, Face, Id, Readers, Session};
+use crate::{Edge, Error, Face, Id, Readers, Session, Vertex};
 use std::collections::BTreeMap;
 use std::marker::PhantomData;
 
@@ -26,12 +26,34 @@ pub struct ChangesOf<N> {
     pub removed: Vec<Change<N>>,
 }
 
+/// Something that is gone or isn't as it was, and another one that came of it, with their births.
+#[derive(Clone, Copy, Debug, PartialEq, Eq)]
+#[allow(missing_docs)]
+pub struct Heir<N> {
+    pub old: N,
+    pub made: N,
+    pub old_birth: u64,
+    pub made_birth: u64,
+}
+
+/// What came of what isn't as it was, by the old ones: of an edge that hasn't both ends where they were each other one that runs along a part of it, of a
+/// vertex that isn't where it was each other one at its point, and of a face whose sides aren't what they were each other one of its plane that looks its
+/// way and has a part of a side in common with it.
+#[derive(Clone, Debug, Default, PartialEq, Eq)]
+#[allow(missing_docs)]
+pub struct Became {
+    pub faces: Vec<Heir<Face>>,
+    pub edges: Vec<Heir<Edge>>,
+    pub vertices: Vec<Heir<Vertex>>,
+}
+
 /// What commands did to a model.
 #[derive(Clone, Debug, Default, PartialEq, Eq)]
 #[allow(missing_docs)]
 pub struct Changes {
     pub faces: ChangesOf<Face>,
     pub edges: ChangesOf<Edge>,
+    pub became: Became,
     /// How many commands could be undone before and after them.
     pub depths: [usize; 2],
 }
@@ -74,11 +96,17 @@ impl<'session> Watching<'session> {
     fn changes(&self) -> Result<Changes, Error> {
         let answer = unsafe { gwb_sys::gwb_compare_from(self.session.handle(), self.place) };
         self.session.answered(answer)?;
-        Ok(Changes { faces: self.changes_of(), edges: self.changes_of(), depths: [self.depth, self.session.depth()] })
+        let became = Became { faces: self.heirs(), edges: self.heirs(), vertices: self.heirs() };
+        Ok(Changes { faces: self.changes_of(), edges: self.changes_of(), became, depths: [self.depth, self.session.depth()] })
     }
 
     fn changes_of<N: Noted>(&self) -> ChangesOf<N> {
         ChangesOf { made: self.listed(true), removed: self.listed(false) }
+    }
+
+    fn heirs<N: Id>(&self) -> Vec<Heir<N>> {
+        let all: Vec<gwb_sys::BecameRow> = values(|rows, room| unsafe { gwb_sys::gwb_became(self.session.handle(), rows, room) });
+        all.into_iter().filter(|row| row.kind == N::KIND).map(Heir::from).collect()
     }
 
     fn listed<N: Noted>(&self, are_made: bool) -> Vec<Change<N>> {
@@ -94,6 +122,12 @@ impl<N: Id> From<gwb_sys::BornChange> for Change<N> {
             birth: row.birth,
             other_birth: known(row.other_birth),
         }
+    }
+}
+
+impl<N: Id> From<gwb_sys::BecameRow> for Heir<N> {
+    fn from(row: gwb_sys::BecameRow) -> Self {
+        Self { old: N::from_number(row.old), made: N::from_number(row.made), old_birth: row.old_birth, made_birth: row.made_birth }
     }
 }
 

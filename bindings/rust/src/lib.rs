@@ -50,7 +50,7 @@ pub use error::Error;
 pub use exporting::ExportError;
 pub use features::{circle, Circle, Copied, Hole, Merger, Motion, Notch, Pad, Parts, Pocket, Polyhedron, Profile, Renumbered, Ring, Split};
 pub use gwb_sys::Heap;
-pub use history::{Change, Changes, ChangesOf, Noted, Notes};
+pub use history::{Became, Change, Changes, ChangesOf, Heir, Noted, Notes};
 pub use ids::{lone, minus, plus, Corner, Edge, Face, HalfEdge, Id, Loop, Solid, Vertex};
 pub use off_lattice::{EdgeCut, Fraction, NearPlane, OffLattice};
 pub use operators::Operators;

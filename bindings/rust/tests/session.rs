@@ -1,6 +1,6 @@
 //! A session from outside: what commands make, what refuses them, and what readers find.
 use gwb::{
-    lone, minus, plus, version, Change, Draft, Edge, EdgeQuery, EdgeRow, Error, Face, FaceQuery, FaceRow, HalfEdge, Heap, Loop, Motion, Notes, Operators,
+    lone, minus, plus, version, Became, Change, Draft, Edge, EdgeQuery, EdgeRow, Error, Face, FaceQuery, FaceRow, HalfEdge, Heap, Heir, Loop, Motion, Notes, Operators,
     Plane, Point, Refusal, Session, Solid, Vertex,
 };
 use std::cell::Cell;
@@ -442,6 +442,23 @@ fn what_went_unseen_has_no_colour() {
     session.undo().unwrap();
     assert_eq!(colours.iter(&session).collect::<Vec<_>>(), [(Face(1), &"blue"), (Face(7), &"green")]);
     assert_eq!((colours.remove(&session, Face(1)), colours.get(&session, Face(1))), (Some("blue"), None));
+}
+
+/// Two blocks become one by a union: of what went the faces and edges that go on are told.
+#[test]
+fn what_became_of_things_is_known() {
+    let mut session = block();
+    let other = session.block(None, [4, 0, 0], [4, 4, 4]).unwrap();
+    let old_birth = {
+        Notes::<Face, ()>::new(&mut session).unwrap();
+        session.birth(Face(7)).unwrap()
+    };
+    let (_, changes) = session.followed(|session| session.union(&[Solid(1), other])).unwrap();
+    let made_birth = session.birth(Face(1)).unwrap();
+    assert_eq!(changes.became.faces[0], Heir { old: Face(7), made: Face(1), old_birth, made_birth });
+    assert_eq!((changes.became.faces.len(), changes.became.vertices.len()), (4, 0));
+    assert!(changes.became.edges.iter().all(|heir| session.edge(heir.old).is_none() && session.edge(heir.made).is_some()));
+    assert_eq!(session.followed(|session| session.block(None, [90, 0, 0], [1, 1, 1])).unwrap().1.became, Became::default());
 }
 
 /// What is followed within another is told to both.

@@ -229,6 +229,8 @@ rows! {
     Change { number: u32, other: u32 }
     /// The same with births.
     BornChange { number: u32, other: u32, birth: u64, other_birth: u64 }
+    /// Something that is gone or isn't as it was, and another one that came of it.
+    BecameRow { kind: u32, old: u32, made: u32, old_birth: u64, made_birth: u64 }
     /// A triangle of a face.
     TriangleRow {
         face: u32,
@@ -368,6 +370,7 @@ extern "C" {
     pub fn gwb_compare_from(g: *mut Gwb, place: usize) -> u32;
     pub fn gwb_compared(g: *const Gwb, entity: u32, is_made: bool, rows: *mut Change, room: usize) -> usize;
     pub fn gwb_compared_births(g: *const Gwb, entity: u32, is_made: bool, rows: *mut BornChange, room: usize) -> usize;
+    pub fn gwb_became(g: *const Gwb, rows: *mut BecameRow, room: usize) -> usize;
     pub fn gwb_birth(g: *const Gwb, entity: u32, number: u32) -> u64;
     pub fn gwb_stop_by(g: *mut Gwb, stop: Option<Stop>, user: *mut c_void);
 
