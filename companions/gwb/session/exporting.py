@@ -35,13 +35,23 @@ class Exporting(Methods):
 
     @property
     def labels(self) -> Appearances:
-        """The names and colours that were given, by kind and number."""
+        """The names and colours that were given, by kind and number.
+
+        >>> bench.label(block, 'box')
+        >>> dict(bench.labels)
+        {('solid', 1): Appearance(name='box', colour=None)}
+        """
         return MappingProxyType(self._kernel.labels())
 
     def label(self, thing: Union[SolidPart, FacePart, arguments.MadeSolid], name: str = '', colour: str = '') -> None:
         """Gives a solid, or what a command returned that made it, or a face a name, and a colour such as '#FF8000'; with neither what it had is
         taken away. Raises ValueError where the colour is none, the name is longer than 200 characters, or the thing is of another workbench.
-        Refused: NoSolid, NoFace."""
+        Refused: NoSolid, NoFace.
+
+        >>> bench.label(bench.face(block.top), 'lid', '#FF8000')
+        >>> bench.labels['face', block.top]
+        Appearance(name='lid', colour=(255, 128, 0))
+        """
         said, shade = arguments.text('name', name, 'strict'), arguments.text('colour', colour)
         try:
             look = Appearance(said, colour_of(shade) if shade else None)
@@ -60,15 +70,27 @@ class Exporting(Methods):
 
     @property
     def step(self) -> Fraction:
-        """How fine lengths are, in millimetres: all points are multiples of it. As the session began, but where `refine` made it finer."""
+        """How fine lengths are, in millimetres: all points are multiples of it. As the session began, but where `refine` made it finer.
+
+        >>> bench.step
+        Fraction(1, 1000)
+        """
         return self._kernel.notes.now.unit
 
     def near(self, length: Length) -> Exact:
-        """The multiple of the step that is nearest to a length, in millimetres: the one way to round."""
+        """The multiple of the step that is nearest to a length, in millimetres: the one way to round.
+
+        >>> bench.near('1/3')
+        Fraction(333, 1000)
+        """
         return nearest(exact('length', length), self.step)
 
     def page(self) -> str:
-        """A page in HTML to turn the model and to pick from it in millimetres, as `gwb-view` makes it, with the labels."""
+        """A page in HTML to turn the model and to pick from it in millimetres, as `gwb-view` makes it, with the labels.
+
+        >>> bench.page()[:15]
+        '<!DOCTYPE html>'
+        """
         return self._page('gwb')
 
     def _page(self, title: str) -> str:
@@ -82,7 +104,12 @@ class Exporting(Methods):
         Names and colours go where the form has them. All have the size, in millimetres, GLB in metres; what is no decimal fraction of one
         is rounded to 9 places in OBJ, OFF and STL. Raises
         ValueError for another ending, Unfit where a face isn't flat and plain, nothing is held, or a coordinate is past what GLB holds exactly, OSError where
-        the file can't be written, or a .mtl is there that the .obj doesn't name. Warns where solids touch and the form doesn't keep them apart."""
+        the file can't be written, or a .mtl is there that the .obj doesn't name. Warns where solids touch and the form doesn't keep them apart.
+
+        >>> bench.export(folder / 'part.stl')
+        >>> (folder / 'part.stl').read_text()[:5]
+        'solid'
+        """
         from ..formats.forms import EXPORTED, FORMS, SOLIDS, by_ending, endings
         from ..formats.writing import written
         file = Path(arguments.path('path', path))
@@ -109,7 +136,13 @@ class Exporting(Methods):
         `keep_triangles`; `repair` mends what can be; `flat` takes of STEP the flat solids alone. Warns of what is wrong with the solids, of what is left
         out, and of points that were moved.
         Raises OSError; NotAMesh where it is no such file; Unfit where its surfaces aren't closed, or a point isn't whole or past the range.
-        Refused: NumbersSpent."""
+        Refused: NumbersSpent.
+
+        >>> bench.export(folder / 'part.step')
+        >>> made = bench.import_file(folder / 'part.step')
+        >>> made, made.moved
+        (<solids 2>, 0.0)
+        """
         from ..formats.forms import READ
         from ..formats.importing import read_file
         kind = arguments.text('form', form) and arguments.word('form', form, READ)

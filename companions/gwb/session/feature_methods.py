@@ -36,24 +36,44 @@ class Sketch:
     _kernel: Kernel = field(repr=False, compare=False)
 
     def point(self, u: Length, v: Length) -> ExactPlace:
-        """The point at two coordinates."""
+        """The point at two coordinates.
+
+        >>> sketch = bench.sketch(block.top)
+        >>> sketch.point(3, 2.5)
+        (3, Fraction(5, 2), 10)
+        """
         right, upwards = exact('u', u), exact('v', v)
         x, y, z = (plain(at + right * across + upwards * along) for at, across, along in zip(self.origin, self.right, self.up))
         return (x, y, z)
 
     def points(self, spots: Iterable[Sequence[Length]]) -> List[ExactPlace]:
-        """The points at these coordinates: an outline of straight sides."""
+        """The points at these coordinates: an outline of straight sides.
+
+        >>> sketch = bench.sketch(block.top)
+        >>> sketch.points([(0, 0), (3, 0), (0, 2.5)])
+        [(0, 0, 10), (3, 0, 10), (0, Fraction(5, 2), 10)]
+        """
         return [self.point(*arguments.pair(f'spots[{place}]', spot)) for place, spot in enumerate(arguments.items('spots', spots))]
 
     def rectangle(self, corner: Sequence[Length], sizes: Sequence[Length]) -> List[ExactPlace]:
-        """A rectangle from its lower left corner on, so wide and high."""
+        """A rectangle from its lower left corner on, so wide and high.
+
+        >>> sketch = bench.sketch(block.top)
+        >>> sketch.rectangle((5, 5), (6, 3))
+        [(5, 5, 10), (11, 5, 10), (11, 8, 10), (5, 8, 10)]
+        """
         (u, v), (width, height) = arguments.pair('corner', corner), arguments.pair('sizes', sizes)
         return [self.point(*spot) for spot in ((u, v), (u + width, v), (u + width, v + height), (u, v + height))]
 
     def polygon(self, center: Sequence[Length], radius: Optional[Length] = None, sides: Optional[int] = None, *, diameter: Optional[Length] = None,
                 circle: str = 'corners', within: Length = WITHIN) -> List[ExactPlace]:
         """A polygon for a circle around a center, with the corners that `drill` gives it, the first one to the right. On a slope they lie at such
-        coordinates as give points of the lattice."""
+        coordinates as give points of the lattice.
+
+        >>> sketch = bench.sketch(block.top)
+        >>> sketch.polygon((20, 10), diameter=10, sides=4)
+        [(25, 10, 10), (20, 15, 10), (15, 10, 10), (20, 5, 10)]
+        """
         (u, v), lengths = arguments.pair('center', center), self._kernel.lengths
         found = wanted(lengths, radius, diameter, sides, circle, within)
         corners = found.corners(self._kernel.lines, lcm(*(Fraction(part).denominator for part in (*self.right, *self.up))))
@@ -71,7 +91,12 @@ class FeatureMethods(Methods):
 
         Refused: FewPoints, RepeatedPoint; NoArea: the outline has no area; NotInPlane: a point lies off the plane of the others;
         OutlineCrossed: the outline crosses or touches itself; AlongPlane: the vector lies in the plane of the points; with `top` NotFlat, where an outline or
-        a side isn't flat, with the place of the side from 1 on, and Meets, where the solid would cross or touch itself."""
+        a side isn't flat, with the place of the side from 1 on, and Meets, where the solid would cross or touch itself.
+
+        >>> wedge = bench.profile([(0, 0, 20), (12, 0, 20), (0, 9, 20)], along=(0, 0, 5))
+        >>> bench.volume(wedge)
+        Fraction(270, 1)
+        """
         lengths, outline = self._kernel.lengths, self._kernel.lengths.points('points', points)
         if along is None and top is None:
             raise TypeError('along: a vector is wanted, or top=, another outline')
@@ -115,7 +140,13 @@ class FeatureMethods(Methods):
         outside. Whether faces are flat or cross isn't asked. What a memoryview's `tolist()` gives will do.
 
         Refused: FewPoints: a face has fewer than 3 corners; NotClosed: a side of a face, by its place from 1 on, hasn't one side, of one face, that
-        runs the other way; PointRange. ValueError: a point is of no face, or of faces that meet in it alone."""
+        runs the other way; PointRange. ValueError: a point is of no face, or of faces that meet in it alone.
+
+        >>> points = [(50, 0, 0), (53, 0, 0), (50, 3, 0), (50, 0, 3)]
+        >>> made = bench.polyhedron(points, [(0, 2, 1), (0, 1, 3), (1, 2, 3), (2, 0, 3)])
+        >>> bench.volume(made)
+        Fraction(9, 2)
+        """
         corners = self._kernel.lengths.points('points', points)
         return self._solid_of(solid, corners, arguments.corners('faces', faces, len(corners)))
 
@@ -136,7 +167,12 @@ class FeatureMethods(Methods):
         step upwards; or with plan='z', 'x' or 'y' the coordinates are those that one sees looking against the axis, and the face gives the third.
 
         Refused: NoFace; NotFlat; NotInPlane: the origin, `right` or `up` lies off the plane, no axis lies in it, or with `plan` the axis lies in it;
-        OffLattice: a vector of length 1 isn't of fractions."""
+        OffLattice: a vector of length 1 isn't of fractions.
+
+        >>> sketch = bench.sketch(bench.faces(plane=Plane(x=40)).one())
+        >>> sketch.right, sketch.up
+        ((0, 1, 0), (0, 0, 1))
+        """
         part, axis = FacePart(self._kernel, self._number('face', face)), None if plan is None else 'xyz'.index(arguments.word('plan', plan, ('x', 'y', 'z')))
         start = None if origin is None else self._kernel.lengths.place(self._kernel.lengths.point('origin', origin))
         ways = {name: direction(name, way) if name == 'right' else place(name, way) for name, way in (('right', right), ('up', up)) if way is not None}
@@ -155,7 +191,11 @@ class FeatureMethods(Methods):
 
         Refused: NoFace; NotFlat: the face isn't flat; FewPoints, RepeatedPoint; NoArea: the outline has no area; NotInPlane: a point lies off
         the plane of the face; OutlineCrossed: the outline crosses or touches itself; OutlineOutside: it crosses or touches the boundary of the
-        face, or doesn't lie inside; OutlineAroundRing: a ring of the face lies inside the outline."""
+        face, or doesn't lie inside; OutlineAroundRing: a ring of the face lies inside the outline.
+
+        >>> bench.ring(block.top, [(10, 5, 10), (15, 5, 10), (10, 10, 10)])
+        Ring(face=7, loop=7, edges=(15, 14, 13), vertices=(9, 11, 10))
+        """
         number, outline = self._number('face', face), self._kernel.lengths.points('points', points)
         vertices = (WORD * len(outline))()
         return Ring(*self._kernel.outline('ring', number, outline, beside=[vertices]), tuple(vertices))
@@ -164,14 +204,24 @@ class FeatureMethods(Methods):
         """A pocket so deep behind the outline in the face, or moved along a vector into the solid, which may lean.
 
         Refused as ring is; OffLattice: no whole vector along the normal is so long; AlongPlane: the vector lies in the face or points out of it; Meets:
-        the pocket would come through, or meet or touch something of the solid."""
+        the pocket would come through, or meet or touch something of the solid.
+
+        >>> _ = bench.pocket(block.top, [(10, 5, 10), (15, 5, 10), (10, 10, 10)], depth=4)
+        >>> bench.volume(block)
+        Fraction(7950, 1)
+        """
         return self._raised('pocket', face, points, depth=depth, along=along)
 
     def boss(self, face: arguments.Face, points: arguments.Points, height: Optional[Length] = None, *, along: Optional[arguments.Point] = None) -> Pocket:
         """A boss so high on the outline in the face, or moved along a vector out of the solid, which may lean.
 
         Refused as ring is; OffLattice: no whole vector along the normal is so long; AlongPlane: the vector lies in the face or points into the solid;
-        Meets: the boss would meet or touch something of the solid."""
+        Meets: the boss would meet or touch something of the solid.
+
+        >>> _ = bench.boss(block.top, [(10, 5, 10), (15, 5, 10), (10, 10, 10)], along=(2, 0, 4))
+        >>> bench.volume(block)
+        Fraction(8050, 1)
+        """
         return self._raised('boss', face, points, height=height, along=along)
 
     def hole(self, face: arguments.Face, points: arguments.Points) -> Hole:
@@ -179,7 +229,12 @@ class FeatureMethods(Methods):
 
         Refused as ring is, also for the boundary and the rings of the opposite face; NoOpposite: there is nothing behind the outline; NotParallel: the
         face behind it isn't parallel; OffLattice: its plane lies off the lattice behind the face; Meets: the hole would meet or touch something else of
-        the solid."""
+        the solid.
+
+        >>> _ = bench.hole(block.top, [(10, 5, 10), (15, 5, 10), (10, 10, 10)])
+        >>> bench.volume(block)
+        Fraction(7875, 1)
+        """
         number, outline = self._number('face', face), self._kernel.lengths.points('points', points)
         return Hole(*self._kernel.outline('hole', number, outline), tuple(map(self._kernel.lengths.place, outline)))
 
@@ -198,7 +253,12 @@ class FeatureMethods(Methods):
         on one point; NotInPlane: the center lies off the plane of the face; OutlineOutside: the polygon crosses or touches the boundary of the
         face or of the opposite one, or doesn't lie inside; OutlineAroundRing: a ring of either face lies inside the polygon; NoOpposite: there
         is nothing behind it; NotParallel: the face behind it isn't parallel; Meets: the hole would meet or touch something else of the solid,
-        or with a depth come through it."""
+        or with a depth come through it.
+
+        >>> hole = bench.drill(block.top, (20, 10, 10), diameter=6, circle='flats')
+        >>> len(hole.sides), round(hole.reach[0], 3)
+        (20, 3.0)
+        """
         number, lengths = self._number('face', face), self._kernel.lengths
         middle = lengths.point('center', center)
         ending, *reach = ('', 0) if depth is None and along is None else self._reach(depth=depth, along=along)
@@ -226,7 +286,12 @@ class FeatureMethods(Methods):
         """The solids become one along the faces that match: its number, the first one's.
 
         Refused: NoMatch: no chain of matching faces joins a solid with the first; GluedTwice: two of them match along more than the one face that a
-        gluing takes, so that the rest would touch."""
+        gluing takes, so that the rest would touch.
+
+        >>> other = bench.block((40, 0, 0), (10, 20, 10))
+        >>> bench.volume(bench.glue_all([block, other]))
+        Fraction(10000, 1)
+        """
         numbers = self._different('solids', solids, 'solid')
         self._kernel.give('glue_all', words(numbers), len(numbers))
         return numbers[0]
@@ -238,29 +303,55 @@ class FeatureMethods(Methods):
         Refused: NoFace; NotFlat: the face isn't flat, or a face near it isn't; NotInPlane, FewPoints, RepeatedPoint, NoArea and OutlineCrossed for the
         points; OutlineOutside: nothing of what the outline goes round lies in the face; OffLattice: no whole vector along the normal is so long, or a
         corner would lie between whole coordinates: with how many times finer all must be, or 0 where nothing helps; Meets: the solid would touch
-        itself; NothingLeft."""
+        itself; NothingLeft.
+
+        >>> _ = bench.notch(block.top, [(0, 0, 10), (5, 0, 10), (5, 5, 10)], depth=4)
+        >>> bench.volume(block)
+        Fraction(7950, 1)
+        """
         number, outline = self._number('face', face), self._kernel.lengths.points('points', points)
         return Notch(*self._shaped('notch', number, rows(outline), len(outline), depth=depth))
 
     def pad(self, face: arguments.Face, points: arguments.Points, height: Length) -> Pad:
         """What lies over an outline in the plane of the face is filled, so high: the outline may leave the face, and what is there already becomes one
-        with it. Refused as notch is."""
+        with it. Refused as notch is.
+
+        >>> _ = bench.pad(block.top, [(30, 5, 10), (50, 5, 10), (50, 10, 10)], height=4)
+        >>> bench.volume(block)
+        Fraction(8200, 1)
+        """
         number, outline = self._number('face', face), self._kernel.lengths.points('points', points)
         return Pad(*self._shaped('pad', number, rows(outline), len(outline), height=height))
 
     def slot(self, face: arguments.Face, start: arguments.Point, end: arguments.Point, width: Length, depth: Length) -> Notch:
         """A slot with a flat floor, so wide and deep, whose middle line runs in the face from one point to another. Refused as notch is;
-        OffLattice: half of the width isn't whole across the line."""
+        OffLattice: half of the width isn't whole across the line.
+
+        >>> _ = bench.slot(block.top, (20, 0, 10), (20, 20, 10), width=6, depth=4)
+        >>> bench.volume(block)
+        Fraction(7520, 1)
+        """
         return Notch(*self._shaped('slot', face, start=start, end=end, width=width, depth=depth))
 
     def groove(self, face: arguments.Face, start: arguments.Point, end: arguments.Point, width: Length, depth: Length) -> Notch:
         """A groove like a V, so wide at the face and so deep under its middle line, which runs from one point to another; it has no floor.
-        Refused as notch is; OffLattice: half of the width isn't whole across the line."""
+        Refused as notch is; OffLattice: half of the width isn't whole across the line.
+
+        >>> _ = bench.groove(block.top, (20, 0, 10), (20, 20, 10), width=6, depth=4)
+        >>> bench.volume(block)
+        Fraction(7760, 1)
+        """
         return Notch(*self._shaped('groove', face, start=start, end=end, width=width, depth=depth))
 
     def shoulder(self, face: arguments.Face, edge: arguments.Edge, width: Length, depth: Length) -> Notch:
         """A step along an edge of the face: so wide in the face, from the edge on, and so deep behind it. Refused as notch is; NoEdge,
-        NotOfFace: the edge isn't one of the face."""
+        NotOfFace: the edge isn't one of the face.
+
+        >>> edge = bench.edges(between=(block.top, block.sides[1])).one()
+        >>> _ = bench.shoulder(block.top, edge, width=6, depth=4)
+        >>> bench.volume(block)
+        Fraction(7520, 1)
+        """
         number, along = self._number('face', face), self._number('edge', edge)
         return Notch(*self._shaped('shoulder', number, along, width=width, depth=depth))
 
@@ -269,7 +360,13 @@ class FeatureMethods(Methods):
         far as `other` says: the number of the face. At an edge that bends inwards the room is filled.
 
         Refused: NoEdge; NotFlat: a face of the edge isn't flat, or the slope wouldn't be; FlatEdge: both lie in one plane; OffLattice: a
-        corner wouldn't be whole; OutlineOutside, Meets: there is no room for it."""
+        corner wouldn't be whole; OutlineOutside, Meets: there is no room for it.
+
+        >>> edge = bench.edges(between=(block.top, block.sides[1])).one()
+        >>> _ = bench.chamfer(edge, 2)
+        >>> bench.volume(block)
+        Fraction(7960, 1)
+        """
         number, wide = self._number('edge', edge), self._kernel.lengths.positive('width', width)
         far = wide if other is None else self._kernel.lengths.positive('other', other)
         return self._sloped('chamfer', [number], number, wide, far)[0]
@@ -279,7 +376,12 @@ class FeatureMethods(Methods):
         of the edges that end at a vertex are among them, their slopes meet there.
 
         Refused: as chamfer is; NoCorner: slopes of edges that end at a vertex don't meet in one point, or more than three edges end there; NotAlike: an
-        edge is of another solid than the first, or bends the other way."""
+        edge is of another solid than the first, or bends the other way.
+
+        >>> _ = bench.chamfer_edges(bench.face(block.top).edges, 2)
+        >>> bench.volume(block)
+        Fraction(23312, 3)
+        """
         numbers, wide = self._different('edges', edges, 'edge'), self._kernel.lengths.positive('width', width)
         return self._sloped('chamfer_edges', numbers, words(numbers), len(numbers), wide)
 

@@ -87,7 +87,11 @@ class Selection(Sequence[Found]):
 
     @property
     def numbers(self) -> Tuple[int, ...]:
-        """Their numbers."""
+        """Their numbers.
+
+        >>> bench.edges(along=(0, 0, 1)).numbers
+        (5, 6, 8, 10)
+        """
         return tuple(part.number for part in self._parts)
 
     def __and__(self, other: 'Selection[Found]') -> 'Selection[Found]':
@@ -103,7 +107,11 @@ class Selection(Sequence[Found]):
         return self._with(other, 'or', or_)
 
     def where(self, fits: Callable[[Found], object]) -> 'Selection[Found]':
-        """Those for which the function says something true."""
+        """Those for which the function says something true.
+
+        >>> bench.faces().where(lambda face: face.area == 800)
+        <faces 1, 2>
+        """
         return Selection(self._kind, self._wanted, [part for part in self._parts if fits(part)])
 
     def _with(self, other: 'Selection[Found]', word: str, merged: Callable[[FrozenSet[Found], FrozenSet[Found]], FrozenSet[Found]]) -> 'Selection[Found]':
@@ -113,29 +121,49 @@ class Selection(Sequence[Found]):
         return Selection(self._kind, f'{self._wanted} {word}{other._wanted}', sorted(merged(self._set, other._set), key=index))
 
     def one(self) -> Found:
-        """The only one; NotOne says what was found where there isn't exactly one."""
+        """The only one; NotOne says what was found where there isn't exactly one.
+
+        >>> bench.faces(normal=(0, 0, 1)).one()
+        <face 1>
+        """
         if len(self._parts) == 1:
             return self._parts[0]
         found = f'{len(self)} were found: {", ".join(map(str, self.numbers))}' if self else 'none was found'
         raise NotOne(f'one {self._kind}{self._wanted} was wanted; {found}')
 
     def farthest(self, direction: Place) -> 'Selection[Found]':
-        """Those whose nearest point lies farthest along the direction; more than one where they are level."""
+        """Those whose nearest point lies farthest along the direction; more than one where they are level.
+
+        >>> bench.faces().farthest((1, 0, 0)).one().normal
+        (1, 0, 0)
+        """
         way = whole_direction('direction', direction)
         return self._best(lambda part: min(along_way(way, point) for point in part.points), f', farthest along {way}')
 
     def nearest(self, point: Place) -> 'Selection[Found]':
-        """Those with the corner that lies nearest to the point; more than one where they are as near."""
+        """Those with the corner that lies nearest to the point; more than one where they are as near.
+
+        >>> bench.vertices().nearest((38, 19, 9)).one().point
+        (40, 20, 10)
+        """
         spot = place('point', point)
         word = f', nearest to ({", ".join(map(str, spot))})'
         return self._best(lambda part: max(-sum((at - to) ** 2 for at, to in zip(corner, spot)) for corner in part.points), word)
 
     def top(self) -> 'Selection[Found]':
-        """Those that lie highest, along z."""
+        """Those that lie highest, along z.
+
+        >>> bench.faces().top().one().normal
+        (0, 0, 1)
+        """
         return self.farthest((0, 0, 1))
 
     def bottom(self) -> 'Selection[Found]':
-        """Those that lie lowest, along z."""
+        """Those that lie lowest, along z.
+
+        >>> bench.faces().bottom().one().normal
+        (0, 0, -1)
+        """
         return self.farthest((0, 0, -1))
 
     def _best(self, reach: Callable[[Part], Exact], word: str) -> 'Selection[Found]':

@@ -113,7 +113,11 @@ class Plane(_Plane):
 
     @classmethod
     def through(cls, point: Place, normal: Place) -> 'Plane':
-        """The plane through a point, across a direction."""
+        """The plane through a point, across a direction.
+
+        >>> Plane.through((0, 0, 8), (0, 0, 2))
+        Plane(a=0, b=0, c=1, d=-8, flat=True)
+        """
         spot, way = place('point', point), direction('normal', normal)
         return cls(*way, -sum(Fraction(along) * at for along, at in zip(way, spot)))
 

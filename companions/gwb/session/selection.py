@@ -62,34 +62,62 @@ class Reading(Methods):
     scripts are: times `step` they are millimetres. Of nothing there are no rows. An array stays what it is when the model changes."""
 
     def solid(self, solid: arguments.Solid) -> SolidPart:
-        """The solid of this number. If there is none, what is asked of it raises Refused; the same holds for the four kinds below."""
+        """The solid of this number. If there is none, what is asked of it raises Refused; the same holds for the four kinds below.
+
+        >>> bench.solid(1).faces
+        <faces 1, 2, 3, 4, 5, 6>
+        """
         return SolidPart(self._kernel, self._number('solid', solid))
 
     def face(self, face: arguments.Face) -> FacePart:
-        """The face of this number."""
+        """The face of this number.
+
+        >>> bench.face(block.top).normal
+        (0, 0, 1)
+        """
         return FacePart(self._kernel, self._number('face', face))
 
     def loop(self, loop: arguments.LoopNumber) -> LoopPart:
-        """The loop of this number."""
+        """The loop of this number.
+
+        >>> bench.loop(1).face
+        <face 1>
+        """
         return LoopPart(self._kernel, self._number('loop', loop))
 
     def edge(self, edge: arguments.Edge) -> EdgePart:
-        """The edge of this number."""
+        """The edge of this number.
+
+        >>> bench.edge(1).points
+        ((0, 0, 0), (40, 0, 0))
+        """
         return EdgePart(self._kernel, self._number('edge', edge))
 
     def vertex(self, vertex: arguments.Vertex) -> VertexPart:
-        """The vertex of this number."""
+        """The vertex of this number.
+
+        >>> bench.vertex(7).point
+        (40, 20, 10)
+        """
         return VertexPart(self._kernel, self._number('vertex', vertex))
 
     def solids(self) -> 'Selection[SolidPart]':
-        """All solids."""
+        """All solids.
+
+        >>> bench.solids()
+        <solids 1>
+        """
         return self._selected(SolidPart, self._kernel.lines.numbers('solid'))
 
     def faces(self, *, solid: Optional[arguments.Solid] = None, plane: Optional[arguments.Point] = None,
               normal: Optional[arguments.Point] = None, containing: Optional[arguments.Point] = None,
               area: Optional[arguments.Length] = None) -> 'Selection[FacePart]':
         """The faces that fit: of the solid; wholly in the plane a x + b y + c z + d = 0, four numbers or what `plane` returns, whichever way
-        they look; flat, and looking the way of the normal; flat, with the point inside or on the outline; flat, and so large, exactly."""
+        they look; flat, and looking the way of the normal; flat, with the point inside or on the outline; flat, and so large, exactly.
+
+        >>> bench.faces(plane=Plane(x=40)).one().normal
+        (1, 0, 0)
+        """
         query = FaceQuery(
             solid=self._sought_in(solid),
             plane=None if plane is None else pointer(CutPlane(*self._kernel.lengths.plane_across('plane', plane))),
@@ -101,7 +129,11 @@ class Reading(Methods):
 
     def edges(self, *, solid: Optional[arguments.Solid] = None, between: Optional[Tuple[arguments.Face, arguments.Face]] = None,
               along: Optional[arguments.Point] = None, length: Optional[arguments.Length] = None) -> 'Selection[EdgePart]':
-        """The edges that fit: of the solid; between two faces; along the vector, one way or the other; so long, exactly."""
+        """The edges that fit: of the solid; between two faces; along the vector, one way or the other; so long, exactly.
+
+        >>> bench.edges(along=(0, 0, 1))
+        <edges 5, 6, 8, 10>
+        """
         pair = self._several('between', (0, 0) if between is None else between, 'face')
         if len(pair) != 2:
             raise ValueError(f'between: two numbers are wanted, not {len(pair)}')
@@ -113,85 +145,149 @@ class Reading(Methods):
         return self._selected(EdgePart, self._kernel.find('find_edges', query), solid=solid, between=between, along=along, length=length)
 
     def vertices(self, *, solid: Optional[arguments.Solid] = None, at: Optional[arguments.Point] = None) -> 'Selection[VertexPart]':
-        """The vertices of the solid, or all; `at` a point."""
+        """The vertices of the solid, or all; `at` a point.
+
+        >>> bench.vertices(at=(40, 20, 10))
+        <vertices 7>
+        """
         spot = None if at is None else self._kernel.lengths.point('at', at)
         numbers = self._kernel.lines.numbers('vertex') if solid is None else self.solid(solid).vertices.numbers
         fitting = [number for number in numbers if spot is None or self._kernel.lines.vertex(number) == spot]
         return self._selected(VertexPart, fitting, solid=solid, at=at)
 
     def bounding_box(self, solid: arguments.Solid) -> solid_measures.BoundingBox:
-        """The least box with sides along the axes around the solid. Refused: NoSolid."""
+        """The least box with sides along the axes around the solid. Refused: NoSolid.
+
+        >>> bench.bounding_box(block)
+        BoundingBox(low=(0, 0, 0), high=(40, 20, 10))
+        """
         found, lengths = solid_measures.bounding_box(*self._alone(solid)), self._kernel.lengths
         return solid_measures.BoundingBox(lengths.place(found.low), lengths.place(found.high))
 
     def centroid(self, solid: arguments.Solid) -> ExactPlace:
-        """The centre of mass of the solid, of even density. Refused: NoSolid. Raises NoVolume where it encloses none."""
+        """The centre of mass of the solid, of even density. Refused: NoSolid. Raises NoVolume where it encloses none.
+
+        >>> bench.centroid(block)
+        (20, 10, 5)
+        """
         return self._kernel.lengths.place(solid_measures.centroid(*self._alone(solid)))
 
     def inertia(self, solid: arguments.Solid, about: Optional[arguments.Point] = None) -> solid_measures.Inertia:
         """The moments of inertia of the solid, of density one, about a point or else its centroid. Refused: NoSolid. Raises NoVolume where it
-        encloses none and no point is given."""
+        encloses none and no point is given.
+
+        >>> bench.inertia(block).moments
+        (Fraction(1000000, 3), Fraction(3400000, 3), Fraction(4000000, 3))
+        """
         step = self._kernel.lengths.step
         middle = None if about is None else _times(place('about', about), 1 / step)
         found = solid_measures.inertia(*self._alone(solid), middle)
         return solid_measures.Inertia(*(_times(row, step ** power) for row, power in ((found.about, 1), (found.moments, 5), (found.products, 5))))
 
     def surface_area(self, solid: arguments.Solid) -> float:
-        """The area of all faces of the solid, rounded. Refused: NoSolid."""
+        """The area of all faces of the solid, rounded. Refused: NoSolid.
+
+        >>> bench.surface_area(block)
+        2800.0
+        """
         return float(solid_measures.surface_area(*self._alone(solid)) * self._kernel.lengths.step ** 2)
 
     def area(self, face: arguments.Face) -> float:
-        """The area of the face, rounded: the root of square_area. Refused: NoFace."""
+        """The area of the face, rounded: the root of square_area. Refused: NoFace.
+
+        >>> bench.area(block.top)
+        800.0
+        """
         return float(solid_measures.area(*self._faces(face=face)) * self._kernel.lengths.step ** 2)
 
     def square_area(self, face: arguments.Face) -> Fraction:
-        """The square of the area of the face. Refused: NoFace."""
+        """The square of the area of the face. Refused: NoFace.
+
+        >>> bench.square_area(block.top)
+        Fraction(640000, 1)
+        """
         return solid_measures.square_area(*self._faces(face=face)) * self._kernel.lengths.step ** 4
 
     def length(self, edge: arguments.Edge) -> float:
-        """The length of the edge, rounded: the root of square_length. Refused: NoEdge."""
+        """The length of the edge, rounded: the root of square_length. Refused: NoEdge.
+
+        >>> bench.length(1)
+        40.0
+        """
         return float(solid_measures.root(Fraction(self.square_length(edge))))
 
     def square_length(self, edge: arguments.Edge) -> Exact:
-        """The square of the length of the edge. Refused: NoEdge."""
+        """The square of the length of the edge. Refused: NoEdge.
+
+        >>> bench.square_length(1)
+        1600
+        """
         start, end = EdgePart(self._kernel, abs(self._half_edge('edge', edge))).points
         return plain(Fraction(sum((to - at) ** 2 for at, to in zip(start, end))))
 
     def distance(self, face: arguments.Face, other: arguments.Face) -> float:
-        """The distance of the planes of two parallel faces, rounded: the root of square_distance. Refused: NoFace. Raises NotParallel."""
+        """The distance of the planes of two parallel faces, rounded: the root of square_distance. Refused: NoFace. Raises NotParallel.
+
+        >>> bench.distance(block.top, block.bottom)
+        10.0
+        """
         return float(solid_measures.distance(*self._faces(face=face, other=other)) * self._kernel.lengths.step)
 
     def square_distance(self, face: arguments.Face, other: arguments.Face) -> Fraction:
-        """The square of the distance of the planes of two parallel faces. Refused: NoFace. Raises NotParallel."""
+        """The square of the distance of the planes of two parallel faces. Refused: NoFace. Raises NotParallel.
+
+        >>> bench.square_distance(block.top, block.bottom)
+        Fraction(100, 1)
+        """
         return solid_measures.square_distance(*self._faces(face=face, other=other)) * self._kernel.lengths.step ** 2
 
     def section(self, solid: arguments.Solid, plane: arguments.Point) -> List[sections.Polygon]:
         """The polygons in which the plane a x + b y + c z + d = 0 cuts the solid, seen from above the plane: outlines run counterclockwise,
-        holes clockwise; none where it misses the solid. Refused: NoSolid. Raises ValueError where a, b and c are zero."""
+        holes clockwise; none where it misses the solid. Refused: NoSolid. Raises ValueError where a, b and c are zero.
+
+        >>> bench.section(block, Plane(z=5))[0]
+        ((0, 0, 5), (40, 0, 5), (40, 20, 5), (0, 20, 5))
+        """
         coefficients = self._kernel.lengths.plane('plane', plane)
         return [tuple(map(self._kernel.lengths.place, polygon)) for polygon in sections.section(*self._alone(solid), coefficients)]
 
     def off_lattice(self, solid: arguments.Solid, plane: arguments.Point) -> OffLatticeCut:
         """Where the plane cuts the edges of the solid, how many times finer the step must be for all of these points to be multiples of it, and planes
-        nearby that `split` takes. Refused: NoSolid; PlaneRange: a coefficient is out of range. Raises ValueError where a, b and c are zero."""
+        nearby that `split` takes. Refused: NoSolid; PlaneRange: a coefficient is out of range. Raises ValueError where a, b and c are zero.
+
+        >>> bench.off_lattice(block, (7, 0, 0, -1)).factor
+        7
+        """
         coefficients = self._kernel.lengths.plane('plane', plane)
         found, number = self._alone(solid)
         self._kernel.whole_factor(number, coefficients)    # (refused where one is out of range)
         return OffLatticeCut.of(lattice_cuts.off_lattice_cut(found, number, coefficients), self._kernel.lengths)
 
     def vertices_array(self) -> memoryview:
-        """A row for each vertex, rising: its number, and x, y and z in steps, in 64 bits each."""
+        """A row for each vertex, rising: its number, and x, y and z in steps, in 64 bits each.
+
+        >>> bench.vertices_array().tolist()[6]
+        [7, 40000, 20000, 10000]
+        """
         return self._rows('read_vertices', [], self._kernel.lines.greatest('vertex'), 4, 'q')
 
     def half_edges_array(self, solid: Optional[arguments.Solid] = None) -> memoryview:
         """A row for each half-edge, of a solid or of all, in 32 bits each: it, the vertex at which it starts, the half-edge after it in its loop, its
         loop and its face. A half-edge is here twice the number of its edge, and 1 more for `-`. Those of a loop come one after another, the outer loop of
-        a face before its rings."""
+        a face before its rings.
+
+        >>> bench.half_edges_array(block).tolist()[0]
+        [24, 8, 14, 1, 1]
+        """
         return self._rows('read_half_edges', [self._of(solid)], 2 * self._kernel.lines.greatest('edge'), 5, 'I')
 
     def triangles_array(self, solid: Optional[arguments.Solid] = None) -> memoryview:
         """A row for each triangle of the faces of a solid, or of all, in 32 bits each: the face, and three vertices, counterclockwise as seen from outside.
-        A face that isn't flat, or whose loops cross, has none."""
+        A face that isn't flat, or whose loops cross, has none.
+
+        >>> bench.triangles_array(block).shape
+        (12, 4)
+        """
         return self._rows('read_triangles', [self._of(solid)], 6 * self._kernel.lines.greatest('edge'), 4, 'I')
 
     def _selected(self, kind: Type[Found], numbers: Iterable[int], **criteria: object) -> 'Selection[Found]':

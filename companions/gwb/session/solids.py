@@ -47,29 +47,59 @@ class Copy:
     _bench: Methods = field(repr=False, compare=False)
 
     def face(self, face: arguments.Face) -> int:
-        """The copy of the face."""
+        """The copy of the face.
+
+        >>> made = bench.copy(block, move=(0, 0, 30))
+        >>> bench.plane(made.face(block.top)).d
+        -40
+        """
         return self._copied('face', self._bench._number('face', face))
 
     def loop(self, loop: arguments.LoopNumber) -> int:
-        """The copy of the loop."""
+        """The copy of the loop.
+
+        >>> made = bench.copy(block, move=(0, 0, 30))
+        >>> made.loop(1)
+        7
+        """
         return self._copied('loop', self._bench._number('loop', loop))
 
     def edge(self, edge: arguments.Edge) -> int:
-        """The copy of the edge."""
+        """The copy of the edge.
+
+        >>> made = bench.copy(block, move=(0, 0, 30))
+        >>> bench.edge(made.edge(1)).points
+        ((0, 0, 30), (40, 0, 30))
+        """
         return self._copied('edge', self._bench._number('edge', edge))
 
     def half_edge(self, half: arguments.Edge) -> int:
-        """The copy of the half-edge: it starts at the copy of its vertex. In a mirrored copy the loop of its mate has it."""
+        """The copy of the half-edge: it starts at the copy of its vertex. In a mirrored copy the loop of its mate has it.
+
+        >>> made = bench.copy(block, mirror=Plane(x=0))
+        >>> made.half_edge(-1)
+        -13
+        """
         edge = self._bench._half_edge('half', half)
         copied = self._copied('edge', abs(edge))
         return copied if edge > 0 else -copied
 
     def vertex(self, vertex: arguments.Vertex) -> int:
-        """The copy of the vertex."""
+        """The copy of the vertex.
+
+        >>> made = bench.copy(block, move=(0, 0, 30))
+        >>> bench.vertex(made.vertex(7)).point
+        (40, 20, 40)
+        """
         return self._copied('vertex', self._bench._number('vertex', vertex))
 
     def of(self, part: Found) -> Found:
-        """The copy of a thing of the original, as a thing of the same kind."""
+        """The copy of a thing of the original, as a thing of the same kind.
+
+        >>> made = bench.copy(block, move=(0, 0, 30))
+        >>> made.of(bench.solid(block))
+        <solid 2>
+        """
         if not isinstance(part, Part):
             raise arguments.wrong('part', 'a thing of the model', part)
         return type(part)(part._kernel, self._copied(part.kind, self._bench._number('part', part, part.kind)))
@@ -86,7 +116,12 @@ class SolidMethods(Methods):
     """Solids as things. Each method is one command; one that is refused leaves everything as it was."""
 
     def delete(self, solid: arguments.Solid) -> None:
-        """The solid goes, with all that it has. Refused: NoSolid."""
+        """The solid goes, with all that it has. Refused: NoSolid.
+
+        >>> bench.delete(block)
+        >>> bench.solids()
+        <solids none>
+        """
         self._kernel.give('kill_solid', self._number('solid', solid))
 
     def copy(self, solid: arguments.Solid, *, move: arguments.Point = ZERO, mirror: Optional[arguments.Point] = None) -> Copy:
@@ -94,13 +129,22 @@ class SolidMethods(Methods):
         the original.
 
         Refused: NoSolid; PointRange: a point would leave the range; OffLattice: one would be mirrored between whole coordinates;
-        NumbersSpent: there are no free numbers."""
+        NumbersSpent: there are no free numbers.
+
+        >>> made = bench.copy(block, move=(0, 0, 30))
+        >>> bench.bounding_box(made).low
+        (0, 0, 30)
+        """
         number, by = self._number('solid', solid), self._kernel.lengths.point('move', move)
         return self._copied(number, moving(by) if mirror is None else mirroring(self._kernel.lengths.plane_across('mirror', mirror), by))
 
     def pattern(self, solid: arguments.Solid, count: int, step: arguments.Point) -> Tuple[Copy, ...]:
         """Copies of the solid, each a step farther than the one before, so that there are `count` of it with itself. Refused as copy is. Raises
-        ValueError where the count is below 2 or the step is zero."""
+        ValueError where the count is below 2 or the step is zero.
+
+        >>> bench.pattern(block, 3, (50, 0, 0))[-1].solid
+        3
+        """
         number, many, way = self._number('solid', solid), arguments.positive('count', count), self._kernel.lengths.vector('step', step)
         if many < 2:
             raise ValueError(f'count: {many} is below 2')
@@ -112,7 +156,12 @@ class SolidMethods(Methods):
                        to: Optional[Sequence[Length]] = None, about: arguments.Point = ZERO) -> Tuple[Copy, ...]:
         """Copies of the solid around the axis 'x', 'y' or 'z' through a point, each turned on from the one before it, by degrees or `to` a vector as
         `turn` says, so that there are `count` of it with itself. Refused as copy is; OffLattice: a point would not be whole. Raises ValueError as turn
-        does, and where one would come to lie where another is."""
+        does, and where one would come to lie where another is.
+
+        >>> copies = bench.pattern_around(block, 4, 'z', degrees=90, about=(-5, -5, 0))
+        >>> bench.bounding_box(copies[0]).low
+        (-30, 0, 0)
+        """
         number, round_axis, middle = self._number('solid', solid), arguments.word('axis', axis, _AXES), self._kernel.lengths.point('about', about)
         turn, many = _wanted_turn('pattern_around', times, degrees, to), arguments.whole('count', count, 2)
         if turn.length == 1:
@@ -127,7 +176,12 @@ class SolidMethods(Methods):
 
     def move(self, solid: arguments.Solid, vector: arguments.Point) -> int:
         """The solid moves by the vector: its number, which stays, as all of its numbers do. Refused: NoSolid; PointRange: a point would
-        leave the range."""
+        leave the range.
+
+        >>> _ = bench.move(block, (0, 0, 2.5))
+        >>> bench.bounding_box(block).low
+        (0, 0, Fraction(5, 2))
+        """
         return self._placed(solid, moving(self._kernel.lengths.point('vector', vector)))
 
     def turn(self, solid: arguments.Solid, axis: str, times: None = None, *, degrees: Length = 90, to: Optional[Sequence[Length]] = None,
@@ -137,19 +191,34 @@ class SolidMethods(Methods):
         (4, 3): about 'z' that axis is x, about 'x' it is y, and about 'y' it is z.
 
         Refused as move is; OffLattice: a point would not be whole, and in a step how many times finer all would be. Raises ValueError for other angles
-        and vectors, which names one that is near."""
+        and vectors, which names one that is near.
+
+        >>> _ = bench.turn(block, 'z', to=(4, 3))
+        >>> bench.bounding_box(block).high
+        (32, 40, 10)
+        """
         round_axis, turn = arguments.word('axis', axis, _AXES), _wanted_turn('turn', times, degrees, to)
         return self._placed(solid, turning_to(round_axis, *turn, self._kernel.lengths.point('about', about)))
 
     def mirror(self, solid: arguments.Solid, plane: arguments.Point) -> int:
         """The solid becomes its image in the plane a x + b y + c z + d = 0 of points in millimetres: its number. Each loop runs the other way, by the
         mates of its half-edges. Refused as move is; OffLattice: a point would come between whole coordinates, as none does in planes across an axis or a
-        diagonal of two axes that lie well."""
+        diagonal of two axes that lie well.
+
+        >>> _ = bench.mirror(block, Plane(x=0))
+        >>> bench.bounding_box(block).low
+        (-40, 0, 0)
+        """
         return self._placed(solid, mirroring(self._kernel.lengths.plane_across('plane', plane)))
 
     def scale(self, factor: arguments.Length) -> None:
         """All solids become so many times larger, from the origin on: by a number above zero, such as 3 or '1/2'. Refused: PointRange; OffLattice: a point
-        would be no multiple of the step, and in a step how many times finer all would be."""
+        would be no multiple of the step, and in a step how many times finer all would be.
+
+        >>> bench.scale('1/2')
+        >>> bench.bounding_box(block).high
+        (20, 10, 5)
+        """
         times = arguments.factor('factor', factor)
         if times.denominator == 1:
             self._kernel.give('scale', arguments.whole('factor', times.numerator))
@@ -163,7 +232,12 @@ class SolidMethods(Methods):
 
     def refine(self, times: int) -> None:
         """The step becomes so many times finer, and all solids stay as large as they are, as one command. Refused: PointRange: a point would lie more than
-        1,000,000,000 steps out."""
+        1,000,000,000 steps out.
+
+        >>> bench.refine(3)
+        >>> bench.step, bench.volume(block)
+        (Fraction(1, 3000), Fraction(8000, 1))
+        """
         finer = arguments.positive('times', times)
         with Block(self._kernel, False):
             self._make_finer(finer)
@@ -180,7 +254,12 @@ class SolidMethods(Methods):
 
     def renumber(self) -> Renumbered:
         """All numbers become as low as they can be, from 1 on in the order that they have, and may be taken again when they are free: where none is left.
-        Labels go along. Refused: NumbersSpent: a spare number is wanted on the way, and none is free."""
+        Labels go along. Refused: NumbersSpent: a spare number is wanted on the way, and none is free.
+
+        >>> _ = bench.block((50, 0, 0), (1, 1, 1), solid=9)
+        >>> bench.renumber().solids
+        {1: 1, 9: 2}
+        """
         with Block(self._kernel, False):
             self._kernel.give('renumber')
             made = Renumbered(*(dict(self._kernel.pairs(which)) for which in (SOLIDS, FACES, LOOPS, EDGES, VERTICES)))
@@ -195,7 +274,12 @@ class SolidMethods(Methods):
         above it becomes a new solid.
 
         With refine=True a cut that is refused NotLattice is made in a finer step: as many times finer as makes the points of the cut multiples of it,
-        as one command with the cut. Refused besides: PointRange: a point would then lie more than 1,000,000,000 steps out."""
+        as one command with the cut. Refused besides: PointRange: a point would then lie more than 1,000,000,000 steps out.
+
+        >>> made = bench.split(block, Plane(z=4))
+        >>> bench.volume(block), bench.volume(made)
+        (Fraction(3200, 1), Fraction(4800, 1))
+        """
         arguments.gone('scale', scale, _REFINES)
         new, made = self._cut_by('split', self._number('solid', solid), self._kernel.lengths.plane('plane', plane), refine, above)
         return Split(new, *made)
@@ -208,7 +292,12 @@ class SolidMethods(Methods):
 
         Where split refuses the plane for what it touches or how it runs through faces and holes, the solid is cut face by face, and faces in
         the plane are one with the caps beside them. Refused: what split says of the solid, the plane and its points: NoSolid,
-        SolidTaken, LoneLoop, NotFlat, PlaneMisses, NotLattice; Meets: a part would touch itself."""
+        SolidTaken, LoneLoop, NotFlat, PlaneMisses, NotLattice; Meets: a part would touch itself.
+
+        >>> _ = bench.cut(block, (7, 0, 0, -1), keep='below', refine=True)
+        >>> bench.step, bench.volume(block)
+        (Fraction(1, 7000), Fraction(200, 7))
+        """
         arguments.gone('scale', scale, _REFINES)
         number, level = self._number('solid', solid), self._kernel.lengths.plane('plane', plane)
         wanted = arguments.word('keep', keep, ('both', 'below', 'above'))
@@ -222,7 +311,12 @@ class SolidMethods(Methods):
 
     def trim(self, solid: arguments.Solid, plane: arguments.Point, *, refine: bool = False, scale: None = None) -> Numbers:
         """What lies above the plane is cut off and thrown away: the faces that close what is left. With refine=True it is cut in a finer step
-        where its points ask for one. Refused as cut is."""
+        where its points ask for one. Refused as cut is.
+
+        >>> _ = bench.trim(block, Plane(z=4))
+        >>> bench.volume(block)
+        Fraction(3200, 1)
+        """
         return self.cut(solid, plane, keep='below', refine=refine, scale=scale).lower_caps
 
     def union(self, solids: Sequence[arguments.Solid], *, refine: bool = False) -> int:
@@ -232,32 +326,59 @@ class SolidMethods(Methods):
         With refine=True they are combined in a finer step where a corner of what is made asks for one, as one command.
 
         Refused: NoSolid, NotFlat; OffLattice, with how many times finer the step must be, or 0 where that passes 2^32 - 1; Meets: what is made would touch
-        itself; with `refine` PointRange. All are combined at once, so their order doesn't matter."""
+        itself; with `refine` PointRange. All are combined at once, so their order doesn't matter.
+
+        >>> other = bench.block((30, 10, 5), (20, 20, 20))
+        >>> bench.volume(bench.union([block, other]))
+        Fraction(15500, 1)
+        """
         numbers = self._different('solids', solids, 'solid', 2)
         return self._combined('union', numbers[0], words(numbers), len(numbers), refine=refine)
 
     def subtract(self, solid: arguments.Solid, tools: Sequence[arguments.Solid], *, refine: bool = False) -> int:
         """The solid becomes what is left of it without the tools, which go: its number. What falls apart stays one solid. Refused: as `union`, and
-        NothingLeft."""
+        NothingLeft.
+
+        >>> other = bench.block((30, 10, 5), (20, 20, 20))
+        >>> bench.volume(bench.subtract(block, [other]))
+        Fraction(7500, 1)
+        """
         number, gone = self._number('solid', solid), self._different('tools', tools, 'solid', 1)
         if number in gone:
             raise ValueError(f'tools: the solid {number} itself is one of them')
         return self._combined('subtract', number, number, words(gone), len(gone), refine=refine)
 
     def intersect(self, solids: Sequence[arguments.Solid], *, refine: bool = False) -> int:
-        """The first of the solids becomes what all have in common, and the others go: its number. Refused: as `subtract`."""
+        """The first of the solids becomes what all have in common, and the others go: its number. Refused: as `subtract`.
+
+        >>> other = bench.block((30, 10, 5), (20, 20, 20))
+        >>> bench.volume(bench.intersect([block, other]))
+        Fraction(500, 1)
+        """
         numbers = self._different('solids', solids, 'solid', 2)
         return self._combined('intersect', numbers[0], words(numbers), len(numbers), refine=refine)
 
     def join_faces(self, solid: arguments.Solid) -> int:
         """Faces of one plane beside each other in a solid become one, and so do edges that go on straight: its number. Refused: NoSolid, NotFlat; Meets:
-        the solid touches itself so that no outlines come of it."""
+        the solid touches itself so that no outlines come of it.
+
+        >>> other = bench.block((40, 0, 0), (10, 20, 10))
+        >>> _ = bench.glue_all([block, other])
+        >>> bench.count(bench.join_faces(block)).faces
+        6
+        """
         number = self._number('solid', solid)
         return self._combined('join_faces', number, number)
 
     def separate(self, solid: arguments.Solid) -> Numbers:
         """Each connected component of a solid becomes a solid, with the cavities that it holds: all of them, by their least faces, of which the first keeps
-        the number, and all have its label. Refused: NoSolid, NotFlat, NumbersSpent."""
+        the number, and all have its label. Refused: NoSolid, NotFlat, NumbersSpent.
+
+        >>> other = bench.block((60, 0, 0), (10, 20, 10))
+        >>> _ = bench.union([block, other])
+        >>> bench.separate(block)
+        (1, 2)
+        """
         number = self._number('solid', solid)
         with Block(self._kernel, False):
             self._kernel.give('separate', number)

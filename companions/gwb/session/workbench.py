@@ -47,7 +47,9 @@ _MARK = re.compile(rb'# (step|draft) of ([1-9][0-9]{0,8}) commands(?:: (.{1,200}
 
 
 class Workbench(SolidMethods, FeatureMethods, Commands, Reading, Exporting):
-    """A running gwb. Each command is a method; one that isn't accepted raises Refused, Faulted or MemoryRefused."""
+    """A running gwb. Each command is a method; one that isn't accepted raises Refused, Faulted or MemoryRefused.
+
+    In the examples of methods `bench` holds the block that `block = bench.block((0, 0, 0), (40, 20, 10))` made, and `folder` is an empty folder."""
 
     def __init__(self, library: Optional[arguments.Path] = None, *, step: arguments.Length = DEFAULT_STEP, unit: None = None) -> None:
         """Opens a session of the library at the path, or the one that the environment variable GWB, the package or the system has.
@@ -74,35 +76,70 @@ class Workbench(SolidMethods, FeatureMethods, Commands, Reading, Exporting):
         self.close()
 
     def close(self) -> int:
-        """Ends the session; 0."""
+        """Ends the session; 0.
+
+        >>> bench.close()
+        0
+        >>> bench.solids()
+        Traceback (most recent call last):
+        gwb.errors.Ended: the session is closed
+        """
         self._kernel.close()
         return 0
 
     def ask(self, line: str) -> Reply:
         """The reply to one line of the script language, whatever it is, in which coordinates are steps of the lattice. What it makes, undoes or redoes is
-        taken account of; of a draft all is undone or redone."""
+        taken account of; of a draft all is undone or redone.
+
+        >>> bench.ask('volume 1').lines
+        ('volume 48000000000000',)
+        """
         return self._kernel.ask(arguments.text('line', line))
 
     def draft(self) -> ContextManager[None]:
         """The calls given in it are one command. By an exception it is abandoned: all is as before, what can be redone included. Within another
         draft they are part of that, and an exception takes these alone back.
 
-        What is read in it is its model. It takes all but `undo` and `redo`, which raise InDraft. Calls of other threads wait for its end."""
+        What is read in it is its model. It takes all but `undo` and `redo`, which raise InDraft. Calls of other threads wait for its end.
+
+        >>> with bench.draft():
+        ...     _ = bench.move(block, (0, 0, 5))
+        ...     _ = bench.block((50, 0, 0), (1, 1, 1))
+        >>> bench.undo()
+        >>> bench.solids().one().points[0]
+        (0, 0, 0)
+        """
         return Block(self._kernel, False)
 
     def group(self) -> ContextManager[None]:
         """The calls given in it are one step to undo, in a draft part of it. By an exception all of them are taken back, what could be redone
         before included.
 
-        It takes all but `undo` and `redo`, which raise InGroup; groups and drafts may stand in it. Calls of other threads wait for its end."""
+        It takes all but `undo` and `redo`, which raise InGroup; groups and drafts may stand in it. Calls of other threads wait for its end.
+
+        >>> with bench.group():
+        ...     _ = bench.move(block, (0, 0, 5))
+        ...     _ = bench.block((50, 0, 0), (1, 1, 1))
+        >>> bench.undo()
+        >>> bench.solids().one().points[0]
+        (0, 0, 0)
+        """
         return Block(self._kernel, True)
 
     def listing(self) -> Model:
-        """The model held, its points in steps of the lattice."""
+        """The model held, its points in steps of the lattice.
+
+        >>> bench.listing().vertices[7]
+        (40000, 20000, 10000)
+        """
         return self._kernel.listing()
 
     def half_edges(self, loop: arguments.LoopNumber) -> Numbers:
-        """The half-edges of a loop, from the least on: none of a lone loop, or of one that is not there."""
+        """The half-edges of a loop, from the least on: none of a lone loop, or of one that is not there.
+
+        >>> bench.half_edges(bench.face(block.top).outer)
+        (7, 9, 11, 12)
+        """
         number = self._number('loop', loop)
         found = self._kernel.lines.loop(number)
         return found.halves if found else ()
@@ -113,7 +150,12 @@ class Workbench(SolidMethods, FeatureMethods, Commands, Reading, Exporting):
 
     def script(self) -> str:
         """The script of what is held: the accepted commands, a line each; undone ones are left out. Its coordinates are steps, and a comment says the step in
-        millimetres, where it isn't 1, and where it changes."""
+        millimetres, where it isn't 1, and where it changes.
+
+        >>> print(bench.script(), end='')
+        # unit 1/1000
+        block 1 0 0 0 40000 20000 10000
+        """
         kernel = self._kernel
         units = {note.unit for note in (*kernel.notes.all[:kernel.notes.at + 1], kernel.notes.now)}
         if len(units) == 1:
@@ -122,7 +164,12 @@ class Workbench(SolidMethods, FeatureMethods, Commands, Reading, Exporting):
 
     def save(self, path: arguments.Path) -> None:
         """Writes the script to a file. Comments in it say which commands are one step to undo and which calls gave them, how fine lengths are, and the
-        labels, so that `load` knows them again. Raises ValueError for an ending of what `export` writes."""
+        labels, so that `load` knows them again. Raises ValueError for an ending of what `export` writes.
+
+        >>> bench.save(folder / 'part.gwb')
+        >>> (folder / 'part.gwb').read_text().splitlines()
+        ['# unit 1/1000', 'block 1 0 0 0 40000 20000 10000']
+        """
         from ..formats.forms import EXPORTED, by_ending
         file = Path(arguments.path('path', path))
         if by_ending(file.suffix) in EXPORTED:
@@ -137,7 +184,12 @@ class Workbench(SolidMethods, FeatureMethods, Commands, Reading, Exporting):
         doesn't, a coordinate is `step` millimetres.
 
         A line that isn't accepted raises Refused, Faulted or MemoryRefused, with the file and the line; a file of a form that `import_file` reads
-        ValueError."""
+        ValueError.
+
+        >>> bench.save(folder / 'part.gwb')
+        >>> Workbench.load(folder / 'part.gwb').volume(1)
+        Fraction(8000, 1)
+        """
         file = Path(arguments.path('path', path))
         data = file.read_bytes()
         script = _script_in(file, data)
@@ -177,7 +229,11 @@ class Workbench(SolidMethods, FeatureMethods, Commands, Reading, Exporting):
         return given
 
     def show(self) -> Path:
-        """Writes the page to a file of its own and opens it in the browser, where there is one: the file's path."""
+        """Writes the page to a file of its own and opens it in the browser, where there is one: the file's path.
+
+        >>> bench.show().suffix
+        '.html'
+        """
         from tempfile import NamedTemporaryFile
         from webbrowser import open as open_in_browser
         with NamedTemporaryFile('w', prefix='gwb-', suffix='.html', encoding='utf-8', delete=False) as file:
