@@ -12,18 +12,22 @@ import os
 import re
 import sys
 import tempfile
+import warnings
 from contextlib import redirect_stdout
+from fractions import Fraction
 from pathlib import Path
-from typing import Any, Dict, Iterator, List, NamedTuple
+from typing import Any, Dict, Iterator, List, NamedTuple, Tuple
 
 from counts import TOP, command_line, there, told
 
 sys.path.insert(0, str(TOP / 'companions'))
+from gwb import Workbench
 from gwb.drawing.svg import svg_text
 
 GALLERY = TOP / 'examples' / 'gallery'
 PAGE = GALLERY / 'README.md'
 STAND = (2, -3, 2)
+FORMS = ('.step', '.3mf', '.glb', '.obj', '.off', '.stl')
 MOST_LINES = 40
 HEAD = '''# A gallery
 
@@ -71,9 +75,20 @@ def run(path: Path) -> Part:
     wrong += [f'{path.name} leaves {sorted(there_are)}'] if set(there_are) != set(wanted) else []
     wrong += [f'{name} begins {there_are[name][:40]!r}' for name, begin in wanted.items() if not there_are.get(name, begin).lower().startswith(begin.lower())]
     bench = names['bench']
+    wrong += [f'{path.stem}{form} comes back as {found} of {whole}' for form in FORMS for found, whole in [come_back(bench, form)] if found != whole]
     part = Part(path, ast.get_docstring(ast.parse(text)) or '', printed.getvalue().splitlines(), svg_text(bench.listing(), STAND, hidden=False), '; '.join(wrong))
     bench.close()
     return part
+
+
+def come_back(bench: Workbench, form: str) -> Tuple[Fraction, Fraction]:
+    """The volume of all solids of a file of this form, and of those that were written."""
+    with tempfile.TemporaryDirectory() as folder, Workbench() as again, warnings.catch_warnings():
+        warnings.simplefilter('ignore')    # (of solids that touch)
+        bench.export(f'{folder}/part{form}')
+        again.import_file(f'{folder}/part{form}')
+        found, whole = (sum((one.volume(solid) for solid in one.solids()), Fraction(0)) for one in (again, bench))
+        return found, whole
 
 
 def drawn(picture: str) -> List[List[str]]:
