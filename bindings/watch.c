@@ -5,22 +5,10 @@
  * No call is refused for want of memory here: what can't be kept is lost. All of it lies beside the pages of the session, so that the requests of the
  * kernel are the same whether a session is watched or not. */
 #include "watch.h"
+#include "asked.h"
 #include "beside.h"
 #include "commands.h"
-#include "history.h"
 #include "seeing.h"
-#include <stdlib.h>
-
-/* What solids were from a place on: they are written down before they are touched for the first time after it. */
-struct asked {
-    size_t place;         /* that of gwb_watch is 0 */
-    uint64_t born;        /* births from here on were given since */
-    bool are_all;         /* whether all were touched, also those that were made */
-    bool is_lost;         /* whether memory was refused for what a solid was */
-    struct list solids;   /* of uint32_t: those that were touched, rising */
-    struct solids before; /* what they were, but for the faces */
-    struct list things;   /* of struct thing: their faces, edges and vertices; rising when they are compared */
-};
 
 /* A call of a draft that is open: where its items begin, and how many steps were there before it. */
 struct call {
@@ -49,7 +37,6 @@ struct watch {
     struct list became;        /* of gwb_became_row, alike */
 };
 
-#define NO_SOLIDS {{.size = sizeof(gwb_half_edge_row)}, {.size = sizeof(gwb_vertex_row)}, {.size = sizeof(uint32_t)}}
 #define NO_CHANGES {.size = sizeof(gwb_born_change)}
 
 static bool touch(struct watch *w, uint32_t solid) { return list_add(&w->items.items, &(struct thing){key_of(TOUCHED, solid), 0}); }
@@ -83,20 +70,6 @@ struct watch *watch_new(bool is_drafting)
     return w;
 }
 
-static void free_solids(struct solids *solids)
-{
-    list_free(&solids->half_edges);
-    list_free(&solids->vertices);
-    list_free(&solids->faces);
-}
-
-static void free_asked(struct asked *a)
-{
-    list_free(&a->solids);
-    list_free(&a->things);
-    free_solids(&a->before);
-}
-
 /* What is asked for, one place after another. */
 static struct asked *asked_at(const struct watch *w, size_t at) { return (struct asked *)w->asked.items + at; }
 
@@ -117,7 +90,7 @@ void watch_free(struct watch *w)
     for (size_t i = 0; i < sizeof lists / sizeof *lists; i++)
         list_free(lists[i]);
     for (size_t at = 0; at < w->asked.count; at++)
-        free_asked(asked_at(w, at));
+        asked_free(asked_at(w, at));
     list_free(&w->asked);
     list_free(&w->calls);
     list_free(&w->there);
@@ -127,82 +100,11 @@ void watch_free(struct watch *w)
     rattle_dealloc(w);
 }
 
-/* ---- what solids were */
-
-/* The solids that were touched, and the place of one among them, or where it would stand. */
-static uint32_t *solids(const struct asked *a) { return a->solids.items; }
-static size_t place_of(const struct asked *a, uint32_t solid) { return first_from(solids(a), a->solids.count, sizeof solid, solid); }
-
-static bool write_faces(struct solids *to, const gwb *g, uint32_t solid)
-{
-    for (uint32_t face = 0; gwb_face_after(g, solid, face, &face) == GWB_FOUND;)
-        if (!list_add(&to->faces, &face))
-            return false;
-    return true;
-}
-
-static bool write_half_edges(struct solids *to, const gwb *g, uint32_t solid)
-{
-    const size_t first = to->half_edges.count, count = gwb_read_half_edges(g, solid, to->half_edges.items, 0);
-    if (!list_reserve(&to->half_edges, first + count) || !list_reserve(&to->vertices, first + count))
-        return false;
-    gwb_half_edge_row *rows = (gwb_half_edge_row *)to->half_edges.items + first;
-    gwb_read_half_edges(g, solid, rows, count);
-    to->half_edges.count += count;
-    for (size_t i = 0; i < count; i++) {
-        gwb_vertex_row row = {rows[i].start, {0, 0, 0}};
-        gwb_vertex(g, row.vertex, &row.point);
-        list_add(&to->vertices, &row);
-    }
-    return true;
-}
-
-static bool write_thing(struct list *to, const struct births *b, uint32_t kind, uint32_t number)
-{
-    const uint32_t key = key_of(kind, number);
-    return list_add(to, &(struct thing){key, birth_of(b, key)});
-}
-
-/* The births of what a solid has; its half-edges are written from a place on. */
-static bool write_things(struct asked *a, const struct births *b, const gwb *g, uint32_t solid, size_t from)
-{
-    const gwb_half_edge_row *rows = a->before.half_edges.items;
-    bool is_well = true;
-    for (uint32_t face = 0; is_well && gwb_face_after(g, solid, face, &face) == GWB_FOUND;)
-        is_well = write_thing(&a->things, b, GWB_FACE, face);
-    for (size_t i = from; is_well && i < a->before.half_edges.count; i++)
-        is_well = write_thing(&a->things, b, GWB_VERTEX, rows[i].start) &&
-                  (rows[i].half_edge % 2 != 0 || write_thing(&a->things, b, GWB_EDGE, rows[i].half_edge / 2));
-    return is_well;
-}
-
-/* Writes down what a solid is, if it isn't written down yet. Where all were, it has been made since. */
-static void write_in(struct asked *a, const struct births *b, const gwb *g, uint32_t solid)
-{
-    const size_t place = place_of(a, solid), half_edges = a->before.half_edges.count;
-    if (a->is_lost || a->are_all || (place < a->solids.count && solids(a)[place] == solid))
-        return;
-    if (!list_reserve(&a->solids, a->solids.count + 1) || !write_half_edges(&a->before, g, solid) || !write_things(a, b, g, solid, half_edges)) {
-        a->is_lost = true;
-        return;
-    }
-    uint32_t *at = solids(a) + place;
-    memmove(at + 1, at, (a->solids.count++ - place) * sizeof *at);
-    *at = solid;
-}
-
-static void write_all_in(struct asked *a, const struct births *b, const gwb *g)
-{
-    for (uint32_t solid = 0; !a->is_lost && gwb_number_after(g, GWB_SOLID, solid, &solid) == GWB_FOUND;)
-        write_in(a, b, g, solid);
-    a->are_all = !a->is_lost;
-}
-
 /* The same for all that is asked for; solid 0 stands for all. */
 static void write_solid(struct watch *w, const gwb *g, uint32_t solid)
 {
     for (size_t at = 0; at < w->asked.count; at++)
-        solid != 0 ? write_in(asked_at(w, at), &w->births, g, solid) : write_all_in(asked_at(w, at), &w->births, g);
+        solid != 0 ? asked_write(asked_at(w, at), &w->births, g, solid) : asked_write_all(asked_at(w, at), &w->births, g);
 }
 
 /* ---- which are touched */
@@ -613,7 +515,7 @@ static void end_asked(struct watch *w, size_t place)
     struct asked *a = asked_from(w, place);
     if (a == NULL)
         return;
-    free_asked(a);
+    asked_free(a);
     *a = *asked_at(w, --w->asked.count);
 }
 
@@ -702,114 +604,6 @@ uint64_t gwb_birth(const gwb *g, uint32_t entity, uint32_t number)
 
 /* ---- comparing */
 
-/* The least solid above one that was touched, or is there where all were: 0 where there is none. */
-static uint32_t touched_after(const gwb *g, const struct asked *a, uint32_t solid)
-{
-    size_t place = place_of(a, solid);
-    place += place < a->solids.count && solids(a)[place] == solid;
-    const uint32_t touched = place < a->solids.count ? solids(a)[place] : 0;
-    uint32_t found = 0;
-    if (a->are_all)
-        gwb_number_after(g, GWB_SOLID, solid, &found);
-    return found == 0 || (touched != 0 && touched < found) ? touched : found;
-}
-
-static int by_first(const void *one, const void *other)
-{
-    const uint32_t a = *(const uint32_t *)one, b = *(const uint32_t *)other;
-    return (a > b) - (a < b);
-}
-
-static void sort(struct list *list)
-{
-    if (list->count > 1)
-        qsort(list->items, list->count, list->size, by_first);
-}
-
-/* The birth that something had: 0 where it isn't written down. */
-static uint64_t birth_before(const struct asked *a, uint32_t key)
-{
-    const struct thing *things = a->things.items;
-    const size_t at = first_from(things, a->things.count, sizeof *things, key);
-    return at < a->things.count && things[at].key == key ? things[at].birth : 0;
-}
-
-/* In what was, numbers that are another thing's now are others while it is compared. */
-enum { NUMBERS = (1 << NUMBER_BITS) - 1, OTHER = 1 << NUMBER_BITS };
-
-static uint32_t marked(const struct watch *w, const struct asked *a, uint32_t kind, uint32_t number)
-{
-    const uint32_t key = key_of(kind, number & NUMBERS);
-    return (number & NUMBERS) | (birth_of(&w->births, key) != birth_before(a, key) ? OTHER : 0);
-}
-
-/* Marks them; and writes down the faces. */
-static bool mark(const struct watch *w, struct asked *a)
-{
-    gwb_half_edge_row *rows = a->before.half_edges.items;
-    const struct thing *things = a->things.items;
-    bool is_well = true;
-    for (size_t i = 0; i < a->before.half_edges.count; i++) {
-        rows[i].half_edge = 2 * marked(w, a, GWB_EDGE, rows[i].half_edge / 2) + rows[i].half_edge % 2;
-        rows[i].start = marked(w, a, GWB_VERTEX, rows[i].start);
-        rows[i].face = marked(w, a, GWB_FACE, rows[i].face);
-    }
-    a->before.faces.count = 0;
-    for (size_t i = 0; is_well && i < a->things.count && kind_of(things[i].key) == GWB_FACE; i++)
-        is_well = list_add(&a->before.faces, &(uint32_t){marked(w, a, GWB_FACE, number_of(things[i].key))});
-    return is_well;
-}
-
-/* Writes the births to changes of a kind, whose numbers are theirs again. */
-static void put_births(const struct watch *w, const struct asked *a, uint32_t kind, bool are_made, struct list *changes)
-{
-    gwb_born_change *rows = changes->items;
-    for (size_t i = 0; i < changes->count; i++) {
-        const uint32_t number = rows[i].number & NUMBERS, other = rows[i].other & NUMBERS;
-        const uint64_t now = birth_of(&w->births, key_of(kind, are_made ? number : other)), was = birth_before(a, key_of(kind, are_made ? other : number));
-        rows[i] = (gwb_born_change){number, other, are_made ? now : was, are_made ? was : now};
-        if (other == 0 || (are_made && now < a->born))
-            rows[i].other_birth = 0;
-    }
-    sort(changes);
-}
-
-static void put_births_of_became(struct watch *w, const struct asked *a)
-{
-    gwb_became_row *rows = w->became.items;
-    for (size_t i = 0; i < w->became.count; i++) {
-        rows[i].old &= NUMBERS;
-        rows[i].old_birth = birth_before(a, key_of(rows[i].kind, rows[i].old));
-        rows[i].made_birth = birth_of(&w->births, key_of(rows[i].kind, rows[i].made));
-    }
-    became_sort(&w->became);
-}
-
-/* What was touched, as it is now. */
-static bool write_after(struct solids *after, const struct asked *a, const gwb *g)
-{
-    bool is_well = true;
-    for (uint32_t solid = 0; is_well && (solid = touched_after(g, a, solid)) != 0;)
-        is_well = write_faces(after, g, solid) && write_half_edges(after, g, solid);
-    return is_well;
-}
-
-/* Compares what was touched with what it is now: false where any of it was lost, or memory is refused. */
-static bool compare(struct watch *w, struct asked *a, const gwb *g)
-{
-    struct solids after = NO_SOLIDS;
-    sort(&a->things);
-    bool is_well = !a->is_lost && write_after(&after, a, g) && mark(w, a) && history_find(&a->before, &after, w->changes, &w->became);
-    free_solids(&after);
-    for (uint32_t of = OF_FACES; is_well && of <= OF_EDGES; of++)
-        for (uint32_t which = MADE; which <= REMOVED; which++)
-            put_births(w, a, of == OF_FACES ? GWB_FACE : GWB_EDGE, which == MADE, &w->changes[of][which]);
-    put_births_of_became(w, a);
-    if (!is_well)
-        forget_changes(w);
-    return is_well;
-}
-
 enum gwb_kind gwb_compare_from(gwb *g, size_t place)
 {
     if (!gwb_is_open(g))
@@ -822,7 +616,9 @@ enum gwb_kind gwb_compare_from(gwb *g, size_t place)
         return GWB_NO_CALL;
     struct used before = gwb_used;
     gwb_used = (struct used){of->heap, NULL};
-    const bool is_well = compare(of->watch, a, g);
+    const bool is_well = asked_compare(a, &of->watch->births, g, of->watch->changes, &of->watch->became);
+    if (!is_well)
+        forget_changes(of->watch);
     gwb_used = before;
     return is_well ? GWB_OK : GWB_MEMORY;
 }

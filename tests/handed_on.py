@@ -198,7 +198,7 @@ def complaints(text: str, folder: Path) -> List[str]:
     """What the stubs tell that is wrong."""
     (folder / 'stubs.h').write_text(text)
     program = str(folder / 'tried')
-    sources = [TOP / 'tests' / 'handed_on.c', *(BINDINGS / name for name in ('calls.c', 'record.c', 'watch.c', 'births.c', 'seeing.c', 'history.c', 'became.c', 'bulk.c', 'heap.c'))]
+    sources = [TOP / 'tests' / 'handed_on.c', *(BINDINGS / name for name in ('calls.c', 'record.c', 'watch.c', 'asked.c', 'births.c', 'seeing.c', 'history.c', 'became.c', 'bulk.c', 'heap.c'))]
     build = ['cc', '-std=c11', '-O1', '-Werror=incompatible-pointer-types', '-DGWB_BLOCKS_ALONE', '-o', program,
              *(f'-I{at}' for at in (folder, BINDINGS, BINDINGS / 'include')), *map(str, sources)]
     for words in (build, [program]):
