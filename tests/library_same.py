@@ -20,7 +20,9 @@ from counts import TOP, there
 
 sys.path.insert(0, str(TOP / 'companions'))
 
-from gwb import FacePart, InDraft, Refused, Workbench  # noqa: E402
+from gwb import FacePart, Impossible, InDraft, Refused, Workbench  # noqa: E402
+from gwb.protocol.refusals import CAUSES  # noqa: E402
+from gwb.session.kernel import THINGS  # noqa: E402
 
 PARTS, LINES = 150, 11
 # A part before the random ones: a groove over the floor of a drilled hole takes corners away at the mouth of the hole, which is far from it.
@@ -39,6 +41,22 @@ for at in (1, 2, 3):
               ('part', []), ('block', [1, 0, 0, 0, 20, 20, 10]), ('pocket_along', [1, at, -1, -3, 4, 4, 10, 8, 4, 10, 8, 8, 10, 4, 8, 10]),
               ('pocket_along', [1, at, -1, 3, 9, 9, 10, 10, 9, 10, 9, 10, 10]), ('boss_along', [1, -at, 0, 2, 12, 12, 10, 15, 12, 10, 15, 15, 10]),
               ('drill_along', [2, 14, 5, 0, 2, 8, at, at, 4])]
+# Then each cause for which a feature isn't possible.
+SQUARE, SLOPE = [6, 6, 10, 8, 6, 10, 8, 8, 10, 6, 8, 10], [112, -2, 3, 108, -2, 6, 108, -5, 6]
+FIRST += [('part', []), ('block', [1, 0, 0, 0, 10, 10, 10]),
+          ('pocket', [1, 2, 1, 1, 10, 12, 1, 10, 1, 5, 10]), ('pocket', [1, 2, 1, 1, 10, 10, 5, 10, 1, 8, 10]),
+          ('pocket', [1, 2, 1, 1, 10, 10, 10, 10, 1, 8, 10]), ('ring', [1, 20, 20, 10, 22, 20, 10, 20, 22, 10]),
+          ('pocket', [1, 2, 1, 1, 10, 2, 1, 10, 3, 1, 10]), ('pocket', [1, 2, 1, 1, 10, 4, 4, 10, 4, 1, 10, 1, 4, 10]),
+          ('pocket', [1, 2, 1, 1, 10, 2, 1, 10, 1, 2, 9]), ('pocket', [1, 10, *SQUARE]), ('pocket', [1, 15, *SQUARE]),
+          ('pocket', [1, 2, 3, 3, 10, 5, 3, 10, 5, 5, 10, 3, 5, 10]), ('pocket', [1, 2, 4, 4, 10, 8, 4, 10, 8, 8, 10, 4, 8, 10]),
+          ('block', [2, 10, 10, 0, 5, 5, 5]), ('union', [1, 2]),
+          ('profile', [3, 0, 0, 4, 100, 0, 0, 104, 0, 0, 104, 4, 0, 100, 4, 1]),
+          ('profile', [3, 0, -10, 0, 100, 0, 0, 116, 0, 0, 100, 0, 12]), ('pocket', [21, 2, *SLOPE]), ('pocket', [21, 5, *SLOPE]),
+          ('block', [5, 113, -5, 1, 10, 3, 10]), ('subtract', [3, 5]),
+          ('profile', [4, 0, 10, 0, 200, 0, 0, 210, 0, 0, 200, 0, 10]), ('pocket', [32, 2, 208, 2, 2, 206, 2, 4, 206, 5, 4]),
+          ('part', []), ('profile', [1, 0, 10, 0, 0, 0, 0, 16, 0, -12, 14, 0, -13, -2, 0, -1]), ('hole', [3, 4, 2, -3, 8, 2, -6, 8, 5, -6]),
+          ('polyhedron', [7, 4, 3, 0, 0, 0, 9, 0, 0, 0, 9, 0, 0, 0, 9, 0, 2, 1, 0, 1, 3, 1, 2, 3]),
+          ('polyhedron', [7, 4, 3, 0, 0, 0, 9, 0, 0, 0, 9, 0, 0, 0, 9, 0, 2, 1, 0, 3, 1, 1, 2, 3, 0, 3, 2])]
 Point = Tuple[int, int, int]
 # How often each word has to be accepted, so that it is tried.
 LEAST = 3
@@ -68,6 +86,9 @@ class Session:
             is_step = word not in ('faces', 'edges', 'off_lattice') and (word, len(numbers)) != ('glue_all', 1)
             self.steps, self.is_undone = self.steps + is_step, word == 'undo'
             return 'ok' + ''.join(f' {number}' for number in made)
+        except Impossible as refused:
+            thing = [THINGS.index(refused.hit[0]), refused.hit[1]] if refused.hit else []
+            return ' '.join(map(str, [refused.name, refused.value, *([refused.cause] if refused.cause else []), *thing]))
         except Refused as refused:
             return f'{refused.name} {refused.value}'
         except InDraft:
@@ -409,7 +430,9 @@ def untried(lines: Sequence[str], given: Sequence[str]) -> List[str]:
     accepted: Counts[str] = Counter(line.split(' ')[0] for line, gives in zip(lines, given) if gives.split(' ')[0] == 'ok')
     refused = {gives.split(' ')[0] for line, gives in zip(lines, given) if line != 'list' and gives.split(' ')[0] != 'ok'}
     print(f'{len(lines) // 2} lines, {sum(accepted.values())} accepted; refused were {" ".join(sorted(refused))}')
-    few = [f'{word} was accepted {accepted[word]} times' for word in _CALLS if accepted[word] < LEAST]
+    tried = {word for gives in given for word in gives.split(' ')[2:3]}
+    causes = [f'{name} was no cause of a refusal' for name, _ in CAUSES.values() if name not in tried]
+    few = causes + [f'{word} was accepted {accepted[word]} times' for word in _CALLS if accepted[word] < LEAST]
     return few + ([f'{len(refused)} kinds of refusals alone'] if len(refused) < 15 else [])
 
 

@@ -73,6 +73,19 @@ static void put(const uint32_t *numbers, size_t n)
         printf(" %u", (unsigned)numbers[i]);
 }
 
+/* Why a feature isn't possible: the cause, and the thing that was met. */
+static void put_misfit(void)
+{
+    gwb_hit_row hit;
+    printf("%s %u", gwb_misfit_name(why.number), (unsigned)why.value);
+    if (!gwb_hit(&g, &hit))
+        abort();
+    if (hit.cause != 0)
+        printf(" %s", gwb_cause_name(hit.cause));
+    if (hit.number != 0 && hit.kind <= GWB_VERTEX)
+        put((const uint32_t[]){hit.kind, hit.number}, 2);
+}
+
 /* Whether a line was accepted. If not, its refusal is told. */
 static bool is_well(enum gwb_kind kind)
 {
@@ -81,7 +94,7 @@ static bool is_well(enum gwb_kind kind)
     else if (kind == GWB_REFUSED)
         printf("%s %u", gwb_why_name(why.number), (unsigned)why.value);
     else if (kind == GWB_IMPOSSIBLE)
-        printf("%s %u", gwb_misfit_name(why.number), (unsigned)why.value);
+        put_misfit();
     else
         printf("%s", gwb_kind_text(kind));
     return kind == GWB_OK;

@@ -100,8 +100,12 @@ private:
     template <class T> static bool is_well(const Result<T> &result)
     {
         std::cout << (result ? std::string("ok") : result.error().name());
-        if (!result)
-            std::cout << ' ' << result.error().value;
+        if (!result) {
+            const gwb_hit_row &hit = result.error().hit;
+            std::cout << ' ' << result.error().value << (hit.cause != 0 ? " " : "") << gwb_cause_name(hit.cause);
+            if (hit.number != 0 && hit.kind <= GWB_VERTEX)
+                std::cout << ' ' << hit.kind << ' ' << hit.number;
+        }
         return static_cast<bool>(result);
     }
     template <class Kind> static void put(const std::vector<Kind> &numbers)

@@ -1,6 +1,6 @@
 //! A program of features, by the crate `gwb`: reads it line by line, and writes what each line gives. tests/library_same.py compares it with the same
 //! program in other languages.
-use gwb::{Edge, EdgeQuery, Error, Face, FaceQuery, Hole, Id, Motion, Notch, Pocket, Point, Readers, Session, Solid};
+use gwb::{Edge, EdgeQuery, Error, Face, FaceQuery, Hit, Hole, Id, Met, Motion, Notch, Pocket, Point, Readers, Session, Solid};
 use std::collections::BTreeSet;
 use std::io::{self, BufRead, Lines, StdinLock};
 
@@ -225,10 +225,24 @@ macro_rules! made {
     }};
 }
 
-fn tell(word: &str, given: Result<String, Error>) {
+/// The cause of a misfit, and the thing that was met.
+fn met(hit: Option<Hit>) -> String {
+    let thing = match hit.and_then(|hit| hit.met) {
+        Some(Met::Solid(solid)) => format!(" 0 {solid}"),
+        Some(Met::Face(face)) => format!(" 1 {face}"),
+        Some(Met::Loop(of_loop)) => format!(" 2 {of_loop}"),
+        Some(Met::Edge(edge)) => format!(" 3 {edge}"),
+        Some(Met::Vertex(vertex)) => format!(" 4 {vertex}"),
+        _ => String::new(),
+    };
+    hit.and_then(|hit| hit.cause).map_or(String::new(), |cause| format!(" {cause}")) + &thing
+}
+
+fn tell(word: &str, given: Result<String, Error>, hit: Option<Hit>) {
     match given {
         Ok(text) if word == "list" => println!("{text}"),
         Ok(text) => println!("ok{text}"),
+        Err(error @ Error::Impossible { .. }) => println!("{error}{}", met(hit)),
         Err(error) => println!("{error}"),
     }
 }
@@ -245,12 +259,12 @@ fn next(lines: &mut Lines<StdinLock<'_>>) -> Option<(String, Words)> {
 /// The steps of a draft, up to its end.
 fn draft(session: &mut Session, lines: &mut Lines<StdinLock<'_>>) {
     let mut draft = session.draft().unwrap();
-    tell("draft", Ok(String::new()));
+    tell("draft", Ok(String::new()), None);
     while let Some((word, mut words)) = next(lines) {
         match word.as_str() {
-            "commit" => return tell("commit", draft.commit().map(|()| String::new())),
-            "abandon" => return tell("abandon", Ok(String::new())),
-            word => tell(word, made!(&mut draft, word, &mut words)),
+            "commit" => return tell("commit", draft.commit().map(|()| String::new()), None),
+            "abandon" => return tell("abandon", Ok(String::new()), None),
+            word => tell(word, made!(&mut draft, word, &mut words), draft.hit()),
         }
     }
 }
@@ -261,12 +275,12 @@ fn main() {
         match word.as_str() {
             "part" => {
                 session = Session::new().unwrap();
-                tell("part", Ok(String::new()));
+                tell("part", Ok(String::new()), None);
             }
             "draft" => draft(&mut session, &mut lines),
-            "undo" => tell("undo", session.undo().map(|()| String::new())),
-            "redo" => tell("redo", session.redo().map(|()| String::new())),
-            word => tell(word, made!(&mut session, word, &mut words)),
+            "undo" => tell("undo", session.undo().map(|()| String::new()), None),
+            "redo" => tell("redo", session.redo().map(|()| String::new()), None),
+            word => tell(word, made!(&mut session, word, &mut words), session.hit()),
         }
     }
 }

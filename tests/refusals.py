@@ -21,7 +21,7 @@ PAGE = 'docs/REFUSALS.md'
 
 
 class Block(NamedTuple):
-    """What is said of a condition, a fault or a misfit: texts by their keys."""
+    """What is said of a condition, a fault, a misfit or a cause: texts by their keys."""
 
     kind: str
     number: int
@@ -36,8 +36,8 @@ class Block(NamedTuple):
     @property
     def row(self) -> str:
         """Its row in the page."""
-        name = self.name if self.kind == 'misfit' else f'{self.number} {self.name}'
-        return ' | '.join([f'| {name}', self.said['happened'], self.said['try']]) + ' |' if 'try' in self.said else f"| {name} | {self.said['happened']} | |"
+        name, *told = self.name if self.kind == 'misfit' else f'{self.number} {self.name}', self.said['happened'], self.said.get('try', '')
+        return ' | '.join([f'| {name}', *told]).rstrip(' ') + ' |'
 
 
 class Table:
@@ -46,13 +46,15 @@ class Table:
     def __init__(self, text: str) -> None:
         blocks = [block for block in text.split('\n\n') if not block.startswith('#')]
         found = [self._block(*block.strip('\n').split('\n')) for block in blocks]
-        self.conditions, self.faults, self.misfits = ([block for block in found if block.kind == kind] for kind in ('condition', 'fault', 'misfit'))
-        self.is_whole = [list(range(1, len(of) + 1)) for of in self.kinds] == [[block.number for block in of] for of in self.kinds]
+        self.kinds = [[block for block in found if block.kind == kind] for kind in ('condition', 'fault', 'misfit', 'cause')]
+        self.conditions, self.faults, self.misfits, self.causes = self.kinds
 
     @property
-    def kinds(self) -> Tuple[List[Block], ...]:
-        """The blocks of each kind."""
-        return self.conditions, self.faults, self.misfits
+    def is_whole(self) -> bool:
+        """Whether the numbers of each kind have no gaps, and each cause is of a misfit."""
+        misfits = {block.name for block in self.misfits}
+        return all([block.number for block in of] == list(range(1, len(of) + 1)) != [] for of in self.kinds) and all(
+            block.said['of'] in misfits for block in self.causes)
 
     @staticmethod
     def _block(head: str, *lines: str) -> Block:
@@ -101,7 +103,11 @@ def python_text(table: Table) -> str:
              ('REMEDIES: Dict[int, str]', 'What would do, as far as that can be said without the model.',
               {block.number: block.said['shell'] for block in table.conditions if 'shell' in block.said}),
              ('FAULTS: Dict[int, Tuple[str, str]]', 'The names and texts of faults.', {block.number: (block.name, block.text) for block in table.faults}),
-             ('MISFITS: Dict[str, str]', "Why features aren't possible.", {block.name: block.text for block in table.misfits}))
+             ('MISFITS: Dict[str, str]', "Why features aren't possible.", {block.name: block.said.get('text of python', block.text) for block in table.misfits}),
+             ('CAUSES: Dict[int, Tuple[str, str]]', 'The names and texts of their causes, in which Y stands for the number of what was met.',
+              {block.number: (block.name, block.said.get('text of python', block.text)) for block in table.causes}),
+             ('ADVICE: Dict[str, str]', 'What would do in the place of a feature, by the cause.',
+              {block.name: block.said['python'] for block in table.causes if 'python' in block.said}))
     made = ''.join(f'\n# {what}\n{name} = {{\n{rows(dict(pairs))}}}\n' for name, what, pairs in parts)
     return f'"""What is said of refusals. {MADE}"""\n\nfrom typing import Dict, Tuple\n{made}'
 
@@ -122,17 +128,21 @@ static inline const char *{name}(uint32_t number)
 
 def c_enum(blocks: List[Block], prefix: str) -> str:
     """The members of an enumeration in C."""
-    return ',\n'.join(f'    /** {block.text} */\n    {prefix}{capitals(block.name)} = {block.number}' for block in blocks)
+    said = ('; '.join([block.text, *([block.said['c']] if 'c' in block.said else [])]) for block in blocks)
+    return ',\n'.join(f'    /** {text} */\n    {prefix}{capitals(block.name)} = {block.number}' for text, block in zip(said, blocks))
 
 
 def c_text(table: Table) -> str:
     """bindings/include/gwb_names.h."""
     why = {f'GWB_WHY_{capitals(block.name)}': block for block in table.conditions}
     misfits = {f'GWB_MISFIT_{capitals(block.name)}': block for block in table.misfits}
+    causes = {f'GWB_CAUSE_{capitals(block.name)}': block for block in table.causes}
     functions = ''.join((
         c_function('gwb_why_name', 'The name of the condition with a number, or "" where there is none.', {case: block.name for case, block in why.items()}),
         c_function('gwb_why_text', 'What it says, in which X stands for the value that goes with it.', {case: block.text for case, block in why.items()}),
-        c_function('gwb_misfit_text', 'What the misfit with a number says, alike.', {case: block.text for case, block in misfits.items()})))
+        c_function('gwb_misfit_text', 'What the misfit with a number says, alike.', {case: block.text for case, block in misfits.items()}),
+        c_function('gwb_cause_name', 'The name of the cause with a number, or "" where there is none.', {case: block.name for case, block in causes.items()}),
+        c_function('gwb_cause_text', 'What it says, in which Y stands for the number of what was met.', {case: block.text for case, block in causes.items()})))
     in_cpp = ',\n'.join(f'    {snake(block.name)} = {case} /**< {block.text} */' for case, block in misfits.items())
     cases = ''.join(f'    case Misfit::{snake(block.name)}: return "{block.name}";\n' for block in table.misfits)
     return f"""/* The names of refusals. {MADE} */
@@ -149,6 +159,11 @@ enum gwb_why {{
 /** Why a feature isn't possible, where it is no condition of a command. X is the value that goes with it. */
 enum gwb_misfit {{
 {c_enum(table.misfits, 'GWB_MISFIT_')}
+}};
+
+/** Which cause of a misfit it is. Y is the number of what was met (gwb_hit). */
+enum gwb_cause {{
+{c_enum(table.causes, 'GWB_CAUSE_')}
 }};
 {functions}
 #ifdef __cplusplus
@@ -176,7 +191,7 @@ enum class Misfit : uint32_t {{
 
 def rust_text(table: Table) -> str:
     """bindings/rust/src/refusal.rs."""
-    conditions, misfits = (''.join(f'    {block.name} = {block.number}: "{block.text}",\n' for block in of) for of in (table.conditions, table.misfits))
+    conditions, _, misfits, causes = (''.join(f'    {block.name} = {block.number}: "{block.text}",\n' for block in of) for of in table.kinds)
     return f"""//! The names of refusals. {MADE}
 use crate::named::named;
 
@@ -191,13 +206,19 @@ named! {{
 Misfit {{
 {misfits}}}
 }}
+
+named! {{
+/// Which cause of a misfit it is. X is the value that goes with the misfit, and Y the number of what was met.
+Cause {{
+{causes}}}
+}}
 """
 
 
 def page_text(table: Table) -> str:
-    """docs/REFUSALS.md, with the rows of its three tables."""
+    """docs/REFUSALS.md, with the rows of its tables."""
     parts = re.split(r'(^\|---\|---\|---\|\n)(?:\|.*\n)*', text_of(PAGE), flags=re.MULTILINE)
-    for place, blocks in enumerate(table.kinds):
+    for place, blocks in enumerate(table.kinds[:3]):
         parts[2 * place + 1] += ''.join(f'{block.row}\n' for block in blocks)
     return ''.join(parts)
 
@@ -238,7 +259,7 @@ def header_names() -> List[str]:
 def findings(table: Table) -> Iterator[str]:
     """For each place what is wrong with it, or nothing."""
     names, faults = names_of(table.conditions), names_of(table.faults)
-    yield '' if table.is_whole and names else f'{TABLE}: the numbers have gaps'
+    yield '' if table.is_whole else f'{TABLE}: the numbers have gaps, or a cause is of no misfit'
     yield '' if kernel_names() == names else f'{TABLE}: the conditions of crates/euler_operators are others'
     for file, make in MAKERS.items():
         yield '' if text_of(file) == make(table) else f'{file} is not the one that --write makes'

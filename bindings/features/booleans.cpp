@@ -48,7 +48,7 @@ Combined combined_with(Bench &bench, Operation operation, Solid first, const std
         near.take(box_of(operands[at]));
     if (operation == Operation::intersect)
         near = {{-farthest, -farthest, -farthest}, {farthest, farthest, farthest}};
-    const Failure why = impossible(Misfit::meets, first.number());
+    const Failure why = impossible(Misfit::meets, first.number(), met(GWB_CAUSE_TOUCHES_ITSELF));
     const auto lay = [&](const std::vector<Sheet> &sheets) {
         operands[0] = sheets;
         return laid(bench, operation, first, operands, why);
@@ -89,7 +89,7 @@ Sources combine(Bench &bench, Operation operation, std::vector<Solid> solids)
 
 Sources join_faces(Bench &bench, Solid solid)
 {
-    const Failure why = impossible(Misfit::meets, solid.number());
+    const Failure why = impossible(Misfit::meets, solid.number(), met(GWB_CAUSE_TOUCHES_ITSELF));
     const Model before = Model::whole(bench, solid);
     const std::vector<Sheet> sheets = sheets_of(before);
     require_flat(sheets);

@@ -99,7 +99,7 @@ inline void put_caps(std::vector<Sheet> &left, const Plane &plane, const Failure
 /// The part of a solid below a plane, closed by caps, which are its faces that have marks.
 inline Combined part_below(const Held &held, const std::vector<Sheet> &sheets, const Plane &plane, Solid solid, AllNames &names)
 {
-    const Failure meets = impossible(Misfit::meets, held.model.solid.number());
+    const Failure meets = impossible(Misfit::meets, held.model.solid.number(), met(GWB_CAUSE_TOUCHES_ITSELF));
     std::vector<Sheet> left;
     for (const Sheet &sheet : sheets)
         put_below(sheet, plane, meets, left);
@@ -133,7 +133,7 @@ inline Caps cut_by_faces(Bench &bench, Solid solid, const Plane &plane, const Pa
     const Combined lower = part_below(held, sheets, plane, solid, names);
     const Combined upper = is_wanted ? part_below(held, sheets, plane.turned(), above, names) : Combined();
     const bool touch = !corners.empty() && touch_anew({&held.model}, {&lower.model, &upper.model}, box_of(corners));
-    require(!touch, impossible(Misfit::meets, solid.number()));
+    require(!touch, impossible(Misfit::meets, solid.number(), met(GWB_CAUSE_TOUCHES_ITSELF)));
     if (const auto operators = changing::operators_between({held.model, lower.model}, names))
         give(bench, *operators);
     else
@@ -174,7 +174,7 @@ inline Caps cut(Bench &bench, Solid solid, const gwb_cut_plane &row, Solid above
         return cut_by_faces(bench, solid, plane, corners, above, is_wanted);
     if (!corners.empty()) {
         const Model lower = Model::whole(bench, solid), upper = is_wanted ? Model::whole(bench, above) : Model();
-        require(!touch_anew({&before}, {&lower, &upper}, box_of(corners)), impossible(Misfit::meets, solid.number()));
+        require(!touch_anew({&before}, {&lower, &upper}, box_of(corners)), impossible(Misfit::meets, solid.number(), met(GWB_CAUSE_TOUCHES_ITSELF)));
     }
     if (!is_wanted) {
         (*caps)[1].clear();

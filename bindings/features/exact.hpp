@@ -24,6 +24,9 @@ constexpr std::int64_t farthest = 1'000'000'000;
 
 // ---- numbers
 
+/// A number as C has it.
+constexpr gwb_wide wide(Wide number) { return {static_cast<std::int64_t>(number >> 64), static_cast<std::uint64_t>(number)}; }
+
 constexpr int sign(Wide a) { return (a > 0) - (a < 0); }
 constexpr Wide magnitude(Wide a) { return a < 0 ? -a : a; }
 constexpr Wide greatest_divisor(Wide a, Wide b)

@@ -167,6 +167,7 @@ template <class Make> gwb_kind made_if(bool is_call, gwb *g, gwb_refusal *why, M
         const bool was_known = known.changes == before;
         for (auto &list : known.lists)
             list.clear();
+        known.hit.reset();
         try {
             Borrowed session(g);
             const Borrowed::Steps commands(session.handle());
@@ -176,7 +177,9 @@ template <class Make> gwb_kind made_if(bool is_call, gwb *g, gwb_refusal *why, M
             make_numbered(session, known.lists, make);
             call.keep();
             commands.keep();
-        } catch (const Failure &) {
+        } catch (const Failure &failure) {
+            if (failure.problem == Problem::refused || failure.problem == Problem::impossible)
+                known.hit = failure.hit;
             if (was_known && known.changes == before) // it is again what it was
                 known.changes = of.changes;
             throw;
@@ -231,7 +234,7 @@ gwb_kind combined(booleans::Operation operation, gwb *g, std::optional<std::uint
 
 // ---- what is found
 
-gwb_wide wide(exact::Wide number) { return {static_cast<std::int64_t>(number >> 64), static_cast<std::uint64_t>(number)}; }
+using exact::wide;
 
 /// Writes rows, as far as there is room: how many there are.
 template <class Row, class Items, class Of> std::size_t rows(const Items &items, Row *to, std::size_t room, Of of)
@@ -302,6 +305,15 @@ size_t gwb_made(const gwb *g, uint32_t list, uint32_t *buf, size_t room)
     if (known == nullptr || list >= std::tuple_size_v<Lists>)
         return 0;
     return rows(known->lists[list], buf, room, [](uint32_t number) { return number; });
+}
+
+bool gwb_hit(const gwb *g, gwb_hit_row *hit)
+{
+    const auto *known = gwb_is_open(g) ? static_cast<const machining::Surroundings *>(beside_of(g)->known) : nullptr;
+    if (known == nullptr || !known->hit)
+        return false;
+    *hit = *known->hit;
+    return true;
 }
 
 gwb_kind gwb_kill_solid(gwb *g, uint32_t solid, gwb_refusal *why)

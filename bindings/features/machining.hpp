@@ -44,11 +44,25 @@ inline Path path_of(Items<Point> points)
     return path;
 }
 
-/// Refuses points off a plane.
-inline void require_in(const Plane &plane, const Path &path)
+/// Refuses points off a plane, which was met.
+inline void require_in(const Plane &plane, const Path &path, const gwb_hit_row &hit = {})
 {
     const auto off = std::find_if(path.begin(), path.end(), [&](const Vector &at) { return plane.height(at) != 0; });
-    require(off == path.end(), impossible(Misfit::not_in_plane, place(static_cast<std::size_t>(off - path.begin()))));
+    if (off != path.end())
+        throw impossible(Misfit::not_in_plane, place(static_cast<std::size_t>(off - path.begin())), ScaledPoint{*off}.met_at(hit));
+}
+
+/// Whether points lie in one line.
+inline bool are_in_line(const Path &path)
+{
+    return all(path, [&](const Vector &at) { return is_zero(cross(subtract(path[1], path[0]), subtract(at, path[0]))); });
+}
+
+/// The plane of the first points that don't lie in one line, of some that don't.
+inline Plane first_plane(const Path &path)
+{
+    const auto across = [&](const Vector &at) { return cross(subtract(path[1], path[0]), subtract(at, path[0])); };
+    return Plane::through(path[0], across(*std::find_if(path.begin(), path.end(), [&](const Vector &at) { return !is_zero(across(at)); })));
 }
 
 /// The normal of the flat simple outline through points.
@@ -60,8 +74,9 @@ inline Vector simple_normal(const Path &path)
         require(seen.insert(path[at]).second, refused(GWB_WHY_REPEATED_POINT, place(at)));
     const Cycle sides = cycle_of(path);
     const Vector across = area_of(sides);
-    require(!is_zero(across), impossible(Misfit::no_area, 0));
-    require_in(Plane::through(path[0], across), path);
+    if (is_zero(across))
+        throw impossible(Misfit::no_area, 0, met(are_in_line(path) ? GWB_CAUSE_POINTS_IN_LINE : GWB_CAUSE_AREAS_CANCEL));
+    require_in(first_plane(path), path, met(GWB_CAUSE_OFF_OTHERS));
     require_simple(sides, flat_axes(across));
     return across;
 }
@@ -88,7 +103,10 @@ inline Wide whole_length(const Vector &across)
 inline Vector steps_along(Face face, const Vector &across, std::int64_t length)
 {
     const Wide root = whole_length(across);
-    require(root != 0 && length % root == 0, impossible(Misfit::off_lattice, face.number()));
+    if (root == 0)
+        throw impossible(Misfit::off_lattice, face.number(), met(GWB_CAUSE_NO_SCALE));
+    if (length % root != 0)
+        throw impossible(Misfit::off_lattice, face.number(), met_factor(GWB_CAUSE_DEPTH_FRACTION, root / greatest_divisor(root, length)));
     return times(across, length / root);
 }
 
@@ -183,13 +201,52 @@ public:
     [[nodiscard]] Path ring_path(const Bench &bench, Face face, const Path &path) const
     {
         const Plane &plane = planes_.at(face);
-        require_in(plane, path);
+        require_in(plane, path, met(GWB_CAUSE_OFF_FACE, face));
         const Vector across = simple_normal(path);
-        shape(face, near(bench, box_of(path))[face]).require_inside(face, path);
+        const auto [beside, sides] = beside_of(bench, face, path);
+        if (!sides.empty())
+            throw impossible(Misfit::outline_outside, face.number(), met_by(bench, face, beside, sides, path));
+        beside.require_inside(face, path);
         return dot(across, plane.across) < 0 ? path : turned(path);
     }
 
 private:
+    using LoopSide = std::pair<Loop, Side>;
+    /// A face so far as it lies beside an outline in it, and its sides that the outline meets.
+    [[nodiscard]] std::pair<Shape, std::vector<LoopSide>> beside_of(const Bench &bench, Face face, const Path &path) const
+    {
+        const std::set<Loop> loops = near(bench, box_of(path))[face];
+        std::pair<Shape, std::vector<LoopSide>> found(shape(face, loops), {});
+        const Cycle own = cycle_of(path);
+        for (Loop loop : loops)
+            for (const Side &side : cycle(loop))
+                if (found.first.is_met(side, own))
+                    found.second.emplace_back(loop, side);
+        return found;
+    }
+    /// Whether a corner of an outline, or the middle of a side, lies outside a face.
+    [[nodiscard]] static bool has_point_outside(const Shape &beside, const Path &path)
+    {
+        const auto is_out = [&](const ScaledPoint &at) { return beside.locate(at) == Place::outside; };
+        return any(cycle_of(path), [&](const Side &side) { return is_out({side.start}) || is_out({add(side.start, side.end), 2}); });
+    }
+
+    /// What an outline meets of a face: of the sides that it meets first one that it crosses.
+    [[nodiscard]] gwb_hit_row met_by(const Bench &bench, Face face, const Shape &beside, const std::vector<LoopSide> &sides, const Path &path) const
+    {
+        const Cycle own = cycle_of(path);
+        const auto crossed = std::find_if(sides.begin(), sides.end(), [&](const auto &side) { return beside.is_crossed(side.second, own); });
+        const auto &[loop, side] = crossed != sides.end() ? *crossed : sides.front();
+        if (loop != bench.face(face).outer_loop)
+            return met(GWB_CAUSE_RING_MET, loop);
+        if (crossed != sides.end() || has_point_outside(beside, path))
+            return met(GWB_CAUSE_EDGE_CROSSED, side.half.edge());
+        for (HalfEdge half : {side.half, side.half.twin()})
+            if (const Vector at = vector(bench.vertex(bench.start_of(half))); beside.is_on(at, own))
+                return ScaledPoint{at}.met_at(met(GWB_CAUSE_VERTEX_TOUCHED, bench.start_of(half)));
+        return met(GWB_CAUSE_EDGE_TOUCHED, side.half.edge());
+    }
+
     std::unordered_map<Loop, Cycle> loops_;
     std::map<Face, Plane> planes_;
     BoxIndex boxes_;
@@ -220,6 +277,7 @@ public:
     }
 
     Lists lists; ///< what the last feature made
+    std::optional<gwb_hit_row> hit; ///< what it met, where it was refused
     std::uint64_t changes = UINT64_MAX; ///< after which what is known was read; the greatest where it is of no model
 
 private:
@@ -248,6 +306,23 @@ inline Plane plane_of(const Bench &bench, Face face)
     return *plane;
 }
 
+/// The face at one of the two sides of an edge: another one than this, where there is one. None of a lone vertex.
+inline Face beyond(const Bench &bench, HalfEdge half, Face face)
+{
+    if (half == HalfEdge())
+        return face;
+    return bench.face_of(half) != face ? bench.face_of(half) : bench.face_of(half.twin());
+}
+
+/// How what an outline sweeps over meets a face: it touches that where no point lies on its other side.
+inline gwb_hit_row met_by(const Surface &surface, Face face, const Path &path, const Path &far)
+{
+    const Plane *plane = surface.plane(face);
+    const auto lies = [&](const Vector &at, int side) { return plane == nullptr || sign(plane->height(at)) == side; };
+    const auto some = [&](int side) { return any(path, [&](const Vector &at) { return lies(at, side); }) || any(far, [&](const Vector &at) { return lies(at, side); }); };
+    return met(some(-1) && some(1) ? GWB_CAUSE_COMES_THROUGH : GWB_CAUSE_TOUCHES_FACE, face);
+}
+
 /// Refuses to move an outline in a face to another place where what it sweeps over would meet or touch the solid elsewhere than in the face,
 /// or in the other one where it ends there. In these only what is on the outline counts.
 inline void require_room(const Bench &bench, const Surface &surface, const Vector &across, const Path &path, const Path &far, Face face, Face other)
@@ -256,12 +331,12 @@ inline void require_room(const Bench &bench, const Surface &surface, const Vecto
     Box box = box_of(path);
     box.take(box_of(far));
     std::vector<Side> edges; // that are near, and other faces
-    std::vector<Shape> faces;
+    std::vector<std::pair<Face, Shape>> faces;
     for (const auto &[of, loops] : surface.near(bench, box)) {
         for (Loop loop : loops)
             append(edges, filtered(surface.cycle(loop), [&](const Side &edge) { return box_of(edge).meets(box); }));
         if (of != face && of != other && surface.plane(of) != nullptr)
-            faces.push_back(surface.shape(of, loops));
+            faces.emplace_back(of, surface.shape(of, loops));
     }
     if (edges.empty() && faces.empty())
         return;
@@ -281,11 +356,17 @@ inline void require_room(const Bench &bench, const Surface &surface, const Vecto
         const auto lies_beside = [&](const Shape &lid, const Vector &ray) { return lid.hit({edge.start}, ray) != Place::outside; };
         return any(boxes.meeting(box_of(edge)), touches) || any(lids, passes) || (lies_beside(lids[0], negative(way)) && lies_beside(lids[1], way));
     };
-    const auto is_met = [&](const Shape &beside) {
+    const auto is_met = [&](const auto &beside) {
         go_on();
-        return any(boxes.meeting(beside.box), [&](std::size_t at) { return any(walls[at].sides, [&](const Side &side) { return beside.meets(side); }); });
+        const auto touches = [&](std::size_t at) { return any(walls[at].sides, [&](const Side &side) { return beside.second.meets(side); }); };
+        return any(boxes.meeting(beside.second.box), touches);
     };
-    require(!any(edges, meets) && !any(faces, is_met), impossible(Misfit::meets, face.number()));
+    const auto met_face = std::find_if(faces.begin(), faces.end(), is_met);
+    if (met_face != faces.end())
+        throw impossible(Misfit::meets, face.number(), met_by(surface, met_face->first, path, far));
+    const auto edge = std::find_if(edges.begin(), edges.end(), meets);
+    if (edge != edges.end())
+        throw impossible(Misfit::meets, face.number(), met_by(surface, beyond(bench, edge->half, face), path, far));
 }
 
 /// The face that a ray from a point of a face goes out through, which is parallel, and the way to it.

@@ -12,6 +12,12 @@ using namespace sheets;
 /// Sides of faces, each from one place among points to another, with its half-edge and the place of its face.
 using Sides = std::map<std::pair<std::uint32_t, std::uint32_t>, std::pair<HalfEdge, std::size_t>>;
 
+/// What was met where a side runs the same way in two faces.
+inline gwb_hit_row met_twice(std::size_t one, std::size_t other)
+{
+    return one != other ? machining::met_place(GWB_CAUSE_SIDE_TWICE, place(one)) : gwb_hit_row{};
+}
+
 /// The half-edges of a face: each edge has two sides, one each way. Not possible: NotClosed.
 inline std::vector<HalfEdge> halves_of(Items<std::uint32_t> corners, std::size_t face, FreeNumbers<Edge> &edges, Sides &sides)
 {
@@ -21,7 +27,8 @@ inline std::vector<HalfEdge> halves_of(Items<std::uint32_t> corners, std::size_t
         const auto mate = sides.find({to, from});
         halves.push_back(mate != sides.end() ? mate->second.first.twin() : plus(edges.spare()));
         const bool is_new = sides.emplace(std::pair(from, to), std::pair(halves.back(), face)).second;
-        require(from != to && is_new, impossible(Misfit::not_closed, place(face)));
+        if (from == to || !is_new)
+            throw impossible(Misfit::not_closed, place(face), met_twice(sides.find({from, to})->second.second, face));
     }
     return halves;
 }
@@ -45,7 +52,7 @@ inline gwb_polyhedron_made make_polyhedron(Bench &bench, Solid solid, Items<Poin
         model.faces[names.faces.spare()] = {loop};
     }
     for (const auto &[ends, side] : sides) {
-        require(sides.count({ends.second, ends.first}) != 0, impossible(Misfit::not_closed, place(side.second)));
+        require(sides.count({ends.second, ends.first}) != 0, impossible(Misfit::not_closed, place(side.second), met(GWB_CAUSE_SIDE_OPEN)));
         if (!side.first.is_second())
             model.edges[side.first.edge()] = {Vertex(first + ends.first), Vertex(first + ends.second)};
     }

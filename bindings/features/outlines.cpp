@@ -16,7 +16,8 @@ public:
     }
     void require_one() const
     {
-        require(value_ == 1, impossible(Misfit::off_lattice, value_ <= UINT32_MAX ? static_cast<std::uint32_t>(value_) : 0));
+        const gwb_hit_row hit = met_factor(GWB_CAUSE_CORNER_FRACTION, value_);
+        require(value_ == 1, impossible(Misfit::off_lattice, hit.number, hit));
     }
 
 private:

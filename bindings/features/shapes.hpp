@@ -9,7 +9,16 @@ using namespace exact;
 using exact::box_of;
 using Path = std::vector<Vector>;
 
-inline Failure impossible(Misfit why, std::uint32_t value) { return {Problem::impossible, static_cast<std::uint32_t>(why), value}; }
+/// What was met: the cause alone, with a thing, with a place in what was given, or with the factor that helps, which is left out where it is too great.
+inline gwb_hit_row met(gwb_cause cause) { return {static_cast<std::uint32_t>(cause), 0, 0, {}, {}}; }
+template <gwb_entity Kind> gwb_hit_row met(gwb_cause cause, Id<Kind> thing) { return {static_cast<std::uint32_t>(cause), Kind, thing.number(), {}, {}}; }
+inline gwb_hit_row met_place(gwb_cause cause, std::uint32_t place) { return {static_cast<std::uint32_t>(cause), GWB_HIT_PLACE, place, {}, {}}; }
+inline gwb_hit_row met_factor(gwb_cause cause, Wide factor)
+{
+    return {static_cast<std::uint32_t>(cause), GWB_HIT_FACTOR, factor <= UINT32_MAX ? static_cast<std::uint32_t>(factor) : 0, {}, {}};
+}
+/// Why a feature isn't possible, with its value and what was met.
+inline Failure impossible(Misfit why, std::uint32_t value, const gwb_hit_row &hit = {}) { return {Problem::impossible, static_cast<std::uint32_t>(why), value, hit}; }
 inline Failure refused(gwb_why why, std::uint32_t value) { return {Problem::refused, static_cast<std::uint32_t>(why), value}; }
 /// Throws why not, where something doesn't hold.
 template <class Why> void require(bool holds, const Why &why)
@@ -40,8 +49,17 @@ struct ScaledPoint {
     template <class Kind> [[nodiscard]] Vector whole_at(Kind part) const
     {
         const std::optional<Vector> found = whole();
-        require(found.has_value(), impossible(Misfit::off_lattice, part.number()));
+        const auto factor = [&] { return scale / greatest_divisor(greatest_divisor(at[0], at[1]), greatest_divisor(at[2], scale)); };
+        if (!found)
+            throw impossible(Misfit::off_lattice, part.number(), met_at(met_factor(GWB_CAUSE_POINT_FRACTION, factor())));
         return *found;
+    }
+    /// What was met here.
+    [[nodiscard]] gwb_hit_row met_at(gwb_hit_row hit) const
+    {
+        std::transform(at.begin(), at.end(), hit.point, wide);
+        hit.scale = wide(scale);
+        return hit;
     }
     /// Negative where it comes before another one, by x, then y, then z.
     [[nodiscard]] int compare(const ScaledPoint &other) const
@@ -209,14 +227,26 @@ public:
         return sign(before) * sign(after) <= 0 && locate(divided(segment, before, after)) != Place::outside;
     }
 
-    /// Refuses a path in its plane that doesn't lie strictly inside the face, which has this number, or has a ring of it inside.
+    /// Whether a side in its plane meets one of a cycle there; whether it crosses one.
+    [[nodiscard]] bool is_met(const Side &side, const Cycle &own) const
+    {
+        return any(own, [&](const Side &other) { return box_of(side).meets(box_of(other)) && side.meets(other, axes_); });
+    }
+    [[nodiscard]] bool is_crossed(const Side &side, const Cycle &own) const
+    {
+        return any(own, [&](const Side &other) { return side.crosses(other, axes_); });
+    }
+    /// Whether a point in its plane lies on a cycle there.
+    [[nodiscard]] bool is_on(const Vector &point, const Cycle &own) const
+    {
+        return any(own, [&](const Side &side) { return side.holds({point}, axes_); });
+    }
+
+    /// Refuses a path in its plane that meets none of its sides, but lies outside the face, which has this number, or has a ring of it inside.
     void require_inside(Face face, const Path &path) const
     {
         const Cycle own = cycle_of(path);
-        const auto is_met = [&](const Side &side) {
-            return any(own, [&](const Side &other) { return box_of(side).meets(box_of(other)) && side.meets(other, axes_); });
-        };
-        require(!any(sides, is_met) && locate({path[0]}) == Place::inside, impossible(Misfit::outline_outside, face.number()));
+        require(locate({path[0]}) == Place::inside, impossible(Misfit::outline_outside, face.number(), met(GWB_CAUSE_WHOLLY_OUTSIDE)));
         if (any(cycles, [&](const Cycle &cycle) { return machining::locate(own, {cycle[0].start}, axes_) == Place::inside; }))
             throw impossible(Misfit::outline_around_ring, face.number());
     }

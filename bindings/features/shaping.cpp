@@ -12,7 +12,11 @@ enum : std::size_t { floor_mark, wall_mark };
 // ---- the lattice
 
 /// Something wouldn't be whole: all would have to be so many times as large, or 0 where no factor will do.
-Failure off_lattice(Wide factor) { return impossible(Misfit::off_lattice, factor <= UINT32_MAX ? static_cast<std::uint32_t>(factor) : 0); }
+Failure off_lattice(Wide factor)
+{
+    const gwb_hit_row hit = factor != 0 ? met_factor(GWB_CAUSE_CORNER_FRACTION, factor) : met(GWB_CAUSE_NO_SCALE);
+    return impossible(Misfit::off_lattice, hit.number, hit);
+}
 
 /// The whole vector along a normal that is as short as it can be, as long as a length or a part of it.
 Vector steps(const Vector &across, std::int64_t length, Wide parts = 1)

@@ -17,8 +17,7 @@
 #if __cplusplus < 201703L
 #error "gwb.hpp is written for C++17: compile with -std=c++17 or later"
 #endif
-#include "gwb.h"
-#include "gwb_names.h"
+#include "gwb_features.h"
 #include <algorithm>
 #include <array>
 #include <atomic>
@@ -190,6 +189,7 @@ struct Failure {
     Problem problem = Problem::closed;
     std::uint32_t number = 0; ///< of the condition (gwb_names.h), of the fault or of the Misfit
     std::uint32_t value = 0;  ///< that goes with the condition, or the number that is not in use
+    gwb_hit_row hit{};        ///< what a feature met that isn't possible: all 0 where nothing is known of it
 
     /// Whether this condition is false.
     [[nodiscard]] constexpr bool is(gwb_why why) const { return problem == Problem::refused && number == static_cast<std::uint32_t>(why); }
@@ -202,11 +202,11 @@ struct Failure {
             return misfit_name(static_cast<Misfit>(number));
         return problem == Problem::refused ? gwb_why_name(number) : "";
     }
-    /// What it says, in which X stands for the value; "" where it is none.
+    /// What it says, or the cause of the Misfit, in which X stands for the value, and Y for the number of what was met; "" where it is none.
     [[nodiscard]] const char *text() const
     {
         if (problem == Problem::impossible)
-            return gwb_misfit_text(number);
+            return hit.cause != 0 ? gwb_cause_text(hit.cause) : gwb_misfit_text(number);
         return problem == Problem::refused ? gwb_why_text(number) : "";
     }
 };
@@ -344,19 +344,19 @@ private:
 /// A feature isn't possible: why, and the value that goes with it.
 class Impossible : public Complaint {
 public:
-    Impossible(std::string_view feature, Misfit misfit, std::uint32_t value)
-        : Complaint(feature, misfit_name(misfit), value), misfit_(misfit), value_(value)
+    Impossible(std::string_view feature, const Failure &failure) : Complaint(feature, failure.name(), failure.value), failure_(failure)
     {
     }
-    [[nodiscard]] Misfit misfit() const { return misfit_; }
-    [[nodiscard]] std::uint32_t value() const { return value_; }
-    [[nodiscard]] const char *name() const { return misfit_name(misfit_); }
-    /// What it says, in which X stands for the value.
-    [[nodiscard]] const char *text() const { return gwb_misfit_text(static_cast<std::uint32_t>(misfit_)); }
+    [[nodiscard]] Misfit misfit() const { return static_cast<Misfit>(failure_.number); }
+    [[nodiscard]] std::uint32_t value() const { return failure_.value; }
+    /// What it met.
+    [[nodiscard]] const gwb_hit_row &hit() const { return failure_.hit; }
+    [[nodiscard]] const char *name() const { return failure_.name(); }
+    /// What it says, in which X stands for the value, and Y for the number of what was met.
+    [[nodiscard]] const char *text() const { return failure_.text(); }
 
 private:
-    Misfit misfit_;
-    std::uint32_t value_;
+    Failure failure_;
 };
 
 /// A call that its caller had no right to make; nothing has changed.
@@ -471,7 +471,7 @@ private:
         case Problem::absent: throw std::out_of_range("there is no " + std::string(command) + " " + std::to_string(failure.value));
         case Problem::changed: throw Changed();
         case Problem::crossed: throw Crossed(command, failure.value);
-        case Problem::impossible: throw Impossible(command, static_cast<Misfit>(failure.number), failure.value);
+        case Problem::impossible: throw Impossible(command, failure);
         case Problem::stopped: throw Stopped();
         case Problem::version: throw OtherVersion();
         case Problem::closed: break;
@@ -1448,7 +1448,7 @@ public:
         state_->begin_whole();
         const gwb_kind kind = call(held(), arguments..., &why);
         if (kind != GWB_OK)
-            return Policy::template failed<Of>(command, feature_failure(kind, why));
+            return Policy::template failed<Of>(command, feature_failure(kind, why, true));
         const auto keep = [&] { steps.keep(), state_->end_whole(); };
         if constexpr (std::is_void_v<Of>) {
             keep();
@@ -1460,11 +1460,15 @@ public:
         }
     }
 
-    [[nodiscard]] Failure feature_failure(gwb_kind kind, const gwb_refusal &why) const
+    /// Why an answer of this kind has no value; of a feature, also what it met.
+    [[nodiscard]] Failure feature_failure(gwb_kind kind, const gwb_refusal &why, bool is_feature = false) const
     {
-        if (kind == GWB_IMPOSSIBLE)
-            return {Problem::impossible, why.number, why.value};
-        return kind == GWB_REFUSED ? Failure{Problem::refused, why.number, why.value} : failure(kind);
+        if (kind != GWB_IMPOSSIBLE && kind != GWB_REFUSED)
+            return failure(kind);
+        Failure found{kind == GWB_IMPOSSIBLE ? Problem::impossible : Problem::refused, why.number, why.value};
+        if (is_feature)
+            gwb_hit(seen(), &found.hit);
+        return found;
     }
 
     /// Gives the lines of a script one after another, up to the first that is not accepted: how many were given.

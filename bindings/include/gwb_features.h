@@ -12,7 +12,7 @@
  * there are too few new numbers, NumbersSpent tells the first kind. A size below 1 is SizeRange; one above 4,000,000,000 is taken as that.
  *
  * Outlines may run either way round; what belongs to their points comes in the order of the points. A list that is written for `n` points has
- * `n` items. Lists of another length are kept with the session until the next feature: gwb_made. */
+ * `n` items. Lists of another length are kept with the session until the next feature: gwb_made; and so is what a refused one met: gwb_hit. */
 #ifndef GWB_FEATURES_H
 #define GWB_FEATURES_H
 #include "gwb.h"
@@ -51,6 +51,23 @@ enum gwb_list {
 /** Writes a list of what the last feature of the session made, as far as there is room. A reader, between features.
  * @return how many there are: SIZE_MAX where the handle is closed */
 size_t gwb_made(const gwb *g, uint32_t list, uint32_t *buf, size_t room);
+
+/** What the number of a hit is of, where it is of no thing of the model (enum gwb_entity). */
+enum gwb_hit_kind {
+    GWB_HIT_PLACE = 5, /**< a place in what was given, from 1 on */
+    GWB_HIT_FACTOR = 6 /**< how many times as large all must be for what is made to be whole */
+};
+
+/** What a feature met that was refused or isn't possible. */
+typedef struct gwb_hit_row {
+    uint32_t cause;           /**< which cause of the misfit it is (enum gwb_cause), or 0 where the misfit says all */
+    uint32_t kind, number;    /**< a thing that was met (enum gwb_entity), or another number (enum gwb_hit_kind); the number is 0 where there is none */
+    gwb_wide point[3], scale; /**< where: coordinates times the scale, which is 0 where there is no such point */
+} gwb_hit_row;
+
+/** Writes what the last feature of the session met. A reader, between features.
+ * @return false where that was made, ended or took memory that was refused, where there was none, or the handle is closed: then nothing is written */
+bool gwb_hit(const gwb *g, gwb_hit_row *hit);
 
 /** The solid goes, with all its parts. Refused: NoSolid. */
 enum gwb_kind gwb_kill_solid(gwb *g, uint32_t solid, gwb_refusal *why);

@@ -98,21 +98,21 @@ enum gwb_why {
 
 /** Why a feature isn't possible, where it is no condition of a command. X is the value that goes with it. */
 enum gwb_misfit {
-    /** the outline has no area, or crosses itself */
+    /** the outline has no area */
     GWB_MISFIT_NO_AREA = 1,
-    /** point X of the outline lies off the plane of the others, or of the face */
+    /** point X of the outline lies off the plane */
     GWB_MISFIT_NOT_IN_PLANE = 2,
-    /** side X of the outline crosses or touches another one */
+    /** side X of the outline meets another one */
     GWB_MISFIT_OUTLINE_CROSSED = 3,
     /** the vector doesn't leave the plane of the points, on the side of the feature */
     GWB_MISFIT_ALONG_PLANE = 4,
-    /** the outline crosses or touches the boundary of face X, or doesn't lie inside; of a notch or a pad nothing of it lies in the face, of a strip not all */
+    /** the outline doesn't lie inside face X */
     GWB_MISFIT_OUTLINE_OUTSIDE = 5,
     /** a ring of face X lies inside the outline */
     GWB_MISFIT_OUTLINE_AROUND_RING = 6,
-    /** a point or a vector at face X would not be whole; of a Boolean, a notch, a pad, a strip or a chamfer: all must be X times as large, or more where X is 0 */
+    /** a point would not be whole */
     GWB_MISFIT_OFF_LATTICE = 7,
-    /** what is made at face X would meet or touch the solid elsewhere; of a cut or a Boolean: solid X would touch itself */
+    /** what is made at face X would meet the solid elsewhere */
     GWB_MISFIT_MEETS = 8,
     /** there is no face behind the outline in face X */
     GWB_MISFIT_NO_OPPOSITE = 9,
@@ -134,12 +134,52 @@ enum gwb_misfit {
     GWB_MISFIT_NO_CONTACT = 17,
     /** no longer said: solids may have room in common in a union */
     GWB_MISFIT_OVERLAP = 18,
-    /** the slopes of edges that end at vertex X don't meet in one point, or more than three edges end there */
+    /** the slopes of edges that end at vertex X don't meet in one point */
     GWB_MISFIT_NO_CORNER = 19,
-    /** edge X is of another solid than the first, or bends the other way */
+    /** edge X isn't like the first one */
     GWB_MISFIT_NOT_ALIKE = 20,
-    /** a side of the X-th face hasn't one side, of one face, that runs the other way */
+    /** a side of the X-th face has none in another face that runs the other way */
     GWB_MISFIT_NOT_CLOSED = 21
+};
+
+/** Which cause of a misfit it is. Y is the number of what was met (gwb_hit). */
+enum gwb_cause {
+    /** the outline crosses edge Y of face X; gwb_subtract cuts across edges */
+    GWB_CAUSE_EDGE_CROSSED = 1,
+    /** the outline touches edge Y of face X between its ends; gwb_notch takes outlines that reach the edges */
+    GWB_CAUSE_EDGE_TOUCHED = 2,
+    /** the outline touches vertex Y of face X; gwb_notch takes outlines that reach the edges */
+    GWB_CAUSE_VERTEX_TOUCHED = 3,
+    /** the outline meets loop Y, a ring of face X; gwb_subtract cuts across holes */
+    GWB_CAUSE_RING_MET = 4,
+    /** the outline lies outside face X */
+    GWB_CAUSE_WHOLLY_OUTSIDE = 5,
+    /** what is made at face X would touch face Y */
+    GWB_CAUSE_TOUCHES_FACE = 6,
+    /** what is made at face X would come through face Y; gwb_hole goes through to the far side */
+    GWB_CAUSE_COMES_THROUGH = 7,
+    /** solid X would touch itself */
+    GWB_CAUSE_TOUCHES_ITSELF = 8,
+    /** what is made is whole at no scale, since a length in it is irrational; gwb_pocket_along and its kin take a vector */
+    GWB_CAUSE_NO_SCALE = 9,
+    /** the vector of this depth would not be whole: all must be Y times as large */
+    GWB_CAUSE_DEPTH_FRACTION = 10,
+    /** a point at face X would not be whole: all must be Y times as large */
+    GWB_CAUSE_POINT_FRACTION = 11,
+    /** a corner of what is made would not be whole: all must be Y times as large */
+    GWB_CAUSE_CORNER_FRACTION = 12,
+    /** all points of the outline lie in one line */
+    GWB_CAUSE_POINTS_IN_LINE = 13,
+    /** the outline crosses itself, and its parts have equal areas */
+    GWB_CAUSE_AREAS_CANCEL = 14,
+    /** point X of the outline lies off the plane of face Y */
+    GWB_CAUSE_OFF_FACE = 15,
+    /** point X of the outline lies off the plane of the points before it */
+    GWB_CAUSE_OFF_OTHERS = 16,
+    /** faces X and Y of those given have a side that runs the same way in both */
+    GWB_CAUSE_SIDE_TWICE = 17,
+    /** a side of face X of those given has no face beyond it */
+    GWB_CAUSE_SIDE_OPEN = 18
 };
 
 /** The name of the condition with a number, or "" where there is none. */
@@ -250,14 +290,14 @@ static inline const char *gwb_why_text(uint32_t number)
 static inline const char *gwb_misfit_text(uint32_t number)
 {
     switch (number) {
-    case GWB_MISFIT_NO_AREA: return "the outline has no area, or crosses itself";
-    case GWB_MISFIT_NOT_IN_PLANE: return "point X of the outline lies off the plane of the others, or of the face";
-    case GWB_MISFIT_OUTLINE_CROSSED: return "side X of the outline crosses or touches another one";
+    case GWB_MISFIT_NO_AREA: return "the outline has no area";
+    case GWB_MISFIT_NOT_IN_PLANE: return "point X of the outline lies off the plane";
+    case GWB_MISFIT_OUTLINE_CROSSED: return "side X of the outline meets another one";
     case GWB_MISFIT_ALONG_PLANE: return "the vector doesn't leave the plane of the points, on the side of the feature";
-    case GWB_MISFIT_OUTLINE_OUTSIDE: return "the outline crosses or touches the boundary of face X, or doesn't lie inside; of a notch or a pad nothing of it lies in the face, of a strip not all";
+    case GWB_MISFIT_OUTLINE_OUTSIDE: return "the outline doesn't lie inside face X";
     case GWB_MISFIT_OUTLINE_AROUND_RING: return "a ring of face X lies inside the outline";
-    case GWB_MISFIT_OFF_LATTICE: return "a point or a vector at face X would not be whole; of a Boolean, a notch, a pad, a strip or a chamfer: all must be X times as large, or more where X is 0";
-    case GWB_MISFIT_MEETS: return "what is made at face X would meet or touch the solid elsewhere; of a cut or a Boolean: solid X would touch itself";
+    case GWB_MISFIT_OFF_LATTICE: return "a point would not be whole";
+    case GWB_MISFIT_MEETS: return "what is made at face X would meet the solid elsewhere";
     case GWB_MISFIT_NO_OPPOSITE: return "there is no face behind the outline in face X";
     case GWB_MISFIT_NOT_PARALLEL: return "face X, behind the outline, isn't parallel";
     case GWB_MISFIT_NOT_OF_FACE: return "edge X is none of the face";
@@ -268,9 +308,61 @@ static inline const char *gwb_misfit_text(uint32_t number)
     case GWB_MISFIT_NOT_ACROSS: return "face X doesn't lie across an axis";
     case GWB_MISFIT_NO_CONTACT: return "no longer said: solids may lie apart in a union";
     case GWB_MISFIT_OVERLAP: return "no longer said: solids may have room in common in a union";
-    case GWB_MISFIT_NO_CORNER: return "the slopes of edges that end at vertex X don't meet in one point, or more than three edges end there";
-    case GWB_MISFIT_NOT_ALIKE: return "edge X is of another solid than the first, or bends the other way";
-    case GWB_MISFIT_NOT_CLOSED: return "a side of the X-th face hasn't one side, of one face, that runs the other way";
+    case GWB_MISFIT_NO_CORNER: return "the slopes of edges that end at vertex X don't meet in one point";
+    case GWB_MISFIT_NOT_ALIKE: return "edge X isn't like the first one";
+    case GWB_MISFIT_NOT_CLOSED: return "a side of the X-th face has none in another face that runs the other way";
+    default: return "";
+    }
+}
+
+/** The name of the cause with a number, or "" where there is none. */
+static inline const char *gwb_cause_name(uint32_t number)
+{
+    switch (number) {
+    case GWB_CAUSE_EDGE_CROSSED: return "EdgeCrossed";
+    case GWB_CAUSE_EDGE_TOUCHED: return "EdgeTouched";
+    case GWB_CAUSE_VERTEX_TOUCHED: return "VertexTouched";
+    case GWB_CAUSE_RING_MET: return "RingMet";
+    case GWB_CAUSE_WHOLLY_OUTSIDE: return "WhollyOutside";
+    case GWB_CAUSE_TOUCHES_FACE: return "TouchesFace";
+    case GWB_CAUSE_COMES_THROUGH: return "ComesThrough";
+    case GWB_CAUSE_TOUCHES_ITSELF: return "TouchesItself";
+    case GWB_CAUSE_NO_SCALE: return "NoScale";
+    case GWB_CAUSE_DEPTH_FRACTION: return "DepthFraction";
+    case GWB_CAUSE_POINT_FRACTION: return "PointFraction";
+    case GWB_CAUSE_CORNER_FRACTION: return "CornerFraction";
+    case GWB_CAUSE_POINTS_IN_LINE: return "PointsInLine";
+    case GWB_CAUSE_AREAS_CANCEL: return "AreasCancel";
+    case GWB_CAUSE_OFF_FACE: return "OffFace";
+    case GWB_CAUSE_OFF_OTHERS: return "OffOthers";
+    case GWB_CAUSE_SIDE_TWICE: return "SideTwice";
+    case GWB_CAUSE_SIDE_OPEN: return "SideOpen";
+    default: return "";
+    }
+}
+
+/** What it says, in which Y stands for the number of what was met. */
+static inline const char *gwb_cause_text(uint32_t number)
+{
+    switch (number) {
+    case GWB_CAUSE_EDGE_CROSSED: return "the outline crosses edge Y of face X";
+    case GWB_CAUSE_EDGE_TOUCHED: return "the outline touches edge Y of face X between its ends";
+    case GWB_CAUSE_VERTEX_TOUCHED: return "the outline touches vertex Y of face X";
+    case GWB_CAUSE_RING_MET: return "the outline meets loop Y, a ring of face X";
+    case GWB_CAUSE_WHOLLY_OUTSIDE: return "the outline lies outside face X";
+    case GWB_CAUSE_TOUCHES_FACE: return "what is made at face X would touch face Y";
+    case GWB_CAUSE_COMES_THROUGH: return "what is made at face X would come through face Y";
+    case GWB_CAUSE_TOUCHES_ITSELF: return "solid X would touch itself";
+    case GWB_CAUSE_NO_SCALE: return "what is made is whole at no scale, since a length in it is irrational";
+    case GWB_CAUSE_DEPTH_FRACTION: return "the vector of this depth would not be whole: all must be Y times as large";
+    case GWB_CAUSE_POINT_FRACTION: return "a point at face X would not be whole: all must be Y times as large";
+    case GWB_CAUSE_CORNER_FRACTION: return "a corner of what is made would not be whole: all must be Y times as large";
+    case GWB_CAUSE_POINTS_IN_LINE: return "all points of the outline lie in one line";
+    case GWB_CAUSE_AREAS_CANCEL: return "the outline crosses itself, and its parts have equal areas";
+    case GWB_CAUSE_OFF_FACE: return "point X of the outline lies off the plane of face Y";
+    case GWB_CAUSE_OFF_OTHERS: return "point X of the outline lies off the plane of the points before it";
+    case GWB_CAUSE_SIDE_TWICE: return "faces X and Y of those given have a side that runs the same way in both";
+    case GWB_CAUSE_SIDE_OPEN: return "a side of face X of those given has no face beyond it";
     default: return "";
     }
 }
@@ -280,14 +372,14 @@ namespace gwb_session {
 
 /// Why a feature isn't possible, where it is no condition of a command. X is the value that goes with it.
 enum class Misfit : uint32_t {
-    no_area = GWB_MISFIT_NO_AREA /**< the outline has no area, or crosses itself */,
-    not_in_plane = GWB_MISFIT_NOT_IN_PLANE /**< point X of the outline lies off the plane of the others, or of the face */,
-    outline_crossed = GWB_MISFIT_OUTLINE_CROSSED /**< side X of the outline crosses or touches another one */,
+    no_area = GWB_MISFIT_NO_AREA /**< the outline has no area */,
+    not_in_plane = GWB_MISFIT_NOT_IN_PLANE /**< point X of the outline lies off the plane */,
+    outline_crossed = GWB_MISFIT_OUTLINE_CROSSED /**< side X of the outline meets another one */,
     along_plane = GWB_MISFIT_ALONG_PLANE /**< the vector doesn't leave the plane of the points, on the side of the feature */,
-    outline_outside = GWB_MISFIT_OUTLINE_OUTSIDE /**< the outline crosses or touches the boundary of face X, or doesn't lie inside; of a notch or a pad nothing of it lies in the face, of a strip not all */,
+    outline_outside = GWB_MISFIT_OUTLINE_OUTSIDE /**< the outline doesn't lie inside face X */,
     outline_around_ring = GWB_MISFIT_OUTLINE_AROUND_RING /**< a ring of face X lies inside the outline */,
-    off_lattice = GWB_MISFIT_OFF_LATTICE /**< a point or a vector at face X would not be whole; of a Boolean, a notch, a pad, a strip or a chamfer: all must be X times as large, or more where X is 0 */,
-    meets = GWB_MISFIT_MEETS /**< what is made at face X would meet or touch the solid elsewhere; of a cut or a Boolean: solid X would touch itself */,
+    off_lattice = GWB_MISFIT_OFF_LATTICE /**< a point would not be whole */,
+    meets = GWB_MISFIT_MEETS /**< what is made at face X would meet the solid elsewhere */,
     no_opposite = GWB_MISFIT_NO_OPPOSITE /**< there is no face behind the outline in face X */,
     not_parallel = GWB_MISFIT_NOT_PARALLEL /**< face X, behind the outline, isn't parallel */,
     not_of_face = GWB_MISFIT_NOT_OF_FACE /**< edge X is none of the face */,
@@ -298,9 +390,9 @@ enum class Misfit : uint32_t {
     not_across = GWB_MISFIT_NOT_ACROSS /**< face X doesn't lie across an axis */,
     no_contact = GWB_MISFIT_NO_CONTACT /**< no longer said: solids may lie apart in a union */,
     overlap = GWB_MISFIT_OVERLAP /**< no longer said: solids may have room in common in a union */,
-    no_corner = GWB_MISFIT_NO_CORNER /**< the slopes of edges that end at vertex X don't meet in one point, or more than three edges end there */,
-    not_alike = GWB_MISFIT_NOT_ALIKE /**< edge X is of another solid than the first, or bends the other way */,
-    not_closed = GWB_MISFIT_NOT_CLOSED /**< a side of the X-th face hasn't one side, of one face, that runs the other way */
+    no_corner = GWB_MISFIT_NO_CORNER /**< the slopes of edges that end at vertex X don't meet in one point */,
+    not_alike = GWB_MISFIT_NOT_ALIKE /**< edge X isn't like the first one */,
+    not_closed = GWB_MISFIT_NOT_CLOSED /**< a side of the X-th face has none in another face that runs the other way */
 };
 
 /// The name of what isn't possible, as Python's session has it.

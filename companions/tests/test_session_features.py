@@ -1,6 +1,7 @@
 """Features make what arithmetic says, pass gwb-check, undo in as many steps as they were made, or are refused with nothing changed."""
 
 import os
+import pickle
 import tempfile
 import unittest
 from fractions import Fraction
@@ -124,6 +125,41 @@ class Refusals(unittest.TestCase):
                 ('OutlineAroundRing', [(3, 3, 10), (7, 3, 10), (7, 7, 10), (3, 7, 10)])):
             with self.subTest(name):
                 self.refused(name, lambda points=points: bench.pocket(top, points, 1))
+
+    def test_what_was_met(self):
+        bench = Workbench(library(), step=1)
+        self.addCleanup(bench.close)
+        block = bench.block((0, 0, 0), (10, 10, 10))
+        edge = ('edge', bench.edges(between=(block.top, block.sides[1])).one().number)
+        corner = ('vertex', bench.vertices(at=(10, 10, 10)).one().number)
+        ring = bench.pocket(block.top, [(3, 3, 10), (5, 3, 10), (5, 5, 10), (3, 5, 10)], 1).loop
+        deep = [(6, 6, 10), (8, 6, 10), (8, 8, 10), (6, 8, 10)]
+        for points, depth, cause, hit, point in (
+                ([(1, 1, 10), (12, 1, 10), (1, 2, 10)], 1, 'EdgeCrossed', edge, None), ([(6, 1, 10), (10, 5, 10), (6, 8, 10)], 1, 'EdgeTouched', edge, None),
+                ([(6, 1, 10), (10, 10, 10), (6, 8, 10)], 1, 'VertexTouched', corner, (10, 10, 10)),
+                ([(4, 4, 10), (8, 4, 10), (8, 8, 10), (4, 8, 10)], 1, 'RingMet', ('loop', ring), None),
+                ([(20, 20, 10), (22, 20, 10), (20, 22, 10)], 1, 'WhollyOutside', None, None),
+                ([(1, 1, 10), (2, 1, 10), (1, 2, 9)], 1, 'OffFace', ('face', block.top), (1, 2, 9)),
+                (deep, 10, 'TouchesFace', ('face', block.bottom), None),
+                (deep, 11, 'ComesThrough', ('face', block.bottom), None)):
+            with self.subTest(cause), self.assertRaises(Impossible) as caught:
+                bench.pocket(block.top, points, depth)
+            error = pickle.loads(pickle.dumps(caught.exception))
+            self.assertEqual((error.cause, error.hit, error.point), (cause, hit, point))
+            self.assertIn(f'{hit[0]} {hit[1]}' if hit else 'face', str(error))
+
+    def test_what_was_met_is_said_by_what_would_do(self):
+        bench = Workbench(library(), step=1)
+        self.addCleanup(bench.close)
+        wedge = bench.profile([(0, 0, 0), (16, 0, 0), (0, 0, 12)], along=(0, -10, 0))
+        slope = bench.faces(solid=wedge.solid, normal=(3, 0, 4)).one()
+        outline = [(12, -2, 3), (8, -2, 6), (8, -5, 6)]
+        with self.assertRaises(Impossible) as caught:
+            bench.pocket(slope, outline, 2)
+        self.assertEqual((caught.exception.cause, caught.exception.advice), ('DepthFraction', ('refine(5) makes the step as fine as that',)))
+        self.assertIn('all must be 5 times as large', str(caught.exception))
+        bench.refine(5)
+        self.assertEqual(len(bench.pocket(slope, outline, 2).sides), 3)
 
     def test_pockets_and_holes(self):
         bench, top = self.bench, self.block.top

@@ -54,14 +54,14 @@ Refusal {
 named! {
 /// Why a feature isn't possible, where it is no condition of a command. X is the value that goes with it.
 Misfit {
-    NoArea = 1: "the outline has no area, or crosses itself",
-    NotInPlane = 2: "point X of the outline lies off the plane of the others, or of the face",
-    OutlineCrossed = 3: "side X of the outline crosses or touches another one",
+    NoArea = 1: "the outline has no area",
+    NotInPlane = 2: "point X of the outline lies off the plane",
+    OutlineCrossed = 3: "side X of the outline meets another one",
     AlongPlane = 4: "the vector doesn't leave the plane of the points, on the side of the feature",
-    OutlineOutside = 5: "the outline crosses or touches the boundary of face X, or doesn't lie inside; of a notch or a pad nothing of it lies in the face, of a strip not all",
+    OutlineOutside = 5: "the outline doesn't lie inside face X",
     OutlineAroundRing = 6: "a ring of face X lies inside the outline",
-    OffLattice = 7: "a point or a vector at face X would not be whole; of a Boolean, a notch, a pad, a strip or a chamfer: all must be X times as large, or more where X is 0",
-    Meets = 8: "what is made at face X would meet or touch the solid elsewhere; of a cut or a Boolean: solid X would touch itself",
+    OffLattice = 7: "a point would not be whole",
+    Meets = 8: "what is made at face X would meet the solid elsewhere",
     NoOpposite = 9: "there is no face behind the outline in face X",
     NotParallel = 10: "face X, behind the outline, isn't parallel",
     NotOfFace = 11: "edge X is none of the face",
@@ -72,8 +72,32 @@ Misfit {
     NotAcross = 16: "face X doesn't lie across an axis",
     NoContact = 17: "no longer said: solids may lie apart in a union",
     Overlap = 18: "no longer said: solids may have room in common in a union",
-    NoCorner = 19: "the slopes of edges that end at vertex X don't meet in one point, or more than three edges end there",
-    NotAlike = 20: "edge X is of another solid than the first, or bends the other way",
-    NotClosed = 21: "a side of the X-th face hasn't one side, of one face, that runs the other way",
+    NoCorner = 19: "the slopes of edges that end at vertex X don't meet in one point",
+    NotAlike = 20: "edge X isn't like the first one",
+    NotClosed = 21: "a side of the X-th face has none in another face that runs the other way",
+}
+}
+
+named! {
+/// Which cause of a misfit it is. X is the value that goes with the misfit, and Y the number of what was met.
+Cause {
+    EdgeCrossed = 1: "the outline crosses edge Y of face X",
+    EdgeTouched = 2: "the outline touches edge Y of face X between its ends",
+    VertexTouched = 3: "the outline touches vertex Y of face X",
+    RingMet = 4: "the outline meets loop Y, a ring of face X",
+    WhollyOutside = 5: "the outline lies outside face X",
+    TouchesFace = 6: "what is made at face X would touch face Y",
+    ComesThrough = 7: "what is made at face X would come through face Y",
+    TouchesItself = 8: "solid X would touch itself",
+    NoScale = 9: "what is made is whole at no scale, since a length in it is irrational",
+    DepthFraction = 10: "the vector of this depth would not be whole: all must be Y times as large",
+    PointFraction = 11: "a point at face X would not be whole: all must be Y times as large",
+    CornerFraction = 12: "a corner of what is made would not be whole: all must be Y times as large",
+    PointsInLine = 13: "all points of the outline lie in one line",
+    AreasCancel = 14: "the outline crosses itself, and its parts have equal areas",
+    OffFace = 15: "point X of the outline lies off the plane of face Y",
+    OffOthers = 16: "point X of the outline lies off the plane of the points before it",
+    SideTwice = 17: "faces X and Y of those given have a side that runs the same way in both",
+    SideOpen = 18: "a side of face X of those given has no face beyond it",
 }
 }

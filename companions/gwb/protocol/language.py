@@ -31,9 +31,11 @@ class Meaning(NamedTuple):
 FAULTS: Dict[int, Meaning] = {number: Meaning(*fault) for number, fault in refusals.FAULTS.items()}
 
 
-def with_value(text: str, value: object) -> str:
-    """A text with the value in the place of its X."""
-    return re.sub(r'\bX\b', str(value), text)
+def with_value(text: str, value: int, met: int = 0) -> str:
+    """A text with the value in the place of its X, and the number of what was met in that of its Y. In brackets they count from 0."""
+    for letter, number in (('X', value), ('Y', met)):
+        text = re.sub(rf'\b{letter}\b', str(number), text.replace(f'[{letter}]', f'[{number - 1}]'))
+    return text
 
 
 def condition_text(number: int) -> str:

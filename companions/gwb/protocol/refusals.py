@@ -132,14 +132,14 @@ FAULTS: Dict[int, Tuple[str, str]] = {
 
 # Why features aren't possible.
 MISFITS: Dict[str, str] = {
-    'NoArea': 'the outline has no area, or crosses itself',
-    'NotInPlane': 'point X of the outline lies off the plane of the others, or of the face',
-    'OutlineCrossed': 'side X of the outline crosses or touches another one',
+    'NoArea': 'the outline has no area',
+    'NotInPlane': 'points[X] lies off the plane',
+    'OutlineCrossed': 'the side that starts at points[X] meets another one',
     'AlongPlane': "the vector doesn't leave the plane of the points, on the side of the feature",
-    'OutlineOutside': "the outline crosses or touches the boundary of face X, or doesn't lie inside; of a notch or a pad nothing of it lies in the face, of a strip not all",
+    'OutlineOutside': "the outline doesn't lie inside face X",
     'OutlineAroundRing': 'a ring of face X lies inside the outline',
-    'OffLattice': 'a point or a vector at face X would not be whole; of a Boolean, a notch, a pad, a strip or a chamfer: all must be X times as large, or more where X is 0',
-    'Meets': 'what is made at face X would meet or touch the solid elsewhere; of a cut or a Boolean: solid X would touch itself',
+    'OffLattice': 'a point would not be whole',
+    'Meets': 'what is made at face X would meet the solid elsewhere',
     'NoOpposite': 'there is no face behind the outline in face X',
     'NotParallel': "face X, behind the outline, isn't parallel",
     'NotOfFace': 'edge X is none of the face',
@@ -150,7 +150,44 @@ MISFITS: Dict[str, str] = {
     'NotAcross': "face X doesn't lie across an axis",
     'NoContact': 'no longer said: solids may lie apart in a union',
     'Overlap': 'no longer said: solids may have room in common in a union',
-    'NoCorner': "the slopes of edges that end at vertex X don't meet in one point, or more than three edges end there",
-    'NotAlike': 'edge X is of another solid than the first, or bends the other way',
-    'NotClosed': "a side of the X-th face hasn't one side, of one face, that runs the other way",
+    'NoCorner': "the slopes of edges that end at vertex X don't meet in one point",
+    'NotAlike': "edge X isn't like the first one",
+    'NotClosed': 'a side of faces[X] has none in another face that runs the other way',
+}
+
+# The names and texts of their causes, in which Y stands for the number of what was met.
+CAUSES: Dict[int, Tuple[str, str]] = {
+    1: ('EdgeCrossed', 'the outline crosses edge Y of face X'),
+    2: ('EdgeTouched', 'the outline touches edge Y of face X between its ends'),
+    3: ('VertexTouched', 'the outline touches vertex Y of face X'),
+    4: ('RingMet', 'the outline meets loop Y, a ring of face X'),
+    5: ('WhollyOutside', 'the outline lies outside face X'),
+    6: ('TouchesFace', 'what is made at face X would touch face Y'),
+    7: ('ComesThrough', 'what is made at face X would come through face Y'),
+    8: ('TouchesItself', 'solid X would touch itself'),
+    9: ('NoScale', 'what is made is whole at no scale, since a length in it is irrational'),
+    10: ('DepthFraction', 'the vector of this depth would not be whole: all must be Y times as large'),
+    11: ('PointFraction', 'a point at face X would not be whole: all must be Y times as large'),
+    12: ('CornerFraction', 'a corner of what is made would not be whole: all must be Y times as large'),
+    13: ('PointsInLine', 'all points of the outline lie in one line'),
+    14: ('AreasCancel', 'the outline crosses itself, and its parts have equal areas'),
+    15: ('OffFace', 'points[X] lies off the plane of face Y'),
+    16: ('OffOthers', 'points[X] lies off the plane of the points before it'),
+    17: ('SideTwice', 'faces[X] and faces[Y] have a side that runs the same way in both: turn one of them'),
+    18: ('SideOpen', 'a side of faces[X] has no face beyond it'),
+}
+
+# What would do in the place of a feature, by the cause.
+ADVICE: Dict[str, str] = {
+    'EdgeCrossed': 'subtract(solid, [tool]) cuts across edges',
+    'EdgeTouched': 'notch(face, points, depth) takes outlines that reach the edges',
+    'VertexTouched': 'notch(face, points, depth) takes outlines that reach the edges',
+    'RingMet': 'subtract(solid, [tool]) cuts across holes',
+    'TouchesFace': 'a smaller depth leaves room',
+    'ComesThrough': 'hole(face, points) goes through to the far side',
+    'NoScale': 'along=vector in place of the depth takes any vector that leaves the face',
+    'DepthFraction': 'refine(Y) makes the step as fine as that',
+    'PointFraction': 'refine(Y) makes the step as fine as that',
+    'CornerFraction': 'refine(Y) makes the step as fine as that',
+    'AreasCancel': 'its points in their order round the outline',
 }

@@ -24,6 +24,7 @@ PlaneRow, Motion = _struct(numbers=Wide * 4, flat=WORD), _struct(axes=ctypes.c_i
 CutPlane, Ratio = _struct(a=LENGTH, b=LENGTH, c=LENGTH, d=LENGTH), _struct(numerator=ctypes.c_uint64, denominator=ctypes.c_uint64)
 
 _WORDS, _ROWS, _POINT, _PLANE, _RATIO, _MOTION, _PAIR = map(ctypes.POINTER, (WORD, LENGTH, Point, CutPlane, Ratio, Motion, Pair))
+HitRow = _struct(cause=WORD, kind=WORD, number=WORD, point=Wide * 3, scale=Wide)
 FaceQuery = _struct(solid=WORD, plane=_PLANE, normal=_POINT, containing=_POINT, area=_RATIO)
 EdgeQuery = _struct(solid=WORD, between=WORD * 2, along=_POINT, length=_RATIO)
 _TEXT, _HANDLE, _REFUSAL, _SIZES = ctypes.c_char_p, *map(ctypes.POINTER, (Handle, Refusal, SIZE))
@@ -38,7 +39,7 @@ _CALLS: Dict[str, Tuple[Any, List[Any]]] = {
     **dict.fromkeys(('draft', 'commit', 'abandon', 'record'), (WORD, [])), 'back': (WORD, [SIZE]), 'recorded': (SIZE, []),
     'script': (SIZE, [SIZE, SIZE, _TEXT, SIZE]), 'greatest_number': (SIZE, [WORD]), 'stop_by': (None, [ADDRESS, ADDRESS]),
     'read_vertices': (SIZE, [ADDRESS, SIZE]), **dict.fromkeys(('read_half_edges', 'read_triangles'), (SIZE, [WORD, ADDRESS, SIZE])),
-    'made': (SIZE, [WORD, _WORDS, SIZE])}
+    'made': (SIZE, [WORD, _WORDS, SIZE]), 'hit': (ctypes.c_bool, [ctypes.POINTER(HitRow)])}
 # What a command takes after the handle, as its line has it: numbers, then lengths; a half-edge twice its edge's number, and 1 more for its second one.
 _COMMANDS: Dict[str, List[Any]] = {
     **{word: [WORD] * words + [LENGTH] * lengths for words, lengths, listed in (
@@ -77,6 +78,11 @@ def rows(points: Sequence[Vector]) -> Any:
 def words(numbers: Sequence[int]) -> Any:
     """Numbers alike."""
     return (WORD * len(numbers))(*numbers)
+
+
+def whole(number: Any) -> int:
+    """A number of 128 bits."""
+    return int(number.high) << 64 | int(number.low)
 
 
 def ratio(value: Fraction) -> Any:

@@ -1,6 +1,7 @@
 """The session of the library, the notes on its commands, the drafts and groups that are open in it, features, and the numbers of new things."""
 
 import os
+import re
 from fractions import Fraction
 from threading import Condition
 from typing import Any, Callable, Dict, Iterable, Iterator, List, Optional, Sequence, Tuple, TypeVar, Union
@@ -17,9 +18,9 @@ from ..protocol.advice import advice
 from ..protocol.complaints import complaint, memory_refused, refused
 from ..protocol.language import NUMBERS, first_word, refusal, with_value
 from ..protocol.listing import listing_lines
-from ..protocol.refusals import MISFITS
+from ..protocol.refusals import ADVICE, CAUSES, MISFITS
 from ..protocol.replies import Reply
-from .c_calls import ADDRESS, IMPOSSIBLE, MEMORY, NO_CALL, OK, REFUSED, SIZE, WORD, CutPlane, Pair, Refusal, rows
+from .c_calls import ADDRESS, IMPOSSIBLE, MEMORY, NO_CALL, OK, REFUSED, SIZE, WORD, CutPlane, HitRow, Pair, Refusal, rows, whole
 from .lengths import Lengths
 from .library import Library, filled
 from .notes import Notes
@@ -36,6 +37,8 @@ _FREEING = ('kvfs', 'kev', 'kef', 'kemr', 'mekr', 'kfmrh', 'glue', 'undo', 'redo
 _CUTS = ('cut', 'trim')
 # The ways of `ringmv` by the numbers that its call takes, where lone corners begin, and what stands for a word that no call takes.
 _WAYS, _LONE, _NO_CODE = ('in', 'out'), 2 ** 31, -2 ** 64
+# What may have been met, by the numbers of their kinds.
+THINGS = ('solid', 'face', 'loop', 'edge', 'vertex')
 
 
 # The sessions of this process.
@@ -269,7 +272,7 @@ class Kernel:
         finally:
             self.lines.library.advice_free(advice)
         # (0 where it is too great to be said: out of range in any case)
-        return (factor.high << 64 | factor.low) or 2 ** 62
+        return whole(factor) or 2 ** 62
 
     def made(self, which: int) -> Numbers:
         """A list of what the last feature made."""
@@ -283,8 +286,7 @@ class Kernel:
     def _complaint(self, word: str, said: int, why: Any) -> CompanionError:
         """The error of an answer, as it is said of a feature."""
         if said == IMPOSSIBLE:
-            name = self.lines.library.misfit_name(why.number).decode()
-            return Impossible(name, why.value, with_value(MISFITS[name], why.value))
+            return self._impossible(word, self.lines.library.misfit_name(why.number).decode(), why.value)
         if said == MEMORY:
             return memory_refused(word)
         if said != REFUSED:
@@ -296,6 +298,24 @@ class Kernel:
             model = self.lines.model([why.value])
             text = (why_unfit(model, why.value) if model.faces else None) or ('' if why.value else "a slope wouldn't be flat")
         return refused(word, why.number, why.value, text)
+
+    def _impossible(self, word: str, name: str, value: int) -> Impossible:
+        """The error of a feature that isn't possible, by what it met."""
+        hit = HitRow()
+        self.lines.library.hit(self.lines.handle, hit)
+        cause, text = CAUSES.get(hit.cause, ('', MISFITS[name]))
+        if re.search(r'\bY\b', text) and not hit.number:    # (a factor past what can be said)
+            text = MISFITS[name]
+        error = Impossible(name, value, with_value(text, value, hit.number))
+        error.cause, told = cause, ADVICE.get(cause, '')
+        if told and f'{word}(' not in told:
+            error.advised(lambda: [with_value(told, value, hit.number)])
+        if hit.number and hit.kind < len(THINGS):
+            error.hit = THINGS[hit.kind], hit.number
+        if scale := whole(hit.scale):
+            x, y, z = (self.lengths.out(Fraction(whole(part), scale)) for part in hit.point)
+            error.point = (x, y, z)
+        return error
 
 
 def _leave_threads() -> None:

@@ -14,7 +14,7 @@ from ..protocol.complaints import complaint, memory_refused
 from ..protocol.language import command_bytes, first_word
 from ..protocol.replies import ACCEPTED, Reply, only_reply
 from ..version import VERSION
-from .c_calls import ADDRESS, FOUND, OK, PLANE, PROTOTYPES, SIZE, WORD, EdgeRow, FaceRow, Handle, Pair, PlaneRow, Point, Refusal
+from .c_calls import ADDRESS, FOUND, OK, PLANE, PROTOTYPES, SIZE, WORD, EdgeRow, FaceRow, Handle, Pair, PlaneRow, Point, Refusal, whole
 
 _NO_TEXT = SIZE(-1).value
 _PLACES = {kind: place for place, kind in enumerate(KINDS)}
@@ -243,7 +243,7 @@ class Library:
         self.require_open()
         if self.library.plane(self.handle, face, row, Refusal()) != PLANE:
             return None
-        a, b, c, _ = (number.high << 64 | number.low for number in row.numbers)
+        a, b, c, _ = map(whole, row.numbers)
         return (a, b, c)
 
     def loop(self, loop: int) -> Optional[Loop]:

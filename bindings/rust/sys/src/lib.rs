@@ -223,6 +223,8 @@ rows! {
     EdgeCut { edge: u32, numerators: [Wide; 3], denominators: [Wide; 3] }
     /// What a feature of an outline makes.
     OutlineMade { face: u32, of_loop: u32 }
+    /// What a feature met that was refused or isn't possible.
+    HitRow { cause: u32, kind: u32, number: u32, point: [Wide; 3], scale: Wide }
     /// A vertex, and where it lies.
     VertexRow { vertex: u32, point: Point }
     /// A face or an edge that is new or gone, and the one that it was split from, or joined to.
@@ -413,6 +415,7 @@ extern "C" {
     pub fn gwb_advice_text(advice: *const Advice, above: u32, buf: *mut u8, room: usize) -> usize;
 
     pub fn gwb_made(g: *const Gwb, list: u32, buf: *mut u32, room: usize) -> usize;
+    pub fn gwb_hit(g: *const Gwb, hit: *mut HitRow) -> bool;
     pub fn gwb_kill_solid(g: *mut Gwb, solid: u32, why: *mut Refusal) -> u32;
     pub fn gwb_copy_solid(g: *mut Gwb, solid: u32, motion: *const Motion, made: *mut u32, why: *mut Refusal) -> u32;
     pub fn gwb_move_solid(g: *mut Gwb, solid: u32, motion: *const Motion, why: *mut Refusal) -> u32;
