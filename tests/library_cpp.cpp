@@ -190,7 +190,7 @@ static void try_what_is_said()
     } catch (const Refused &refused) {
         check(refused.number() == 12 && refused.value() == 1 && std::string("NotBare") == refused.name(), "what a refusal has");
         check(std::string("kvfs: NotBare 1") == refused.what() && refused.why() == GWB_WHY_NOT_BARE, "what a refusal says");
-        check(std::string("solid X has more than one face, a ring or an edge") == refused.text() && *gwb_why_text(99) == '\0', "its text");
+        check(std::string("solid X has more than a vertex") == refused.text() && *gwb_why_text(99) == '\0', "its text");
     }
     try {
         bench.run(std::string(200, 'x'));

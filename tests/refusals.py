@@ -96,14 +96,16 @@ def python_text(table: Table) -> str:
     def rows(pairs: Dict[object, object]) -> str:
         return ''.join(f'    {key!r}: {value!r},\n' for key, value in pairs.items())
 
-    otherwise = {(key[len('text of '):], block.number): text for block in table.conditions for key, text in block.said.items() if key.startswith('text of ')}
+    otherwise = {(key[len('text of '):], block.name): text for block in [*table.conditions, *table.faults] for key, text in block.said.items()
+                 if key.startswith('text of ')}
     parts = (('NAMES: Dict[int, str]', 'The conditions of commands.', names_of(table.conditions)),
              ('TEXTS: Dict[int, str]', 'What they say, in which X stands for the value.', {block.number: block.text for block in table.conditions}),
-             ('OTHERWISE: Dict[Tuple[str, int], str]', "Where a command, a feature or the value '0' says it otherwise.", otherwise),
+             ('OTHERWISE: Dict[Tuple[str, str], str]', "Where a command, a feature or the value '0' says it otherwise.", otherwise),
              ('REMEDIES: Dict[int, str]', 'What would do, as far as that can be said without the model.',
               {block.number: block.said['shell'] for block in table.conditions if 'shell' in block.said}),
              ('FAULTS: Dict[int, Tuple[str, str]]', 'The names and texts of faults.', {block.number: (block.name, block.text) for block in table.faults}),
-             ('MISFITS: Dict[str, str]', "Why features aren't possible.", {block.name: block.said.get('text of python', block.text) for block in table.misfits}),
+             ('MISFITS: Dict[str, str]', "Why features aren't possible.",
+              {block.name: block.said.get('text of python', block.text) for block in table.misfits}),
              ('CAUSES: Dict[int, Tuple[str, str]]', 'The names and texts of their causes, in which Y stands for the number of what was met.',
               {block.number: (block.name, block.said.get('text of python', block.text)) for block in table.causes}),
              ('ADVICE: Dict[str, str]', 'What would do in the place of a feature, by the cause.',

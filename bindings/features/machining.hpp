@@ -319,7 +319,10 @@ inline gwb_hit_row met_by(const Surface &surface, Face face, const Path &path, c
 {
     const Plane *plane = surface.plane(face);
     const auto lies = [&](const Vector &at, int side) { return plane == nullptr || sign(plane->height(at)) == side; };
-    const auto some = [&](int side) { return any(path, [&](const Vector &at) { return lies(at, side); }) || any(far, [&](const Vector &at) { return lies(at, side); }); };
+    const auto some = [&](int side) {
+        const auto is_there = [&](const Vector &at) { return lies(at, side); };
+        return any(path, is_there) || any(far, is_there);
+    };
     return met(some(-1) && some(1) ? GWB_CAUSE_COMES_THROUGH : GWB_CAUSE_TOUCHES_FACE, face);
 }
 

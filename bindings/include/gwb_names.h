@@ -6,7 +6,7 @@
 /** The number of a refusal: the first condition that is false. X is the value that goes with it. Some commands give it a meaning of their
  * own (docs/SCRIPT.md). */
 enum gwb_why {
-    /** the number X is outside 1 to 1,000,000 */
+    /** the number X is above 1,000,000 */
     GWB_WHY_NUMBER_RANGE = 1,
     /** there is no solid X */
     GWB_WHY_NO_SOLID = 2,
@@ -28,7 +28,7 @@ enum gwb_why {
     GWB_WHY_VERTEX_TAKEN = 10,
     /** vertex X would lie past 1,000,000,000 */
     GWB_WHY_POINT_RANGE = 11,
-    /** solid X has more than one face, a ring or an edge */
+    /** solid X has more than a vertex */
     GWB_WHY_NOT_BARE = 12,
     /** loop X has edges, so a corner in it is named by a half-edge */
     GWB_WHY_NOT_LONE = 13,
@@ -76,15 +76,15 @@ enum gwb_why {
     GWB_WHY_NO_MATCH = 34,
     /** coefficient X is out of range */
     GWB_WHY_PLANE_RANGE = 35,
-    /** solid X has no vertex above the plane, or none below */
+    /** solid X lies on one side of the plane */
     GWB_WHY_PLANE_MISSES = 36,
     /** the plane cuts edge X between whole coordinates */
     GWB_WHY_NOT_LATTICE = 37,
-    /** the plane cuts face X and also touches it at a corner or along an edge */
+    /** the plane cuts face X and also touches its boundary */
     GWB_WHY_TOUCHED_FACE = 38,
-    /** the plane cuts face X but not its outer loop, or not one of its rings where there are more than two cuts */
+    /** the plane cuts face X and misses one of its loops */
     GWB_WHY_CUT_OFTEN = 39,
-    /** the cuts of face X don't pair up, or can't be drawn one after another */
+    /** the cuts of face X can't be drawn one after another */
     GWB_WHY_CUT_CROSSED = 40,
     /** more than two edges of the cut meet at vertex X */
     GWB_WHY_BRANCHED_VERTEX = 41,
@@ -164,7 +164,7 @@ enum gwb_cause {
     GWB_CAUSE_NO_SCALE = 9,
     /** the vector of this depth would not be whole: all must be Y times as large */
     GWB_CAUSE_DEPTH_FRACTION = 10,
-    /** a point at face X would not be whole: all must be Y times as large */
+    /** a point would not be whole: all must be Y times as large */
     GWB_CAUSE_POINT_FRACTION = 11,
     /** a corner of what is made would not be whole: all must be Y times as large */
     GWB_CAUSE_CORNER_FRACTION = 12,
@@ -238,7 +238,7 @@ static inline const char *gwb_why_name(uint32_t number)
 static inline const char *gwb_why_text(uint32_t number)
 {
     switch (number) {
-    case GWB_WHY_NUMBER_RANGE: return "the number X is outside 1 to 1,000,000";
+    case GWB_WHY_NUMBER_RANGE: return "the number X is above 1,000,000";
     case GWB_WHY_NO_SOLID: return "there is no solid X";
     case GWB_WHY_NO_FACE: return "there is no face X";
     case GWB_WHY_NO_LOOP: return "there is no loop X";
@@ -249,7 +249,7 @@ static inline const char *gwb_why_text(uint32_t number)
     case GWB_WHY_EDGE_TAKEN: return "edge X is in use";
     case GWB_WHY_VERTEX_TAKEN: return "vertex X is in use";
     case GWB_WHY_POINT_RANGE: return "vertex X would lie past 1,000,000,000";
-    case GWB_WHY_NOT_BARE: return "solid X has more than one face, a ring or an edge";
+    case GWB_WHY_NOT_BARE: return "solid X has more than a vertex";
     case GWB_WHY_NOT_LONE: return "loop X has edges, so a corner in it is named by a half-edge";
     case GWB_WHY_DIFFERENT_TAILS: return "the second corner is at vertex X, the first one at another";
     case GWB_WHY_PARALLEL_EDGE: return "edge X has the same two ends";
@@ -273,11 +273,11 @@ static inline const char *gwb_why_text(uint32_t number)
     case GWB_WHY_REPEATED_POINT: return "two corners of face X lie at one point";
     case GWB_WHY_NO_MATCH: return "the points of face X, read backwards, aren't those of the first face";
     case GWB_WHY_PLANE_RANGE: return "coefficient X is out of range";
-    case GWB_WHY_PLANE_MISSES: return "solid X has no vertex above the plane, or none below";
+    case GWB_WHY_PLANE_MISSES: return "solid X lies on one side of the plane";
     case GWB_WHY_NOT_LATTICE: return "the plane cuts edge X between whole coordinates";
-    case GWB_WHY_TOUCHED_FACE: return "the plane cuts face X and also touches it at a corner or along an edge";
-    case GWB_WHY_CUT_OFTEN: return "the plane cuts face X but not its outer loop, or not one of its rings where there are more than two cuts";
-    case GWB_WHY_CUT_CROSSED: return "the cuts of face X don't pair up, or can't be drawn one after another";
+    case GWB_WHY_TOUCHED_FACE: return "the plane cuts face X and also touches its boundary";
+    case GWB_WHY_CUT_OFTEN: return "the plane cuts face X and misses one of its loops";
+    case GWB_WHY_CUT_CROSSED: return "the cuts of face X can't be drawn one after another";
     case GWB_WHY_BRANCHED_VERTEX: return "more than two edges of the cut meet at vertex X";
     case GWB_WHY_SECTION_HOLES: return "the cut of solid X has a hole, and not exactly one outline around it";
     case GWB_WHY_SIZE_RANGE: return "size X is below 1";
@@ -355,7 +355,7 @@ static inline const char *gwb_cause_text(uint32_t number)
     case GWB_CAUSE_TOUCHES_ITSELF: return "solid X would touch itself";
     case GWB_CAUSE_NO_SCALE: return "what is made is whole at no scale, since a length in it is irrational";
     case GWB_CAUSE_DEPTH_FRACTION: return "the vector of this depth would not be whole: all must be Y times as large";
-    case GWB_CAUSE_POINT_FRACTION: return "a point at face X would not be whole: all must be Y times as large";
+    case GWB_CAUSE_POINT_FRACTION: return "a point would not be whole: all must be Y times as large";
     case GWB_CAUSE_CORNER_FRACTION: return "a corner of what is made would not be whole: all must be Y times as large";
     case GWB_CAUSE_POINTS_IN_LINE: return "all points of the outline lie in one line";
     case GWB_CAUSE_AREAS_CANCEL: return "the outline crosses itself, and its parts have equal areas";

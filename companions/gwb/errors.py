@@ -59,6 +59,8 @@ class NotOne(CompanionError, LookupError):
 class Complaint(CompanionError):
     """A command that wasn't accepted; nothing has changed. Its text goes on with its advice."""
 
+    # The line of a script that it is about, or the name of the feature.
+    line = ''
     _advise: Optional[Callable[[], Sequence[str]]] = None
     _advice: Tuple[str, ...] = ()
 

@@ -39,7 +39,7 @@ class Complaints(unittest.TestCase):
 
     def test_a_fault(self):
         self.assertEqual(explained(b'kev\n', b'fault 3\n')[0],
-                         "s:1: kev: fault 3: MissingWord: a word is missing, or the numbers of a lamina's points don't come in threes")
+                         's:1: kev: fault 3: MissingWord: a word is missing')
 
     def test_memory(self):
         self.assertIn('may be given again', explained(b'undo\n', b'memory\n')[0])

@@ -240,7 +240,7 @@ class Things(unittest.TestCase):
             self.assertRaisesRegex(ValueError, '^(solid|between): 0 is below 1$', call)
 
     def test_a_row_of_more_solids_than_there_are_numbers(self):
-        self.assertRaisesRegex(Refused, '^pattern: refused 27 1: NumbersSpent: ', self.bench.pattern, 1, 10 ** 9, (0, 0, 60))
+        self.assertRaisesRegex(Refused, '^NumbersSpent: ', self.bench.pattern, 1, 10 ** 9, (0, 0, 60))
 
     def test_a_point_as_any_sequence_has_it(self):
         class Point:

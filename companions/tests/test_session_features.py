@@ -196,18 +196,18 @@ class Refusals(unittest.TestCase):
         lone = self.bench.kemr(self.bench.mev(start, start, (204, 4, 9)).edge)
         outline, up = [(0, 0, 0), (1, 0, 0), (0, 1, 0)], (0, 0, 1)
         for give, number, value, text in (
-                (lambda: self.bench.glue_all([one, other]), 30, lone, f'glue_all: refused 30 {lone}: LoneLoop: loop {lone} is a vertex without an edge'),
-                (lambda: self.bench.profile(outline[:2], along=up), 28, 2, 'profile: refused 28 2: FewPoints: there are 2 points, and 3 are needed'),
-                (lambda: self.bench.ring(one.bottom, [*outline, outline[1]]), 33, 4, 'ring: refused 33 4: RepeatedPoint: point 4 is there twice'),
-                (lambda: self.bench.pocket(one.bottom, outline[:1], 2), 28, 1, 'pocket: refused 28 1: FewPoints: there are 1 points, and 3 are needed'),
-                (lambda: self.bench.boss(one.top, outline, 1), 32, one.top, f'boss: refused 32 {one.top}: NotFlat: face {one.top} has the lone loop {lone}'),
+                (lambda: self.bench.glue_all([one, other]), 30, lone, f'LoneLoop: loop {lone} is a vertex without an edge'),
+                (lambda: self.bench.profile(outline[:2], along=up), 28, 2, 'FewPoints: there are 2 points, and 3 are needed'),
+                (lambda: self.bench.ring(one.bottom, [*outline, outline[1]]), 33, 4, 'RepeatedPoint: points[3] is there twice'),
+                (lambda: self.bench.pocket(one.bottom, outline[:1], 2), 28, 1, 'FewPoints: there are 1 points, and 3 are needed'),
+                (lambda: self.bench.boss(one.top, outline, 1), 32, one.top, f'NotFlat: face {one.top} has the lone loop {lone}'),
                 (lambda: self.bench.boss(other.top, [(210, 2, 9), (212, 2, 9), (210, 4, 9)], 10 ** 9), 11, 0,
-                 'boss: refused 11 0: PointRange: a point would lie past 1,000,000,000'),
+                 'PointRange: a point would lie past 1,000,000,000'),
                 (lambda: self.bench.copy(self.block, mirror=(1, 2, 0, 5 * 10 ** 9)), 11, 1,
-                 'copy_solid: refused 11 1: PointRange: vertex 1 would lie at -2000000000 -4000000000 0, past 1,000,000,000'),
-                (lambda: self.bench.sketch(one.top), 32, one.top, f'sketch: refused 32 {one.top}: NotFlat: face {one.top} has the lone loop {lone}'),
+                 'PointRange: vertex 1 would lie at -2000000000 -4000000000 0, past 1,000,000,000'),
+                (lambda: self.bench.sketch(one.top), 32, one.top, f'NotFlat: face {one.top} has the lone loop {lone}'),
                 (lambda: self.bench.profile(outline, along=up, solid=2_000_000), 1, 2_000_000,
-                 'profile: refused 1 2000000: NumberRange: the number 2000000 is outside 1 to 1,000,000')):
+                 'NumberRange: the number 2000000 is above 1,000,000')):
             with self.subTest(text), self.assertRaises(Refused) as caught:
                 give()
             refusal = caught.exception
@@ -411,9 +411,9 @@ class Scripts(unittest.TestCase):
     def test_what_is_wrong_in_a_file_is_named_with_its_line(self):
         with tempfile.TemporaryDirectory() as folder:
             for name, text, words in (
-                    ('part.gwb', 'block 1 0 0 0 1 1 1\n\n# note\nkvfs 1\n', r'part.gwb, line 4: kvfs 1: refused 12 1: NotBare: .*edge$'),
-                    ('part.gwb', '# draft of 2 commands\nmvfs 1 1 1 1 0 0 0\nkvfs x\n', r'part.gwb, line 3: kvfs x: fault 2'),
-                    ('part.gwb', '# draft of 2 commands\nblock 1 0 0 0 1 1 1\nsweep 9 0 0 1\n', r'part.gwb, line 3: sweep .*: refused 3 9'),
+                    ('part.gwb', 'block 1 0 0 0 1 1 1\n\n# note\nkvfs 1\n', r'part.gwb, line 4: NotBare: solid 1 has more than a vertex$'),
+                    ('part.gwb', '# draft of 2 commands\nmvfs 1 1 1 1 0 0 0\nkvfs x\n', r'part.gwb, line 3: BadNumber: '),
+                    ('part.gwb', '# draft of 2 commands\nblock 1 0 0 0 1 1 1\nsweep 9 0 0 1\n', r'part.gwb, line 3: NoFace: there is no face 9'),
                     ('part.gwb', '# draft of 1 commands\nundo\n', r'part.gwb, line 2: undo: a draft is open'),
                     ('replies', 'solid 1\nface 1 1 1\n', r'replies: ')):
                 Path(folder, name).write_text(text)

@@ -150,7 +150,7 @@ class Steps(unittest.TestCase):
         self.assertEqual([(step.line, step.reply) for step in steps], [
             ('block 1 0 0 0 4 4 4', 'ok'),
             ('block 1 0 0 0 4 4 4', 'refused 6 1: SolidTaken: solid 1 is in use'),
-            ('hello', 'fault 1: BadWord: the command word, or the `in` or `out` of ringmv, is none that gwb knows'),
+            ('hello', 'fault 1: BadWord: no command is called `hello`'),
             ('list', 'a listing of 33 lines')])
         self.assertEqual([step.is_complaint for step in steps], [False, True, True, False])
 

@@ -7,7 +7,7 @@ from typing import Iterable, Iterator, List, NamedTuple, Optional, Sequence
 from ..errors import CompanionError, NotAListing, NotReplies
 from ..geometry.model import Model
 from ..protocol.advice import advice
-from ..protocol.language import FAULTS, first_word, is_answered, refusal
+from ..protocol.language import fault, first_word, is_answered, refusal
 from ..protocol.listing import model_of
 from ..protocol.replies import Reply, shortened, split_replies
 from .command_line import FOUND, OK, add_version, read_bytes, run
@@ -67,7 +67,7 @@ def meaning(word: str, reply: Reply) -> str:
         number, value = reply.numbers
         return str(refusal(number, value, word))
     if reply.word == 'fault':
-        return str(FAULTS[reply.numbers[0]])
+        return str(fault(reply.numbers[0], word))
     return 'memory was refused; the same command may be given again'
 
 

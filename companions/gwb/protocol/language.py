@@ -14,6 +14,8 @@ COMMANDS = ('mvfs', 'kvfs', 'mev', 'kev', 'mef', 'kef', 'kemr', 'mekr', 'kfmrh',
             'split', 'plane', 'volume', 'count', 'undo', 'redo', 'list')
 
 _BLANKS = b' \t\r'
+# So many letters of a word that is no command are told.
+_LONGEST_WORD = 20
 # So many bytes of a line tell what a file is.
 _TELLING = 1000
 
@@ -47,8 +49,16 @@ def refusal(number: int, value: int, command: str = '') -> Meaning:
     """What `refused number value` says as the reply to a command with this first word, or of a `feature`."""
     if number not in NAMES:
         return Meaning(f'refusal {number}', f'unknown to these programs, with the value {value}')
-    text = OTHERWISE.get((command, number)) or OTHERWISE.get((str(value), number)) or TEXTS[number]
-    return Meaning(NAMES[number], with_value(text, value))
+    name = NAMES[number]
+    text = OTHERWISE.get((command, name)) or OTHERWISE.get((str(value), name)) or TEXTS[number]
+    return Meaning(name, with_value(text, value))
+
+
+def fault(number: int, line: str) -> Meaning:
+    """What `fault number` says as the reply to a line."""
+    word = first_word(line.encode('utf-8', 'backslashreplace'))
+    name, text = refusals.FAULTS[number]
+    return Meaning(name, OTHERWISE.get((word, name), text).replace('`X`', f'`{word[:_LONGEST_WORD]}`'))
 
 
 def is_answered(line: bytes) -> bool:

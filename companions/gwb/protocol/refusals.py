@@ -52,7 +52,7 @@ NAMES: Dict[int, str] = {
 
 # What they say, in which X stands for the value.
 TEXTS: Dict[int, str] = {
-    1: 'the number X is outside 1 to 1,000,000',
+    1: 'the number X is above 1,000,000',
     2: 'there is no solid X',
     3: 'there is no face X',
     4: 'there is no loop X',
@@ -63,7 +63,7 @@ TEXTS: Dict[int, str] = {
     9: 'edge X is in use',
     10: 'vertex X is in use',
     11: 'vertex X would lie past 1,000,000,000',
-    12: 'solid X has more than one face, a ring or an edge',
+    12: 'solid X has more than a vertex',
     13: 'loop X has edges, so a corner in it is named by a half-edge',
     14: 'the second corner is at vertex X, the first one at another',
     15: 'edge X has the same two ends',
@@ -87,11 +87,11 @@ TEXTS: Dict[int, str] = {
     33: 'two corners of face X lie at one point',
     34: "the points of face X, read backwards, aren't those of the first face",
     35: 'coefficient X is out of range',
-    36: 'solid X has no vertex above the plane, or none below',
+    36: 'solid X lies on one side of the plane',
     37: 'the plane cuts edge X between whole coordinates',
-    38: 'the plane cuts face X and also touches it at a corner or along an edge',
-    39: 'the plane cuts face X but not its outer loop, or not one of its rings where there are more than two cuts',
-    40: "the cuts of face X don't pair up, or can't be drawn one after another",
+    38: 'the plane cuts face X and also touches its boundary',
+    39: 'the plane cuts face X and misses one of its loops',
+    40: "the cuts of face X can't be drawn one after another",
     41: 'more than two edges of the cut meet at vertex X',
     42: 'the cut of solid X has a hole, and not exactly one outline around it',
     43: 'size X is below 1',
@@ -99,19 +99,22 @@ TEXTS: Dict[int, str] = {
 }
 
 # Where a command, a feature or the value '0' says it otherwise.
-OTHERWISE: Dict[Tuple[str, int], str] = {
-    ('lamina', 11): 'point X lies past 1,000,000,000',
-    ('block', 11): 'corner X lies past 1,000,000,000 (1: the point, 2: the one opposite)',
-    ('sweep', 11): 'vertex X would move past 1,000,000,000',
-    ('feature', 11): 'a point would lie past 1,000,000,000',
-    ('kemr', 17): 'the other side of the edge stands in loop X',
-    ('kef', 19): 'both sides of the edge are face X',
-    ('ringmv', 19): 'the loop is a ring of face X already',
-    ('ringmv', 24): 'the face is of solid X, the loop of another',
-    ('feature', 27): 'too few numbers above all that are in use are left',
-    ('lamina', 33): 'point X is there twice',
-    ('feature', 33): 'point X is there twice',
-    ('0', 35): 'a, b and c are all zero',
+OTHERWISE: Dict[Tuple[str, str], str] = {
+    ('0', 'NumberRange'): 'numbers begin at 1',
+    ('lamina', 'PointRange'): 'point X lies past 1,000,000,000',
+    ('block', 'PointRange'): 'corner X lies past 1,000,000,000 (1: the point, 2: the one opposite)',
+    ('sweep', 'PointRange'): 'vertex X would move past 1,000,000,000',
+    ('feature', 'PointRange'): 'a point would lie past 1,000,000,000',
+    ('kemr', 'DifferentLoops'): 'the other side of the edge stands in loop X',
+    ('kef', 'SameFace'): 'both sides of the edge are face X',
+    ('ringmv', 'SameFace'): 'the loop is a ring of face X already',
+    ('ringmv', 'DifferentSolids'): 'the face is of solid X, the loop of another',
+    ('feature', 'NumbersSpent'): 'too few numbers above all that are in use are left',
+    ('lamina', 'RepeatedPoint'): 'point X is there twice',
+    ('feature', 'RepeatedPoint'): 'points[X] is there twice',
+    ('0', 'PlaneRange'): 'a, b and c are all zero',
+    ('ringmv', 'BadWord'): 'the third word of ringmv is neither `in` nor `out`',
+    ('lamina', 'MissingWord'): 'a lamina takes a solid, and three numbers for each point',
 }
 
 # What would do, as far as that can be said without the model.
@@ -122,9 +125,9 @@ REMEDIES: Dict[int, str] = {
 
 # The names and texts of faults.
 FAULTS: Dict[int, Tuple[str, str]] = {
-    1: ('BadWord', 'the command word, or the `in` or `out` of ringmv, is none that gwb knows'),
+    1: ('BadWord', 'no command is called `X`'),
     2: ('BadNumber', "a word can't be read as what stands at its place"),
-    3: ('MissingWord', "a word is missing, or the numbers of a lamina's points don't come in threes"),
+    3: ('MissingWord', 'a word is missing'),
     4: ('ExtraWord', 'a word is left over'),
     5: ('NotAscii', 'the line has a byte above 127'),
     6: ('LongLine', 'the line has more than 65,536 bytes'),
@@ -167,7 +170,7 @@ CAUSES: Dict[int, Tuple[str, str]] = {
     8: ('TouchesItself', 'solid X would touch itself'),
     9: ('NoScale', 'what is made is whole at no scale, since a length in it is irrational'),
     10: ('DepthFraction', 'the vector of this depth would not be whole: all must be Y times as large'),
-    11: ('PointFraction', 'a point at face X would not be whole: all must be Y times as large'),
+    11: ('PointFraction', 'a point would not be whole: all must be Y times as large'),
     12: ('CornerFraction', 'a corner of what is made would not be whole: all must be Y times as large'),
     13: ('PointsInLine', 'all points of the outline lie in one line'),
     14: ('AreasCancel', 'the outline crosses itself, and its parts have equal areas'),
@@ -185,7 +188,6 @@ ADVICE: Dict[str, str] = {
     'RingMet': 'subtract(solid, [tool]) cuts across holes',
     'TouchesFace': 'a smaller depth leaves room',
     'ComesThrough': 'hole(face, points) goes through to the far side',
-    'NoScale': 'along=vector in place of the depth takes any vector that leaves the face',
     'DepthFraction': 'refine(Y) makes the step as fine as that',
     'PointFraction': 'refine(Y) makes the step as fine as that',
     'CornerFraction': 'refine(Y) makes the step as fine as that',

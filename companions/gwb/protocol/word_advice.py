@@ -26,6 +26,26 @@ _ELSEWHERE: Dict[str, str] = {
     **dict.fromkeys(('import', 'open', 'load'), 'gwb-import writes the script that makes the solids of a file'),
     **dict.fromkeys(('help', 'quit', 'exit', 'explain'), 'gwb-shell has it'),
 }
+# Names that other programs have for methods, and what does it in Python.
+_FLAT = 'all faces are flat'
+IN_PYTHON: Dict[str, str] = {
+    **dict.fromkeys(('cube', 'box'), 'block(point, sizes) makes one'),
+    **dict.fromkeys(('extrude', 'linear_extrude', 'pad'), 'profile(points, along=vector) makes a solid of an outline, boss() raises one from a face, sweep() moves a face'),
+    **dict.fromkeys(('fillet', 'round'), f'{_FLAT}; chamfer(edge, width) and chamfer_edges() cut edges'),
+    **dict.fromkeys(('cylinder', 'circle', 'rod'), f'{_FLAT}; sketch(face).polygon() has the corners of a circle for boss() and pocket(), and drill() makes a hole'),
+    **dict.fromkeys(('sphere', 'cone', 'torus', 'revolve', 'rotate_extrude'), f'{_FLAT}; polyhedron(points, faces) makes any solid of them'),
+    'rotate': 'turn(solid, axis, degrees=90) turns one, and to=(4, 3) by other angles',
+    'translate': 'move(solid, vector) moves one',
+    **dict.fromkeys(('duplicate', 'clone'), 'copy(solid, move=vector) makes one'),
+    **dict.fromkeys(('difference', 'minus'), 'subtract(solid, tools) takes solids away'),
+    **dict.fromkeys(('fuse', 'join', 'add', 'unite'), 'union([solid, other]) makes one of both'),
+    **dict.fromkeys(('intersection', 'common'), 'intersect([solid, other]) leaves what both have in common'),
+    **dict.fromkeys(('remove', 'erase'), 'delete(solid) takes one away'),
+    **dict.fromkeys(('array', 'linear_pattern'), 'pattern(solid, count, step) makes a row'),
+    'polar_pattern': 'pattern_around(solid, count, axis) makes solids around an axis',
+    **dict.fromkeys(('bevel', 'champfer'), 'chamfer(edge, width) cuts an edge'),
+    'slice': 'cut(solid, plane) cuts a solid',
+}
 # What is said of a number that isn't whole.
 FINER_UNIT = 'choose a finer unit, such as tenths'
 _FRACTION = re.compile(r'[+-]?(?:[0-9]*\.[0-9]*|[0-9]+/[0-9]+|[0-9]+(?:\.[0-9]+)?[eE][+-]?[0-9]+)')

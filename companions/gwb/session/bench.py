@@ -18,6 +18,11 @@ from .steps import Block
 from .turns import TakesTurns
 
 
+def _a(word: str) -> str:
+    """The word with an article."""
+    return f'an {word}' if word[0] in 'aeiou' else f'a {word}'
+
+
 class Methods(TakesTurns):
     """Methods of a workbench on one subject: over its kernel, and what their arguments stand for in it."""
 
@@ -28,10 +33,13 @@ class Methods(TakesTurns):
         kernel to refuse, a thing of this workbench, or for a solid what the command that made it returned."""
         wanted = kind or name
         if not isinstance(value, Part):
-            made = getattr(value, 'solid', None) if wanted == 'solid' else None
+            made = getattr(value, 'solid', None)
+            if made is not None and wanted != 'solid':
+                part = next((f'; its .{name} is one' for name in ('top', 'far', 'face') if wanted == 'face' and hasattr(value, name)), '')
+                raise TypeError(f'{name}: {_a(wanted)} is wanted, not {_a(type(value).__name__.lower())}{part}')
             return arguments.whole(name, value if made is None else made, least, arguments.GREATEST_WORD)
         if value.kind != wanted:
-            raise arguments.wrong(name, f'an {wanted}' if wanted[0] in 'aeiou' else f'a {wanted}', value)
+            raise arguments.wrong(name, _a(wanted), value)
         if value._kernel is not self._kernel:
             raise ValueError(f'{name}: the {wanted} {value.number} is of another workbench')
         return value.number

@@ -4,6 +4,8 @@ from fractions import Fraction
 from itertools import islice
 from typing import List, Optional
 
+from ..protocol.complaints import refused
+from ..protocol.language import NUMBERS
 from ..protocol.replies import Reply
 from . import arguments
 from .bench import Methods
@@ -163,6 +165,9 @@ class Commands(Methods):
         kernel = self._kernel
         lengths = kernel.lengths
         place, size, number = lengths.point('point', point), lengths.point('sizes', sizes), self._new('solid', solid)
+        if min(size) < 1:
+            at = next(at for at, length in enumerate(size) if length < 1)
+            raise refused('block', NUMBERS['SizeRange'], at + 1, f'sizes[{at}] is {lengths.out(size[at])}; sizes are above 0')
         kernel.do('block', number, *place, *size)
         fresh = kernel.lines.fresh
         top, bottom, *sides = fresh('face')

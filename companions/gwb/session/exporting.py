@@ -8,6 +8,7 @@ from fractions import Fraction
 from pathlib import Path
 from types import MappingProxyType
 from typing import Sequence, Union
+from unicodedata import category
 
 from ..errors import Unfit
 from ..formats.appearance import LONGEST_NAME, Appearance, Appearances, Said, colour_of
@@ -45,8 +46,8 @@ class Exporting(Methods):
 
     def label(self, thing: Union[SolidPart, FacePart, arguments.MadeSolid], name: str = '', colour: str = '') -> None:
         """Gives a solid, or what a command returned that made it, or a face a name, and a colour such as '#FF8000'; with neither what it had is
-        taken away. Raises ValueError where the colour is none, the name is longer than 200 characters, or the thing is of another workbench.
-        Refused: NoSolid, NoFace.
+        taken away. Raises ValueError where the colour is none, the name is longer than 200 characters or has control characters, or the thing is of
+        another workbench. Refused: NoSolid, NoFace.
 
         >>> bench.label(bench.face(block.top), 'lid', '#FF8000')
         >>> bench.labels['face', block.top]
@@ -57,12 +58,15 @@ class Exporting(Methods):
             look = Appearance(said, colour_of(shade) if shade else None)
         except ValueError as error:
             raise ValueError(f'colour: {error}') from None
+        if any(category(letter) == 'Cc' for letter in look.name):
+            raise ValueError(f'name: {look.name!r} has control characters')
         if len(look.name) > LONGEST_NAME:
             raise ValueError(f'name: {len(look.name)} characters are more than {LONGEST_NAME}')
         if not isinstance(thing, (SolidPart, FacePart)):
             number = getattr(thing, 'solid', None)
             if type(number) is not int:
-                raise TypeError(f'thing: a solid or a face is wanted, not {thing!r}')
+                said = f'{thing} may be a solid or a face: bench.solid({thing})' if isinstance(thing, int) else f'a solid or a face is wanted, not {thing!r}'
+                raise TypeError(f'thing: {said}')
             thing = SolidPart(self._kernel, number)
         number = self._number('thing', thing, thing.kind)
         _there = thing.faces if isinstance(thing, SolidPart) else thing.solid

@@ -161,7 +161,8 @@ class Kernel:
                     self.lock.release()
             raise OutOfStep('the model is another one, is large, or others have the turn')
 
-        error.advised(lambda: advice(line, reply, as_it_was))
+        # (what a program does to a script, a method does to the session)
+        error.advised(lambda: [re.sub(r'gwb-script --scale ([0-9]+)', r'refine(\1)', told) for told in advice(line, reply, as_it_was)])
         return error
 
     def ask(self, line: str) -> Reply:

@@ -25,6 +25,7 @@ from ..geometry.model import Model
 from ..protocol.language import COMMANDS, first_answered, first_word, is_answered, is_comment
 from ..protocol.listing import read_model
 from ..protocol.replies import Reply, is_listed
+from ..protocol.word_advice import IN_PYTHON
 from ..scripts.unit_comments import unit_in, unit_line, unit_lines
 from . import arguments
 from .commands import Commands
@@ -66,7 +67,9 @@ class Workbench(SolidMethods, FeatureMethods, Commands, Reading, Exporting):
 
     if not TYPE_CHECKING:
         def __getattr__(self, name: str) -> NoReturn:
-            """Names that went say what is there instead."""
+            """Names that went, and names of other programs, say what is there instead."""
+            if name in IN_PYTHON:
+                raise AttributeError(f'a workbench has no {name}: {IN_PYTHON[name]}')
             raise AttributeError(f'{name}: {_GONE[name]}' if name in _GONE else f'a workbench has no {name}')
 
     def __enter__(self) -> 'Workbench':

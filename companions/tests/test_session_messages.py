@@ -1,0 +1,94 @@
+"""What the session says: one cause a message, in words of Python."""
+
+import re
+import unittest
+
+from support import library
+
+from gwb import Faulted, Impossible, MemoryRefused, Refused, Workbench
+from gwb.protocol.complaints import memory_refused
+from gwb.protocol.refusals import ADVICE, CAUSES, MISFITS, TEXTS
+from gwb.protocol.word_advice import IN_PYTHON
+
+
+class Messages(unittest.TestCase):
+    """Each as it is read."""
+
+    def setUp(self):
+        self.bench = Workbench(library(), step=1)
+        self.addCleanup(self.bench.close)
+
+    def said(self, kind, give):
+        """What an error says, in its first line."""
+        with self.assertRaises(kind) as caught:
+            give()
+        return str(caught.exception).partition('\n')[0]
+
+    def test_sizes(self):
+        for sizes, text in (((-1, 2, 3), 'SizeRange: sizes[0] is -1; sizes are above 0'), ((1, 2, 0), 'SizeRange: sizes[2] is 0; sizes are above 0')):
+            self.assertEqual(self.said(Refused, lambda sizes=sizes: self.bench.block((0, 0, 0), sizes)), text)
+        self.assertEqual(len(self.bench.solids()), 0)
+
+    def test_places_count_from_0(self):
+        bench, outline = self.bench, [(100, 0, 0), (110, 0, 0), (110, 10, 0), (100, 10, 1)]
+        self.assertEqual(self.said(Impossible, lambda: bench.profile(outline, along=(0, 0, 5))), 'NotInPlane: points[3] lies off the plane of the points before it')
+        points, faces = [(0, 0, 0), (9, 0, 0), (0, 9, 0), (0, 0, 9)], [(0, 2, 1), (0, 3, 1), (1, 2, 3), (0, 3, 2)]
+        self.assertEqual(self.said(Impossible, lambda: bench.polyhedron(points, faces)),
+                         'NotClosed: faces[1] and faces[0] have a side that runs the same way in both: turn one of them')
+        self.assertEqual(self.said(Impossible, lambda: bench.polyhedron(points, [*faces[:1], faces[1][::-1], faces[2]])),
+                         'NotClosed: a side of faces[0] has no face beyond it')
+
+    def test_a_made_thing_in_the_place_of_a_face(self):
+        block = self.bench.block((0, 0, 0), (9, 9, 9))
+        self.assertEqual(self.said(TypeError, lambda: self.bench.hole(block, [])), 'face: a face is wanted, not a block; its .top is one')
+        self.assertEqual(self.said(TypeError, lambda: self.bench.chamfer(block, 1)), 'edge: an edge is wanted, not a block')
+
+    def test_labels(self):
+        self.bench.block((0, 0, 0), (9, 9, 9))
+        self.assertEqual(self.said(TypeError, lambda: self.bench.label(1, 'lid')), 'thing: 1 may be a solid or a face: bench.solid(1)')
+        for name in ('a\nb', '\x7f', '\x00'):
+            self.assertIn('has control characters', self.said(ValueError, lambda name=name: self.bench.label(self.bench.solid(1), name)))
+        self.bench.label(self.bench.solid(1), 'Gehäuse ø 3')
+        self.assertEqual(self.bench.labels[('solid', 1)].name, 'Gehäuse ø 3')
+
+    def test_a_line_is_an_attribute(self):
+        for give, kind, line in ((lambda: self.bench.kvfs(7), Refused, 'kvfs 7'), (lambda: self.bench.delete(7), Refused, 'kill_solid'),
+                                 (lambda: self.bench._kernel.do('blok', 1), Faulted, 'blok 1')):
+            with self.assertRaises(kind) as caught:
+                give()
+            self.assertEqual(caught.exception.line, line)
+            self.assertNotIn('refused', str(caught.exception))
+        self.assertEqual(str(caught.exception), 'BadWord: no command is called `blok`\n    # is block meant?')
+        self.assertIsInstance(memory_refused('undo'), MemoryRefused)
+        self.assertEqual(memory_refused('undo').line, 'undo')
+
+    def test_names_of_other_programs(self):
+        names = set(dir(self.bench))
+        for name in IN_PYTHON:
+            self.assertNotIn(name, names)
+            said = self.said(AttributeError, lambda name=name: getattr(self.bench, name))
+            self.assertTrue(said.startswith(f'a workbench has no {name}: '), said)
+        self.assertEqual(self.said(AttributeError, lambda: self.bench.nonsense), 'a workbench has no nonsense')
+
+    def test_what_is_told_of_them_is_there(self):
+        """Each method that advice names is one."""
+        called = {word for text in (*IN_PYTHON.values(), *ADVICE.values()) for word in re.findall(r'\b([a-z_]+)\(', text)}
+        self.assertGreater(len(called), 15)
+        self.assertEqual([word for word in called if not hasattr(type(self.bench), word) and word != 'polygon'], [])
+
+    def test_advice_names_no_program(self):
+        self.bench.block((0, 0, 0), (7, 7, 7))
+        with self.assertRaises(Refused) as caught:
+            self.bench.split(1, (1, 2, 3, -11))
+        self.assertIn('refine(', str(caught.exception))
+        self.assertNotIn('--', str(caught.exception))
+        self.assertNotIn('gwb-', ' '.join([*ADVICE.values(), *IN_PYTHON.values(), *MISFITS.values()]))
+
+    def test_texts_join_no_causes(self):
+        texts = [*MISFITS.values(), *TEXTS.values(), *(text for _, text in CAUSES.values())]
+        self.assertGreater(len(texts), 80)
+        self.assertEqual([text for text in texts if ', or ' in text or ' or ' in text], [])
+
+
+if __name__ == '__main__':
+    unittest.main()
