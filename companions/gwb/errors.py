@@ -27,6 +27,12 @@ class Unfit(CompanionError):
     """The model has something that can't be drawn or written in the wanted form."""
 
 
+class OffGrid(Unfit):
+    """A point of a file isn't whole: which."""
+
+    point: Tuple[Any, Any, Any] = (0, 0, 0)
+
+
 class ProgramMissing(CompanionError):
     """There is no program to talk to, or the file isn't one."""
 

@@ -1,11 +1,14 @@
 """What the session says: one cause a message, in words of Python."""
 
 import re
+import tempfile
 import unittest
+from fractions import Fraction
+from pathlib import Path
 
 from support import library
 
-from gwb import Faulted, Impossible, MemoryRefused, Refused, Workbench
+from gwb import Faulted, Impossible, MemoryRefused, Refused, Unfit, Workbench
 from gwb.protocol.complaints import memory_refused
 from gwb.protocol.refusals import ADVICE, CAUSES, MISFITS, TEXTS
 from gwb.protocol.word_advice import IN_PYTHON
@@ -52,13 +55,16 @@ class Messages(unittest.TestCase):
         self.assertEqual(self.bench.labels[('solid', 1)].name, 'Gehäuse ø 3')
 
     def test_a_line_is_an_attribute(self):
-        for give, kind, line in ((lambda: self.bench.kvfs(7), Refused, 'kvfs 7'), (lambda: self.bench.delete(7), Refused, 'kill_solid'),
-                                 (lambda: self.bench._kernel.do('blok', 1), Faulted, 'blok 1')):
-            with self.assertRaises(kind) as caught:
-                give()
-            self.assertEqual(caught.exception.line, line)
-            self.assertNotIn('refused', str(caught.exception))
-        self.assertEqual(str(caught.exception), 'BadWord: no command is called `blok`\n    # is block meant?')
+        with tempfile.TemporaryDirectory() as folder:
+            path = Path(folder) / 'part.gwb'
+            path.write_text('blok 1\n')
+            for give, kind, line in ((lambda: self.bench.kvfs(7), Refused, 'kvfs 7'), (lambda: self.bench.delete(7), Refused, 'kill_solid'),
+                                     (lambda: Workbench.load(path, library()), Faulted, 'blok 1')):
+                with self.assertRaises(kind) as caught:
+                    give()
+                self.assertEqual(caught.exception.line, line)
+                self.assertNotIn('refused', str(caught.exception))
+        self.assertEqual(str(caught.exception), f'{path}, line 1: BadWord: no command is called `blok`\n    # is block meant?')
         self.assertIsInstance(memory_refused('undo'), MemoryRefused)
         self.assertEqual(memory_refused('undo').line, 'undo')
 
@@ -83,6 +89,19 @@ class Messages(unittest.TestCase):
         self.assertIn('refine(', str(caught.exception))
         self.assertNotIn('--', str(caught.exception))
         self.assertNotIn('gwb-', ' '.join([*ADVICE.values(), *IN_PYTHON.values(), *MISFITS.values()]))
+
+    def test_a_file_off_the_lattice(self):
+        corners = [(x, y, z) for z in ('0', '1.25') for x, y in (('0', '0'), ('2', '0'), ('2', '3'), ('0', '3'))]
+        faces = ((1, 4, 3, 2), (5, 6, 7, 8), (1, 2, 6, 5), (2, 3, 7, 6), (3, 4, 8, 7), (4, 1, 5, 8))
+        with tempfile.TemporaryDirectory() as folder:
+            path = Path(folder) / 'box.obj'
+            path.write_text(''.join(f'v {" ".join(at)}\n' for at in corners) + ''.join(f'f {" ".join(map(str, face))}\n' for face in faces))
+            said = self.said(Unfit, lambda: self.bench.import_file(path))
+            self.assertIn('box.obj: the point (0, 0, 5/4) is no multiple of the step, 1 mm: refine(4) before it makes the step as fine, rounded=True', said)
+            self.assertNotIn('--', said)
+            self.bench.block((9, 9, 9), (1, 1, 1))
+            self.bench.refine(4)
+            self.assertEqual(self.bench.volume(self.bench.import_file(path)[0]), Fraction(15, 2))
 
     def test_texts_join_no_causes(self):
         texts = [*MISFITS.values(), *TEXTS.values(), *(text for _, text in CAUSES.values())]

@@ -3,7 +3,7 @@
 from fractions import Fraction
 from typing import List, Sequence
 
-from ..errors import Unfit
+from ..errors import OffGrid, Unfit
 from ..geometry.flat_face import ExactVector
 from ..geometry.moved import FARTHEST
 from ..geometry.plane_figures import Exact
@@ -41,6 +41,8 @@ class Grid:
         x, y, z = (round(part) for part in point)
         moved = (point[0] - x) ** 2 + (point[1] - y) ** 2 + (point[2] - z) ** 2
         if moved > square_reach and not self._rounded:
-            raise Unfit(f'the point {told_point(point)} is not whole: --scale multiplies, --round rounds, --within D rounds what lies as near as D')
+            error = OffGrid(f'the point {told_point(point)} is not whole: --scale multiplies, --round rounds, --within D rounds what lies as near as D')
+            error.point = point
+            raise error
         self.square_moved = max(self.square_moved, moved)
         return (x, y, z)

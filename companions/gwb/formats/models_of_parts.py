@@ -76,7 +76,8 @@ class _Work:
         try:
             soup = self._soup(part)
         except Unfit as error:
-            raise Unfit(f'{where}{error}{self._multiplied(part)}{_also_open(part)}') from None
+            error.args = (f'{where}{error}{self._multiplied(part)}{_also_open(part)}',)
+            raise
         try:
             surface = self._joined(surface_of(soup), part)
         except NotClosed as error:

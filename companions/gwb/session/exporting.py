@@ -5,12 +5,13 @@ Pages and forms of files are imported in the methods that need them: together th
 
 import os
 from fractions import Fraction
+from math import lcm
 from pathlib import Path
 from types import MappingProxyType
 from typing import Sequence, Union
 from unicodedata import category
 
-from ..errors import Unfit
+from ..errors import OffGrid, Unfit
 from ..formats.appearance import LONGEST_NAME, Appearance, Appearances, Said, colour_of
 from ..geometry.free_numbers import renumbered
 from ..geometry.plane_figures import Exact
@@ -154,8 +155,14 @@ class Exporting(Methods):
         round_all, keep, mend, flat_alone = (arguments.flag(name, value) for name, value in (
             ('rounded', rounded), ('keep_triangles', keep_triangles), ('repair', repair), ('flat', flat)))
         file = arguments.path('path', path)
-        found = read_file(os.path.abspath(file), form=kind or None, scale=size.numerator if size.denominator == 1 else size,
-                          rounded=round_all, keep_triangles=keep, repair=mend, flat=flat_alone, within=most)
+        try:
+            found = read_file(os.path.abspath(file), form=kind or None, scale=size.numerator if size.denominator == 1 else size,
+                              rounded=round_all, keep_triangles=keep, repair=mend, flat=flat_alone, within=most)
+        except OffGrid as error:
+            place = ', '.join(str(self._kernel.lengths.out(part)) for part in error.point)
+            finer = lcm(*(Fraction(part).denominator for part in error.point))
+            raise Unfit(f'{file}: the point ({place}) is no multiple of the step, {self.step} mm: refine({finer}) before it makes the step as fine, '
+                        'rounded=True rounds, and within=D those points that lie as near as D mm') from None
         for wrong in found.wrong:
             warn(f'{file}: {wrong}')
         moved = float(found.square_moved) ** 0.5 * float(self.step)
