@@ -15,7 +15,7 @@ from gwb import OffStep, Plane, Refused, Unfit, Workbench
 
 STEPS = (Fraction(1), Fraction(1, 60), Fraction(1, 1000))
 FORMS = ('.stl', '.obj', '.off', '.3mf', '.glb', '.step')
-SEEDS = range(int(os.environ.get('RANDOM_LENGTHS', '25')))
+SEEDS = range(int(os.environ.get('RANDOM_LENGTHS', '70')))
 
 
 class Given(unittest.TestCase):

@@ -86,12 +86,12 @@ class FeatureMethods(Methods):
 
     def profile(self, points: arguments.Points, *, along: Optional[arguments.Point] = None, top: Optional[arguments.Points] = None,
                 solid: Optional[int] = None) -> Profile:
-        """A new solid: the outline through the points, moved along the vector. It is never inside out, whichever way the points run. It tapers where another
-        outline is its `top`: that has as many points, of which each is joined with its like, and is moved along the vector where one is given.
+        """A new solid: the outline through the points, moved along the vector. It is never inside out, whichever way the points run. It tapers where
+        another outline is its `top`: that has as many points, of which each is joined with its like, and is moved along the vector where one is given.
 
         Refused: FewPoints, RepeatedPoint; NoArea: the outline has no area; NotInPlane: a point lies off the plane of the others;
-        OutlineCrossed: the outline crosses or touches itself; AlongPlane: the vector lies in the plane of the points; with `top` NotFlat, where an outline or
-        a side isn't flat, with the place of the side from 1 on, and Meets, where the solid would cross or touch itself.
+        OutlineCrossed: the outline crosses or touches itself; AlongPlane: the vector lies in the plane of the points; with `top` NotFlat, where an outline
+        or a side isn't flat, with the place of the side from 1 on, and Meets, where the solid would cross or touch itself.
 
         >>> wedge = bench.profile([(0, 0, 20), (12, 0, 20), (0, 9, 20)], along=(0, 0, 5))
         >>> bench.volume(wedge)
