@@ -25,6 +25,7 @@ from quotes import head_of
 
 PAGE = TOP / 'docs' / 'STATEMENTS.md'
 LAWS = 'script_laws/src/lib.rt'
+HANDLES = 'handles/src/lib.rt'
 # What a law over bytes speaks of by its name alone: the law holds of it as it is, and its page doesn't look into it.
 BY_NAME = frozenset({'Rattle.script_laws.specs.Scripts.answers', 'Rattle.script_running.specs.Outs.Outs', 'Rattle.undo_journal.specs.Journal.new_journal',
                      'Rattle.script_running.specs.Output.output_of', 'Rattle.script_running.specs.Output.summary_of'})
@@ -37,6 +38,9 @@ LARGER = ('shapes.specs.Lamina.lamina_conditions', 'shapes.specs.Lamina.lamina_m
           'split_laws.specs.SplitOps.split_ops')
 SHARED = frozenset(f'Rattle.{name}' for name in LARGER)
 SHARED_PAGE = 'larger_commands.md'
+# What a call may be told, and what is whole: on the page of lists of calls, and taken by name where exports of a handle are such a list.
+HEADLINE = frozenset({'Rattle.commands.specs.Telling.Tells', 'Rattle.commands.specs.Telling.IsWhole', 'Rattle.undo_journal.specs.Journal.new_journal'})
+HEADLINE_PAGE = 'make_all.md'
 SHARED_TITLE = 'Larger commands'
 SHARED_TEXT = """When a lamina, a block, a sweep, a glue and a split are refused, by which of these conditions before memory is asked for, what models they make, and
 by which operators: the definitions that the contracts of `make_all` and `run` take by name."""
@@ -47,7 +51,8 @@ BYTES = ('Appends', 'Consumes', 'IsAtEnd')
 HEAD = """# Statements
 
 This page has the contract of each theorem. Below it stand all definitions that the contract leads to, by their files, in the order in which they are used.
-Some are taken *by name* and left out: a law over bytes holds whatever `answers` is, and what is said of the larger commands has a chapter of its own.
+Some are taken *by name* and left out: a law over bytes holds whatever `answers` is, what is said of the larger commands has a chapter of its own, and a
+law of handles takes `Tells` and `IsWhole`, which stand in the first chapter.
 [PROOFS.md](PROOFS.md) explains the signs. This writes each theorem with its definitions on one page:
 
     tests/statement.py --pages FOLDER
@@ -84,14 +89,18 @@ class Theorem:
         return [line for line in head_of(lines, self.function) if not self.law or 'ensures' not in line or f'{{ {self.law} }}' in line]
 
 
-def theorems() -> List[Theorem]:
-    """A list of calls, a script's run, and each law over bytes."""
-    found = [Theorem('call_lists/src/making.rt', 'make_all', by_name=SHARED), Theorem('script_running/src/running.rt', 'run', by_name=SHARED)]
-    lines = (CRATES / LAWS).read_text().splitlines()
+def laws_of(file: str, by_name: FrozenSet[str]) -> Iterator[Theorem]:
+    """The laws of the functions of a file, each by its clause; a function without laws as it is."""
+    lines = (CRATES / file).read_text().splitlines()
     for function in re.findall(r'^pub fn (\w+)', '\n'.join(lines), re.MULTILINE):
         laws = re.findall(r'ensures (?:\w+ )?\{ ([A-Z]\w+) \}', '\n'.join(head_of(lines, function)))
-        found += [Theorem(LAWS, function, law, BY_NAME) for law in laws or ['']]
-    return found
+        yield from (Theorem(file, function, law, by_name) for law in laws or [''])
+
+
+def theorems() -> List[Theorem]:
+    """A list of calls, a script's run, each law of a handle, and each law over bytes."""
+    return [Theorem('call_lists/src/making.rt', 'make_all', by_name=SHARED), Theorem('script_running/src/running.rt', 'run', by_name=SHARED),
+            *laws_of(HANDLES, HEADLINE), *laws_of(LAWS, BY_NAME)]
 
 
 def doc_above(lines: List[str], at: int) -> List[str]:
@@ -187,7 +196,8 @@ def shown(definition: Definition, by_name: FrozenSet[str]) -> List[str]:
     lines = [*definition.comment, *definition.lines]
     name = f'{definition.module}.{definition.name}'
     if name in by_name:
-        why = f'it stands on {SHARED_PAGE}' if name in SHARED else 'nothing looks into it here'
+        page = SHARED_PAGE if name in SHARED else HEADLINE_PAGE if by_name is HEADLINE else ''
+        why = f'it stands on {page}' if page else 'nothing looks into it here'
         lines = [*definition.comment, definition.lines[0].split(' where')[0], f'-- (by its name: {why})']
     return lines
 

@@ -1,2 +1,3 @@
 pub mod Turning
 mod Staying
+mod Going

@@ -1,6 +1,7 @@
 -- What C's calls do to the session behind a handle.
 use Rattle.std.specs.Prelude.{◌≡◌, ◌⊎◌, ◌-◌, ◌^◌, ℕ, Bool, true, false, cond, List, length, Option, Some, None}
 use Rattle.session_slots.specs.Common.{Model, Answer, taken_in, taken_of, Question, asked, status_of, refusal_in, counts_in, volume_in, plane_in, joined, joined_plane, answer_after, shown, is_draft, text_in, spoken, lacks_said, Slot_notes, laid_over, WritesOne, Stage}
+use Rattle.handles.specs.Uses.{HandleGoes, asks, line_asked}
 use Rattle.session_slots.specs.declared.{answers.Refused.Refused, answers.Counts.Counts, answers.Wide.Wide, answers.PlaneRow.PlaneRow, slot.Slot.Slot}
 use Rattle.gwb_c.specs.FreshNumbers.{fresh_in}
 use Rattle.gwb_c.specs.declared.fresh.Range.{Range}
@@ -25,7 +26,7 @@ none o = false
 
 -- the line is answered, unless it spells undo or redo in a draft
 abbrev pub Hears : Option Slot → List ℕ → Option Slot → ℕ → Type 0
-Hears old line new kind = Calls (lacks_said (spoken line)) (λ x y. Slot_notes x line y) old new kind
+Hears old line new kind = HandleGoes old (asks (line_asked line)) new kind × Calls (lacks_said (spoken line)) (λ x y. Slot_notes x line y) old new kind
 
 -- a number that the session or the draft tells; a closed handle tells the greatest 64-bit number
 abbrev pub Numbers : (Stage → ℕ) → Option Slot → ℕ → Type 0

@@ -1,6 +1,7 @@
 //! Calls given to the session or draft behind a handle.
 ghost use Rattle.std.specs.Prelude.{◌≡◌};
-ghost use Rattle.gwb_c.specs.Calls.{Does, Leaves};
+ghost use Rattle.handles.specs.Uses.{HandleGoes, skips};
+ghost use Rattle.gwb_c.specs.Calls.{Does};
 
 use crate::told::{CLOSED, NO_CALL, lacking};
 use session_slots::{Call, Gwb, lacks, make, put, status, take};
@@ -28,7 +29,7 @@ pub(crate) fn call(alloc: Global, gwb: &mut Gwb, wanted: Call<'_>) -> u32
 
 /// Makes no call, since the arguments spell none.
 pub(crate) fn no_call(alloc: Global, gwb: &mut Gwb) -> u32
-    ensures { Leaves gwb.old.kept.value 10 gwb.new.kept.value result }
+    ensures { HandleGoes gwb.old.kept.value skips gwb.new.kept.value result }
 {
     let Some(slot) = take(alloc, gwb) else {
         return CLOSED;

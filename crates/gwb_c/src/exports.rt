@@ -1,6 +1,7 @@
 //! Calls of C: sessions, and lines as text.
-ghost use Rattle.std.specs.Prelude.{◌≡◌, true, Some, None};
+ghost use Rattle.std.specs.Prelude.{◌≡◌, true, Some, cond};
 ghost use Rattle.session_slots.specs.Common.{undos, redos, is_staged, Opened, slot_in};
+ghost use Rattle.handles.specs.Uses.{HandleGoes, closes, opens};
 ghost use Rattle.gwb_c.specs.Calls.{Lacks};
 ghost use Rattle.gwb_c.specs.Handle.{Hears, Numbers, Says, Replies, Lists_model};
 
@@ -14,7 +15,8 @@ use std::alloc::Global;
 /// Opens a session that holds the empty model. False if memory is refused, or if there is a session; then nothing has changed.
 #[unsafe(no_mangle)]
 pub extern "C" fn gwb_open(alloc: Global, gwb: &mut Gwb) -> bool
-    ensures { Opened gwb.old.kept.value gwb.new.kept.value result }
+    ensures goes { HandleGoes gwb.old.kept.value opens gwb.new.kept.value (cond result 1 0) }
+    ensures opened { Opened gwb.old.kept.value gwb.new.kept.value result }
 {
     begin(alloc, gwb)
 }
@@ -22,7 +24,7 @@ pub extern "C" fn gwb_open(alloc: Global, gwb: &mut Gwb) -> bool
 /// Frees the session, if there is one.
 #[unsafe(no_mangle)]
 pub extern "C" fn gwb_close(alloc: Global, gwb: &mut Gwb)
-    ensures { gwb.new.kept.value ≡ None }
+    ensures { HandleGoes gwb.old.kept.value closes gwb.new.kept.value 0 }
 {
     if let Some(slot) = take(alloc, gwb) {
         slot.free();

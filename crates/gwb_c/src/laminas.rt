@@ -1,7 +1,8 @@
 //! Calls of C: a lamina of points.
 ghost use Rattle.std.specs.Prelude.{◌≡◌, ◌<◌, ◌≤◌, length};
 ghost use Rattle.session_slots.specs.Common.{polygon_of};
-ghost use Rattle.gwb_c.specs.Calls.{Changes, Leaves};
+ghost use Rattle.handles.specs.Uses.{HandleGoes, skips};
+ghost use Rattle.gwb_c.specs.Calls.{Changes};
 
 use crate::calling::{call, no_call};
 use session_slots::{Call, Change, Command, Gwb, Place, Points, polygon};
@@ -24,7 +25,7 @@ fn lamina(alloc: Global, gwb: &mut Gwb, solid: u32, places: &[Place]) -> u32
 #[unsafe(no_mangle)]
 pub extern "C" fn gwb_lamina(alloc: Global, gwb: &mut Gwb, solid: u32, points: &[Place]) -> u32
     ensures made { length points.now ≤ 64 → Changes gwb.old.kept.value (Change.Lamina solid (polygon_of points.now)) gwb.new.kept.value result }
-    ensures too_many { 64 < length points.now → Leaves gwb.old.kept.value 10 gwb.new.kept.value result }
+    ensures too_many { 64 < length points.now → HandleGoes gwb.old.kept.value skips gwb.new.kept.value result }
 {
     if points.len() > MOST_POINTS {
         return no_call(alloc, gwb);

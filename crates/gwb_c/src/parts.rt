@@ -1,6 +1,7 @@
 //! Calls of C: faces of a solid that become a solid of their own.
 ghost use Rattle.std.specs.Prelude.{◌≡◌, ◌<◌, [], length};
-ghost use Rattle.gwb_c.specs.Calls.{Leaves, Parts};
+ghost use Rattle.handles.specs.Uses.{HandleGoes, skips};
+ghost use Rattle.gwb_c.specs.Calls.{Parts};
 
 use crate::calling::no_call;
 use crate::told::CLOSED;
@@ -26,7 +27,7 @@ fn part(alloc: Global, gwb: &mut Gwb, faces: &[u32], solid: u32) -> u32
 #[unsafe(no_mangle)]
 pub extern "C" fn gwb_part(alloc: Global, gwb: &mut Gwb, faces: &[u32], solid: u32) -> u32
     ensures made { 0 < length faces.now → Parts gwb.old.kept.value faces.now solid gwb.new.kept.value result }
-    ensures none { faces.now ≡ [] → Leaves gwb.old.kept.value 10 gwb.new.kept.value result }
+    ensures none { faces.now ≡ [] → HandleGoes gwb.old.kept.value skips gwb.new.kept.value result }
 {
     if faces.is_empty() {
         return no_call(alloc, gwb);

@@ -1,2 +1,1 @@
 pub mod Splices
-pub mod Slots

@@ -18,7 +18,7 @@
 //!
 //! # What is proved
 //!
-//! Of its own only what calls on slots and splices of nodes lead to (`SlotsMakeAll`, `SplicesCut`, `SplicesJoin`, `SplicesKeepOthers`). Each function
+//! Of its own only what splices of nodes lead to (`SplicesCut`, `SplicesJoin`, `SplicesKeepOthers`). Each function
 //! calls the laws of the crates below, or makes a call, and has what they say as its contract. They stand in this order: lists of calls, marks and
 //! handles of C, one call of each kind, records and volumes (`every_list_of_calls_is_answered` and those after it); conditions, operators and their
 //! inverses (from `refusals_name_the_first_false`); splices of rings (from `splices_cut_and_join`); the plain machine and its histories (from
@@ -32,8 +32,8 @@ ghost use Rattle.call_lists.specs.Laws.{ListsAreHistories, ListsKeepWhole, EachI
 ghost use Rattle.call_lists.specs.Making.{AreTold};
 ghost use Rattle.commands.specs.Steps.{LaminasTakeSteps, BlocksTakeSteps, SweepsTakeSteps, GluesTakeSteps, SplitsTakeSteps};
 ghost use Rattle.convex_laws.specs.Convex.{BlocksAreConvex, BuiltAreConvex, BuiltHaveVolume, ConvexSolidsHaveVolume, PartsOfConvexSolidsHaveVolume, SplitsKeepStrictlyConvex};
+ghost use Rattle.handles.specs.Laws.{HandlesAreTakenBack, HandlesBeginNew, HandlesMakeCalls, HandlesStayWhole, ReadersLeaveHandles};
 ghost use Rattle.pool_rings.specs.Laws.{EachCodeHasItsRing, RingsAreRotations, CodesShareOrHaveTwo, SplicedPoolsCut, SplicedPoolsJoin, SplicedPoolsKeepOthers, SplicedPoolsStay, PoolsLeadBack};
-ghost use Rattle.promises.specs.Slots.{SlotsMakeAll};
 ghost use Rattle.promises.specs.Splices.{SplicesCut, SplicesJoin, SplicesKeepOthers};
 ghost use Rattle.reached_models.specs.Laws.{BuildersSuffice, SoundIsLinked, SoundIsReached};
 ghost use Rattle.script_laws.specs.Laws.{RunsTell, BrokenRunsTell, FailedRunsTell, AnsweredSo, AnswersStay, OthersCanBeLeftOut, UndoAndRedoCanBeLeftOut, UndoneLinesCanBeLeftOut, UndosLeadBack, SomeUndosLeadBack, EqualListingsGoOnAlike, BlocksMeasure, PartsShareVolumes, BlocksAndSplitsHaveVolume, OthersMayHaveNone, WrittenVolumesArePositive, RepliesTell, RefusalsTell, FaultsTell};
@@ -53,6 +53,7 @@ use commands::larger_commands_take_steps;
 use convex_laws::{
     blocks_are_convex, built_are_convex, convex_solids_have_volume, splits_keep_strictly_convex,
 };
+use handles::handles_make_calls;
 use pool_rings::{codes_have_one_ring, splices_of_pools};
 use reached_models::sound_models_are_reached;
 use script_laws::{
@@ -127,15 +128,20 @@ pub fn marks_lead_back_to_the_draft()
     marks_lead_back();
 }
 
-/// What a handle of C holds. A new session is whole. Typed calls on the slot behind a handle, but for `gwb_part`, are a list of calls as above. So what
-/// the handle holds after them is whole, and all that is said of lists here holds of it. The slot keeps the answer to the last call; a call that
-/// concerns a mark, or that the session or draft doesn't have, leaves the answer before it.
+/// What a handle of C holds after any list of exports, of whatever kind, each a case of `HandleGoes`. From a closed handle on, the handle is closed or
+/// holds a session or draft that is whole. What was opened holds a new session. Until it is closed, its exports are a list of the calls that they ask
+/// for, as above: so it holds the plain machine's model, and all that is said of lists here holds of it. C is told the kinds of the answers, and the
+/// last answer is kept; a call that concerns a mark, or that the session or draft doesn't have, leaves the answer before it. If a session did n
+/// commands without undo and redo, n undos are each told `ok`, and lead to the model before them. A reader leaves what it reads.
 pub fn handles_hold_lists_of_calls()
     ensures begun { IsWhole (Stage.Session new_journal) }
-    ensures made { SlotsMakeAll }
+    ensures opened { HandlesBeginNew }
+    ensures whole { HandlesStayWhole }
+    ensures made { HandlesMakeCalls }
+    ensures back { HandlesAreTakenBack }
+    ensures read { ReadersLeaveHandles }
 {
-    every_history_is_consistent();
-    lists_are_histories();
+    handles_make_calls();
 }
 
 /// What one call does, of any kind: a change (an operator, a lamina, a block, a sweep, a glue or a split), which is one command in a session and
