@@ -30,7 +30,7 @@ _ELSEWHERE: Dict[str, str] = {
 _FLAT = 'all faces are flat'
 IN_PYTHON: Dict[str, str] = {
     **dict.fromkeys(('cube', 'box'), 'block(point, sizes) makes one'),
-    **dict.fromkeys(('extrude', 'linear_extrude', 'pad'), 'profile(points, along=vector) makes a solid of an outline, boss() raises one from a face, sweep() moves a face'),
+    **dict.fromkeys(('extrude', 'linear_extrude'), 'profile(points, along=vector) makes a solid of an outline, boss() raises one from a face, sweep() moves a face'),
     **dict.fromkeys(('fillet', 'round'), f'{_FLAT}; chamfer(edge, width) and chamfer_edges() cut edges'),
     **dict.fromkeys(('cylinder', 'circle', 'rod'), f'{_FLAT}; sketch(face).polygon() has the corners of a circle for boss() and pocket(), and drill() makes a hole'),
     **dict.fromkeys(('sphere', 'cone', 'torus', 'revolve', 'rotate_extrude'), f'{_FLAT}; polyhedron(points, faces) makes any solid of them'),
