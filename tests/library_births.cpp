@@ -1,6 +1,6 @@
 // Births (gwb_birth) beside whole copies of what is in use: random calls, lines and features with undo, redo, drafts, marks, partial ones too, loads and
 // renumbering, watched from the beginning, from later on, or from within a draft. One birth is one thing's, always. And what became of things (gwb_became),
-// beside what the whole model says, pair by pair. The last line counts.
+// beside what the whole model says, pair by pair; and requests for memory refused in turn. The last line counts.
 //
 //     library_births [RUNS]     so many runs of 300 calls: 150 where none is said
 #include "gwb_features.h"
@@ -518,6 +518,123 @@ private:
 };
 std::map<std::string, long> Run::counts;
 
+// ---- requests for memory refused in turn, in calls of several operators
+
+struct Requests {
+    long made, refused, live;
+};
+
+void *take(void *user, std::size_t size) noexcept
+{
+    auto *requests = static_cast<Requests *>(user);
+    void *block = ++requests->made == requests->refused ? nullptr : std::malloc(size);
+    requests->live += block != nullptr;
+    return block;
+}
+
+void *grow(void *user, void *block, std::size_t size) noexcept
+{
+    auto *requests = static_cast<Requests *>(user);
+    return ++requests->made == requests->refused ? nullptr : std::realloc(block, size);
+}
+
+void give_back(void *user, void *block) noexcept
+{
+    static_cast<Requests *>(user)->live--;
+    std::free(block);
+}
+
+std::string listing(const gwb *g)
+{
+    std::string text(gwb_read_listing(g, nullptr, 0), ' ');
+    gwb_read_listing(g, text.data(), text.size());
+    return text;
+}
+
+// A call with this place; the last one is GWB_SILENT.
+gwb_kind call(gwb *g, int place)
+{
+    const gwb_point square[] = {{1, 1, 4}, {3, 1, 4}, {3, 3, 4}, {1, 3, 4}};
+    const gwb_motion motion = {{1, 2, 3}, {0, 0, 30}};
+    const char block[] = "block 9 90 0 0 4 4 4", triangle[] = "solid 7\nface 90 7 90\nface 91 7 91\nloop 90 +90 +91 +92\nloop 91 -90 -92 -91\n"
+                                                            "edge 90 90 91\nedge 91 91 92\nedge 92 92 90\nvertex 90 0 0 99\nvertex 91 1 0 99\nvertex 92 0 1 99\n";
+    const std::uint32_t both[] = {1, 3};
+    gwb_outline_made outline;
+    std::uint32_t made = 0, sides[4];
+    gwb_refusal why{};
+    switch (place) {
+    case 0: return gwb_block(g, 1, 0, 0, 0, 4, 4, 4);
+    case 1: return gwb_pocket(g, 1, square, 4, 2, &outline, sides, &why);
+    case 2: return gwb_copy_solid(g, 1, &motion, &made, &why);
+    case 3: return gwb_line(g, block, sizeof block - 1);
+    case 4: return gwb_load(g, triangle, sizeof triangle - 1, &why);
+    case 5: return gwb_kill_solid(g, 2, &why);
+    case 6: return gwb_block(g, 3, 2, 2, -2, 9, 9, 4);
+    case 7: return gwb_union(g, both, 2, &why);
+    case 8: return gwb_renumber(g, &why);
+    case 9:
+    case 10: return gwb_undo(g);
+    case 11: return gwb_redo(g);
+    case 12: return gwb_draft(g);
+    case 13: return gwb_split(g, 1, 0, 0, 1, -1, 20);
+    case 14: return gwb_back(g, 3);
+    case 15: return gwb_kill_solid(g, 7, &why);
+    case 16: return gwb_abandon(g);
+    default: return GWB_SILENT;
+    }
+}
+
+// Gives them, those again for which there was no memory.
+void call_all(gwb *g)
+{
+    for (int place = 0; place < 17; place++)
+        for (gwb_kind kind = GWB_MEMORY; kind == GWB_MEMORY;) {
+            kind = call(g, place);
+            check(kind == GWB_OK || kind == GWB_MEMORY, ("the call with the place " + std::to_string(place) + " while memory is refused").c_str());
+        }
+}
+
+// Whether births are known, each of one thing; or none is.
+bool has_births(const gwb *g, bool are_known)
+{
+    std::set<std::pair<std::uint32_t, std::uint64_t>> found;
+    std::size_t count = 0;
+    for (std::uint32_t kind = GWB_SOLID; kind <= GWB_VERTEX; kind++)
+        for (std::uint32_t number = 0; gwb_number_after(g, kind, number, &number) == GWB_FOUND; count++)
+            found.emplace(kind, gwb_birth(g, kind, number));
+    return are_known ? found.size() == count && found.count({GWB_SOLID, 0}) == 0 : found.size() == GWB_VERTEX + 1 && found.count({GWB_VERTEX, 0}) != 0;
+}
+
+// No call is refused for births: what memory is refused for is lost, until they are asked for again. One in so many requests is refused in turn.
+void try_refused(long step)
+{
+    gwb wanted = {};
+    if (!gwb_open(&wanted))
+        std::abort();
+    call_all(&wanted);
+    long lost = 0;
+    bool was_reached = true;
+    for (long first = 1; was_reached; first += step) {
+        Requests requests = {0, 0, 0};
+        const gwb_heap heap = {take, grow, give_back, &requests};
+        gwb g = {};
+        check(gwb_open_in(&g, &heap) && gwb_watch(&g, true) == GWB_OK, "no session, or no watch");
+        requests = {0, first, requests.live};
+        call_all(&g);
+        was_reached = requests.made >= first;
+        requests.refused = 0;
+        check(listing(&g) == listing(&wanted) && gwb_depth(&g) == gwb_depth(&wanted), "another model where a request is refused");
+        const bool are_lost = gwb_birth(&g, GWB_SOLID, 1) == 0;
+        lost += are_lost;
+        check(has_births(&g, !are_lost) && gwb_compare(&g) == (are_lost ? GWB_MEMORY : GWB_OK), "births are neither known nor lost");
+        check(gwb_watch(&g, false) == GWB_OK && has_births(&g, true), "births are known again");
+        gwb_close(&g);
+        check(requests.live == 0, "leaks");
+    }
+    check(lost > 0 || step > 10, "births were never lost");
+    gwb_close(&wanted);
+}
+
 } // namespace
 
 int main(int count, char **arguments)
@@ -525,6 +642,7 @@ int main(int count, char **arguments)
     const long runs = count > 1 ? std::atol(arguments[1]) : 150;
     for (long run = 0; run < runs; run++)
         Run(static_cast<std::uint64_t>(run)).go(300);
+    try_refused(runs < 40 ? 61 : 7);
     for (const auto &[what, times] : Run::counts)
         std::printf("%s: %ld\n", what.c_str(), times);
     check(runs < 40 || Run::counts.size() == 16, "something never came");
