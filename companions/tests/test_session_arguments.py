@@ -71,7 +71,8 @@ CASES = {
     'edges': ({}, {'solid': GIVEN, 'between': ((1,), 1, 'ab', (1, '2'), (1, 2, 3)), 'length': MEASURE,
                    'along': ((0, 0), (0, 0, 0), 'abc', (0, 0, nan))}),
     'vertices': ({}, {'solid': GIVEN, 'at': ((0, 0), 'abc', (0, 0, True))}),
-    'profile': ({'points': TRIANGLE, 'along': (0, 0, 1)}, {'points': POINTS, 'along': POINT, 'solid': GIVEN}),
+    'profile': ({'points': TRIANGLE, 'along': (0, 0, 1)}, {
+        'points': POINTS, 'along': POINT, 'solid': GIVEN, 'top': tuple(wrong for wrong in POINTS if wrong is not None)}),
     'polyhedron': ({'points': TRIANGLE, 'faces': [(0, 1, 2)]}, {'points': POINTS, 'faces': (None, 1, [], [1], 'ab', [(0, 1, 3)], [(0, 1, -1)], [(0, 1.0, 2)]),
                                                                 'solid': GIVEN}),
     'sketch': ({'face': 1}, {'face': NUMBER, 'origin': tuple(wrong for wrong in POINT if wrong is not None),
@@ -79,7 +80,7 @@ CASES = {
     'near': ({'length': 1}, {'length': LENGTH[:4]}),
     'ring': ({'face': 1, 'points': TRIANGLE}, {'face': NUMBER, 'points': POINTS}),
     'pocket': ({'face': 1, 'points': TRIANGLE, 'depth': 1}, {'face': NUMBER, 'points': POINTS, 'depth': LENGTH}),
-    'boss': ({'face': 1, 'points': TRIANGLE, 'height': 1}, {'face': NUMBER, 'points': POINTS, 'height': LENGTH}),
+    **dict.fromkeys(('boss', 'pad'), ({'face': 1, 'points': TRIANGLE, 'height': 1}, {'face': NUMBER, 'points': POINTS, 'height': LENGTH})),
     'hole': ({'face': 1, 'points': TRIANGLE}, {'face': NUMBER, 'points': POINTS}),
     'drill': ({'face': 1, 'center': P, 'radius': 1, 'sides': 4},
               {'face': NUMBER, 'center': POINT, 'radius': LENGTH, 'sides': (True, 1.0, '1', 0, -1, 2 ** 63, 2, 10 ** 6 + 1),
