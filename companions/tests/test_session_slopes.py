@@ -121,7 +121,7 @@ class Slopes(unittest.TestCase):
         block = self.bench.block((0, 0, 0), (10, 10, 10))
         corner = self.edges(*(((0, 0, 0), end) for end in ((10, 0, 0), (0, 10, 0), (0, 0, 10))))
         self.refused('NoEdge', 99, [1, 99], 2)
-        self.refused('OffLattice', 3, corner, 3)
+        self.refused('OffLattice', 2, corner, 3)    # (the factor that makes the slopes' corner whole)
         self.refused('Meets', 1, [edge.number for edge in self.bench.face(block.top).edges], 6)
         other = self.bench.block((50, 0, 0), (10, 10, 10))
         self.refused('NotAlike', other.edges[0], [block.edges[0], other.edges[0]], 2)
