@@ -190,6 +190,5 @@ ADVICE: Dict[str, str] = {
     'ComesThrough': 'hole(face, points) goes through to the far side',
     'DepthFraction': 'refine(Y) makes the step as fine as that',
     'PointFraction': 'refine(Y) makes the step as fine as that',
-    'CornerFraction': 'refine(Y) makes the step as fine as that',
     'AreasCancel': 'its points in their order round the outline',
 }
