@@ -6,7 +6,7 @@
 /** The number of a refusal: the first condition that is false. X is the value that goes with it. Some commands give it a meaning of their
  * own (docs/SCRIPT.md). */
 enum gwb_why {
-    /** the number X is above 1,000,000 */
+    /** the number X is outside 1 to 1,000,000 */
     GWB_WHY_NUMBER_RANGE = 1,
     /** there is no solid X */
     GWB_WHY_NO_SOLID = 2,
@@ -238,7 +238,7 @@ static inline const char *gwb_why_name(uint32_t number)
 static inline const char *gwb_why_text(uint32_t number)
 {
     switch (number) {
-    case GWB_WHY_NUMBER_RANGE: return "the number X is above 1,000,000";
+    case GWB_WHY_NUMBER_RANGE: return "the number X is outside 1 to 1,000,000";
     case GWB_WHY_NO_SOLID: return "there is no solid X";
     case GWB_WHY_NO_FACE: return "there is no face X";
     case GWB_WHY_NO_LOOP: return "there is no loop X";

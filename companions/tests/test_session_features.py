@@ -207,7 +207,7 @@ class Refusals(unittest.TestCase):
                  'PointRange: vertex 1 would lie at -2000000000 -4000000000 0, past 1,000,000,000'),
                 (lambda: self.bench.sketch(one.top), 32, one.top, f'NotFlat: face {one.top} has the lone loop {lone}'),
                 (lambda: self.bench.profile(outline, along=up, solid=2_000_000), 1, 2_000_000,
-                 'NumberRange: the number 2000000 is above 1,000,000')):
+                 'NumberRange: the number 2000000 is outside 1 to 1,000,000')):
             with self.subTest(text), self.assertRaises(Refused) as caught:
                 give()
             refusal = caught.exception

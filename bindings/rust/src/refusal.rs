@@ -4,7 +4,7 @@ use crate::named::named;
 named! {
 /// Which condition of a command is false. In the texts X is the value that goes with it; some commands give it a meaning of their own.
 Refusal {
-    NumberRange = 1: "the number X is above 1,000,000",
+    NumberRange = 1: "the number X is outside 1 to 1,000,000",
     NoSolid = 2: "there is no solid X",
     NoFace = 3: "there is no face X",
     NoLoop = 4: "there is no loop X",

@@ -52,7 +52,7 @@ NAMES: Dict[int, str] = {
 
 # What they say, in which X stands for the value.
 TEXTS: Dict[int, str] = {
-    1: 'the number X is above 1,000,000',
+    1: 'the number X is outside 1 to 1,000,000',
     2: 'there is no solid X',
     3: 'there is no face X',
     4: 'there is no loop X',
