@@ -1,6 +1,6 @@
 #!/usr/bin/env python3
-"""Compares the version in VERSION, at the top, with each place that says it, and the logic that the README names with that of the kit on this
-machine, where there is one. The last line says how many are as it is.
+"""Compares the version in VERSION, at the top, with each place that says it, and the logic that docs/PROOFS.md names with that of the kit
+on this machine, where there is one. The last line says how many are as it is.
 
     tests/versions.py
 """
@@ -48,15 +48,15 @@ def complaint(place: Place) -> str:
 
 
 def logic_complaint() -> str:
-    """What is wrong with the logic that the README names, or nothing. That the kit is none of those named is told, and isn't wrong: the proofs
-    rest on the logic."""
+    """What is wrong with the logic that docs/PROOFS.md names, or nothing. That the kit is none of those that the README names is told, and isn't wrong: the
+    proofs rest on the logic."""
     said = subprocess.run(['rt', 'version'], stdout=subprocess.PIPE, check=False, text=True).stdout
     kit = re.match(r'(\S+) logic (\w+)', said)
     if kit is None:
         return f'rt version: {said!r} names no logic'
     if not re.search(rf'`{kit.group(1)}\b', (TOP / 'README.md').read_text()):
         print(f'README.md: this kit, {kit.group(1)}, is none that it names')
-    return complaint(Place('README.md', r'`rattle-kit-\w+ logic (\w+)`', kit.group(2)))
+    return complaint(Place('docs/PROOFS.md', r'`rattle-kit-\w+ logic (\w+)`', kit.group(2)))
 
 
 def main() -> int:
@@ -67,7 +67,7 @@ def main() -> int:
         return 1
     found = [complaint(place) for place in places(version)]
     if shutil.which('rt') is None:
-        return told(found, [without('rt', 'the logic that README.md names')])
+        return told(found, [without('rt', 'the logic that docs/PROOFS.md names')])
     return told([*found, logic_complaint()])
 
 
