@@ -92,8 +92,8 @@ static void try_features()
     const Result<Profile> plate = profile(session, {{0, 0, 0}, {9, 0, 0}, {9, 8, 0}, {0, 8, 0}}, {0, 0, 7});
     check(plate && pocket(session, plate->far, {{2, 2, 7}, {4, 2, 7}, {4, 4, 7}}, 3), "a pocket in a plate");
     const Result<Pocket> deep = pocket(session, plate->far, {{6, 2, 7}, {8, 2, 7}, {8, 4, 7}}, 7);
-    check(deep.error().is(Misfit::meets) && std::string_view(deep.error().name()) == "Meets" && std::string_view(deep.error().text()) == gwb_cause_text(GWB_CAUSE_COMES_THROUGH) &&
-              *deep.error().text() != '\0' && deep.error().hit.kind == GWB_FACE, "one that comes through");
+    check(deep.error().is(Misfit::meets) && std::string_view(deep.error().name()) == "Meets" && std::string_view(deep.error().text()) == gwb_cause_text(GWB_CAUSE_TOUCHES_FACE) &&
+              *deep.error().text() != '\0' && deep.error().hit.kind == GWB_FACE, "one that reaches the far side");
     check(slot(session, plate->far, {6, 0, 7}, {6, 8, 7}, 2, 1) && *session.depth() == 3, "a slot");
     check(off_lattice(session, plate->solid, {2, 0, 0, -3})->factor().low == 2, "a cut between whole points");
 }
