@@ -42,25 +42,25 @@ SHARED_PAGE = 'larger_commands.md'
 HEADLINE = frozenset({'Rattle.commands.specs.Telling.Tells', 'Rattle.commands.specs.Telling.IsWhole', 'Rattle.undo_journal.specs.Journal.new_journal'})
 HEADLINE_PAGE = 'make_all.md'
 SHARED_TITLE = 'Larger commands'
-SHARED_TEXT = """When a lamina, a block, a sweep, a glue and a split are refused, by which of these conditions before memory is asked for, what models they make, and
-by which operators: the definitions that the contracts of `make_all` and `run` take by name."""
+SHARED_TEXT = """Here are the definitions that the contracts of `make_all` and `run` take by name: when a lamina, a block, a sweep, a glue and a split are refused, which
+of these conditions are tested before memory is asked for, what models the commands make, and by which operators."""
 WIDTH = 150
 # What the standard library says of bytes that are read and written, and the words of it that contracts of runs use.
 KNOWN_BYTES = 'rattle/std/specs/Io/KnownBytes.antt'
 BYTES = ('Appends', 'Consumes', 'IsAtEnd')
 HEAD = """# Statements
 
-This page has the contract of each theorem. Below it stand all definitions that the contract leads to, by their files, in the order in which they are used.
-Some are taken *by name* and left out: a law over bytes holds whatever `answers` is, what is said of the larger commands has a chapter of its own, and a
-law of handles takes `Tells` and `IsWhole`, which stand in the first chapter.
-[PROOFS.md](PROOFS.md) explains the signs. This writes each theorem with its definitions on one page:
+This page has the contracts of `make_all`, of `run`, of the laws of handles and of the laws over bytes. Below each contract stand the names of all definitions
+that it leads to, by their files, in the order in which they are used. Some definitions are taken *by name*, and what they lead to is left out: you can read a
+law over bytes without the definition of `answers`; the larger commands have a chapter of their own; and a law of handles uses `Tells` and `IsWhole`, which
+stand in the first chapter. [PROOFS.md](PROOFS.md) explains the signs. This command writes each theorem and its definitions as one page:
 
     tests/statement.py --pages FOLDER
 
 The *sum* is a checksum of that page, so it changes when a statement changes.
 
-A theorem tells what is read and written if the bytes of the reader and the writer are known, as those of a list of bytes are. If they aren't, as with files
-and pipes, these words of the standard library are true whatever happened, and a theorem says nothing of the bytes:
+If a reader or a writer is a list of bytes, a theorem says exactly what was read or written. If it is a file or a pipe, the contract sees no bytes (`None`):
+then these definitions of the standard library are simply true, and the theorem says nothing of the bytes:
 """
 MADE = 'Made by `tests/statement.py --write` from the sources; edit nothing here.'
 
@@ -298,14 +298,19 @@ def bullet(text: str) -> List[str]:
     return textwrap.wrap(f'- {text}', WIDTH, subsequent_indent='  ', break_on_hyphens=False, break_long_words=False)
 
 
+def several(count: int, what: str) -> str:
+    """So many of something."""
+    return f'{count} {what}{"" if count == 1 else "s"}'
+
+
 def links(things: List[Thing], by_name: FrozenSet[str], page: str) -> List[str]:
     """The definitions among these by their files, and the types of the code; and the sum of the page that has all of them."""
     definitions = [thing for thing in things if isinstance(thing, Definition) and not is_by_name(thing, by_name)]
     names = [f'`{thing.name}`' for thing in things if isinstance(thing, Definition) and is_by_name(thing, by_name)]
     kinds = [f'`{kind.crate}::{kind.name}`' for kind in types_of(things)]
     count = sum(bool(line.strip()) and not line.strip().startswith('--') for it in definitions for line in it.lines)
-    found = [f'{len(definitions)} definitions of {count} lines.' if definitions else '', f'By name: {", ".join(names)}.' if names else '',
-             f'Types of the code: {", ".join(kinds)}.' if kinds else '', f'Sum `{hashlib.sha256(page.encode()).hexdigest()[:12]}`.']
+    found = [f'{several(len(definitions), "definition")} of {several(count, "line")}.' if definitions else '',
+             f'By name: {", ".join(names)}.' if names else '', f'Types declared in code: {", ".join(kinds)}.' if kinds else '', f'Sum `{hashlib.sha256(page.encode()).hexdigest()[:12]}`.']
     return [*wrapped(' '.join(filter(None, found))), *([''] if definitions else []), *places(definitions)]
 
 
