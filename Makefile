@@ -63,7 +63,7 @@ try:
 	else echo 'there is no cc, so the library for C, C++, Rust and Python is left out'; fi
 	@echo 'Built, and nothing of it proved: out/gwb-unproved, and where cc is there libgwb.a and libgwb.so in out/unproved. For example:'
 	@echo '    out/gwb-unproved examples/block_with_hole.gwb'
-	@echo '    GWB=out/gwb-unproved companions/gwb-view --steps examples/block_with_hole.gwb > block.html'
+	@echo '    companions/gwb-view --steps examples/block_with_hole.gwb > block.html'
 	@echo '    bindings/examples/block.py out/unproved/libgwb.so'
 	@echo '    make check-unproved'
 

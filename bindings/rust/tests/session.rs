@@ -647,7 +647,7 @@ fn lines_are_answered_as_text() {
 fn errors_say_what_is_wrong() {
     let error: Box<dyn std::error::Error> = Box::new(block().kvfs(Solid(1)).unwrap_err());
     assert_eq!(error.to_string(), "NotBare 1");
-    assert_eq!(Refusal::NotBare.text(), "solid X has more than one face, a ring or an edge");
+    assert_eq!(Refusal::NotBare.text(), "solid X has more than a vertex");
     assert_eq!(format!("{:?}", block()), "Session { depth: 1, ahead: 0, .. }");
 }
 
