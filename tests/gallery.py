@@ -31,11 +31,13 @@ FORMS = ('.step', '.3mf', '.glb', '.obj', '.off', '.stl')
 MOST_LINES = 40
 HEAD = '''# A gallery
 
-Each part is a program in Python of at most 40 lines, which prints the size and the volume of each of its solids, and writes a file for CAD and a page to turn
-it. In the sources, after `make try`: `PYTHONPATH=companions python3 examples/gallery/gear.py`.
-FreeCAD 0.20 reads each STEP file as valid solids of the sizes and volumes below.
+Each part is a program in Python of at most 40 lines. It prints the size and the volume of each of its solids. Into the current folder it writes a STEP file
+and an HTML page on which you can rotate the part, such as `gear.step` and `gear.html`. In the sources, after `make try`:
+`PYTHONPATH=companions python3 examples/gallery/gear.py`. FreeCAD 0.20 reads each STEP file as valid solids of the sizes and volumes below.
 
-| | Part | Sizes, in millimetres | Volume |
+Volumes are exact, so one is a fraction; a `;` stands between the solids of a part.
+
+| | Part | Sizes, in mm | Volume, in mm³ |
 |---|---|---|---|
 '''
 

@@ -1,4 +1,4 @@
-"""A roof whose slope a chimney comes through."""
+"""A roof, and a chimney that goes through its slope."""
 from gwb import Workbench
 
 bench = Workbench()

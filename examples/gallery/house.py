@@ -1,4 +1,4 @@
-"""A house of 10 by 8 metres, a decimetre for each millimetre: walls, a door, windows on three sides, a gable roof."""
+"""A house of 10 by 8 metres, scale 1:100: walls, a door, windows on three sides, a gable roof."""
 from gwb import Workbench
 
 bench = Workbench()

@@ -1,4 +1,4 @@
-"""A plate of twelve six-sided pockets, each one millimetre deeper than the one before, in a plate with bevelled edges."""
+"""A plate with bevelled edges and twelve six-sided pockets, each 1 mm deeper than the one before."""
 from gwb import Workbench
 
 bench = Workbench()
