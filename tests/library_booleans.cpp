@@ -492,6 +492,38 @@ static void try_cavities()
           "three solids, two of them with a cavity");
 }
 
+// ---- many sides
+
+// An outline with notches in its upper side, four sides for each; `at` tells where its points lie.
+template <class At> static std::vector<Point> notched(std::int64_t notches, std::int64_t height, At at)
+{
+    std::vector<Point> points = {at(0, 0), at(4 * notches, 0), at(4 * notches, height)};
+    for (std::int64_t from = 4 * notches - 4; from >= 0; from -= 4)
+        points.insert(points.end(), {at(from + 3, height), at(from + 3, height - 2), at(from + 1, height - 2), at(from + 1, height)});
+    points.push_back(at(0, height));
+    return points;
+}
+
+// A column goes through a plate, both with notches, so that all faces that meet have more than 48 sides: those of the plate lie far from the column.
+static void try_many_sides(std::int64_t in_plate, std::int64_t in_column)
+{
+    const auto lying = [](std::int64_t u, std::int64_t v) { return Point{10 * u, 10 * v, 0}; };
+    const auto seen_along_y = [](std::int64_t u, std::int64_t v) { return Point{100 + u, 10, v - 5}; };
+    const auto seen_along_x = [](std::int64_t u, std::int64_t v) { return Point{100, 10 + u, v - 5}; };
+    for (Operation operation : {Operation::unite, Operation::subtract, Operation::intersect}) {
+        Workbench bench;
+        const Solid plate = profile(bench, notched(in_plate, 10, lying), {0, 0, 12}).solid;
+        const std::int64_t wide = 4 * in_column;
+        const Solid one = profile(bench, notched(in_column, 30, seen_along_y), {0, wide, 0}).solid;
+        const Solid column = intersect(bench, {one, profile(bench, notched(in_column, 30, seen_along_x), {wide, 0, 0}).solid});
+        const std::int64_t of_plate = measures_of(bench, plate).volume, of_column = measures_of(bench, column).volume, common = 6 * wide * wide * 12;
+        const std::array<std::int64_t, 3> expected = {of_plate + of_column - common, of_plate - common, common};
+        const auto which = static_cast<std::size_t>(operation);
+        const bool is_made = bool(combined(bench.attempt(), operation, {plate, column}));
+        check(is_made && measures_of(bench, plate).volume == expected[which], std::string(names[which]) + " of a plate and a column, with many sides");
+    }
+}
+
 int main(int argc, char **argv)
 {
     try_parts(argc > 1 ? std::stoull(argv[1]) : 400);
@@ -501,6 +533,8 @@ int main(int argc, char **argv)
     try_twisted();
     try_orders();
     try_cavities();
+    try_many_sides(12, 13);
+    try_many_sides(13, 12);
     for (const auto &[name, times] : outcomes)
         std::cout << name << ": " << times << '\n';
     if (argc <= 1)

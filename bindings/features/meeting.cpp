@@ -36,7 +36,7 @@ public:
     {
         const std::uint32_t small = all_.sheet(faces_[0]).sides.size() <= all_.sheet(faces_[1]).sides.size() ? 0 : 1;
         put_stops(small);
-        if (stops_.empty())
+        if (stops_.empty() && !all_.is_large(faces_[small])) // (of a large one sides that aren't near may have some)
             return;
         put_stops(1 - small);
         const auto comes_before = [&](const Stop &a, const Stop &b) { return all_.points.comes_before(a.point, b.point); };
