@@ -44,9 +44,9 @@ class Unit(unittest.TestCase):
     def test_the_least_factor_that_makes_all_points_whole(self):
         self.assertEqual(self.bench.step, 1)
         self.refused('NotLattice', lambda: self.bench.split(self.block, PLANE))
-        told = r'\b.*: NotLattice: the plane cuts edge 1 .*; in a step 6 times finer all its points are multiples of it, as refine=True'
+        told = r'^NotLattice: the plane cuts edge 1 .*; in a step 6 times finer all its points are multiples of it, as refine=True'
         for word in ('split', 'cut', 'trim'):
-            with self.assertRaisesRegex(Refused, f'^{word}{told}'):
+            with self.assertRaisesRegex(Refused, told):
                 getattr(self.bench, word)(self.block, PLANE)
         made = self.bench.split(self.block, PLANE, refine=True)
         self.assertEqual(self.bench.step, Fraction(1, 6))

@@ -49,7 +49,7 @@ impl Readers {
     /// ```
     /// # fn main() -> Result<(), gwb::Error> {
     /// use gwb::{Cause, Edge, Face, Met, Session};
-    /// let mut session = Session::open()?;
+    /// let mut session = Session::new()?;
     /// session.block(None, [0, 0, 0], [8, 8, 8])?;
     /// assert!(session.pocket(Face(1), &[[1, 1, 8], [9, 1, 8], [1, 5, 8]], 2).is_err());
     /// let hit = session.hit().unwrap();
