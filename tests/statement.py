@@ -1,5 +1,5 @@
 #!/usr/bin/env python3
-"""docs/STATEMENTS.md has each theorem: its public contract, and the names and places of all definitions that it leads to.
+"""docs/STATEMENTS.md has each theorem: its public contract, a short law in full, and the names and places of all definitions that it leads to.
 
     tests/statement.py [--write] [--pages FOLDER]
 
@@ -45,22 +45,31 @@ SHARED_TITLE = 'Larger commands'
 SHARED_TEXT = """Here are the definitions that the contracts of `make_all` and `run` take by name: when a lamina, a block, a sweep, a glue and a split are refused, which
 of these conditions are tested before memory is asked for, what models the commands make, and by which operators."""
 WIDTH = 150
+# So many lines has what the page quotes at most: a law, or a law with all that it rests on.
+SHORT = 12
 # What the standard library says of bytes that are read and written, and the words of it that contracts of runs use.
 KNOWN_BYTES = 'rattle/std/specs/Io/KnownBytes.antt'
 BYTES = ('Appends', 'Consumes', 'IsAtEnd')
 HEAD = """# Statements
 
-This page has the contracts of `make_all`, of `run`, of the laws of handles and of the laws over bytes. Below each contract stand the names of all definitions
-that it leads to, by their files, in the order in which they are used. Some definitions are taken *by name*, and what they lead to is left out: you can read a
-law over bytes without the definition of `answers`; the larger commands have a chapter of their own; and a law of handles uses `Tells` and `IsWhole`, which
-stand in the first chapter. [PROOFS.md](PROOFS.md) explains the signs. This command writes each theorem and its definitions as one page:
+This page has the contracts of `make_all`, of `run`, of the laws of handles and of the laws over bytes. Where a contract only names a law, the law stands
+below it; so do the definitions that it rests on, if all of this is 12 lines or less. Then come the names of all definitions that it rests on, by their files,
+in the order in which they are used. [PROOFS.md](PROOFS.md#how-to-read-a-statement) explains the signs. Some definitions are taken *by name*: what they lead
+to is left out.
+
+- `make_all` and `run` take what is said of the larger commands: it has the last chapter.
+- The laws of handles take `Tells` and `IsWhole`, which stand in the first chapter, and `new_journal`, which is a new session.
+- The laws over bytes take `answers`, all that is written for a script: you can read them without its definition. Those of a run also take `Outs`,
+  `output_of`, `summary_of` and `new_journal`.
+
+This command writes each theorem and its definitions as one page:
 
     tests/statement.py --pages FOLDER
 
-The *sum* is a checksum of that page, so it changes when a statement changes.
+*Sum* is a checksum of the page that this command writes for the theorem, so it changes when a statement changes.
 
 If a reader or a writer is a list of bytes, a theorem says exactly what was read or written. If it is a file or a pipe, the contract sees no bytes (`None`):
-then these definitions of the standard library are simply true, and the theorem says nothing of the bytes:
+then `Appends`, `Consumes` and `IsAtEnd` below hold trivially, so the theorem promises nothing about the bytes:
 """
 MADE = 'Made by `tests/statement.py --write` from the sources; edit nothing here.'
 
@@ -304,13 +313,14 @@ def several(count: int, what: str) -> str:
 
 
 def links(things: List[Thing], by_name: FrozenSet[str], page: str) -> List[str]:
-    """The definitions among these by their files, and the types of the code; and the sum of the page that has all of them."""
+    """The definitions among these by their files, and the types of the code; and the sum of the page that has all of them. Those of larger commands are named once."""
     definitions = [thing for thing in things if isinstance(thing, Definition) and not is_by_name(thing, by_name)]
     names = [f'`{thing.name}`' for thing in things if isinstance(thing, Definition) and is_by_name(thing, by_name)]
     kinds = [f'`{kind.crate}::{kind.name}`' for kind in types_of(things)]
     count = sum(bool(line.strip()) and not line.strip().startswith('--') for it in definitions for line in it.lines)
-    found = [f'{several(len(definitions), "definition")} of {several(count, "line")}.' if definitions else '',
-             f'By name: {", ".join(names)}.' if names else '', f'Types declared in code: {", ".join(kinds)}.' if kinds else '', f'Sum `{hashlib.sha256(page.encode()).hexdigest()[:12]}`.']
+    by_names = f'{len(names)} of the chapter [{SHARED_TITLE}](#{SHARED_TITLE.lower().replace(" ", "-")})' if by_name is SHARED else ', '.join(names)
+    found = [f'It rests on {several(len(definitions), "definition")}, {several(count, "line")} together.' if definitions else '',
+             f'By name: {by_names}.' if names else '', f'Types declared in code: {", ".join(kinds)}.' if kinds else '', f'Sum `{hashlib.sha256(page.encode()).hexdigest()[:12]}`.']
     return [*wrapped(' '.join(filter(None, found))), *([''] if definitions else []), *places(definitions)]
 
 
@@ -326,15 +336,28 @@ def sentence(theorem: Theorem) -> str:
     return told_of if theorem.law else told_of.partition('. ')[0] + '.'
 
 
+def clauses(definitions: List[Definition]) -> List[str]:
+    """The lines of definitions without their types."""
+    return [line for it in definitions for line in it.lines if not line.startswith(f'{it.name} : ')]
+
+
+def short_law(theorem: Theorem) -> List[str]:
+    """A theorem's law, with all that it rests on if that is short; nothing where the law is long, or there is none."""
+    found = [it for it in things_of(theorem) if isinstance(it, Definition) and not is_by_name(it, theorem.by_name)] if theorem.law else []
+    return clauses(found) if len(clauses(found)) <= SHORT else clauses(found[:1]) if len(clauses(found[:1])) <= SHORT else []
+
+
 def chapter(theorem: Theorem, page: str) -> List[str]:
     """What docs/STATEMENTS.md has of a theorem."""
     lines = (CRATES / theorem.file).read_text().splitlines()
-    return ['', f'## {theorem.title}', *wrapped(sentence(theorem)), *code('rust', theorem.head(lines)), *links(things_of(theorem), theorem.by_name, page)]
+    return ['', f'## {theorem.title}', *wrapped(sentence(theorem)), *code('rust', theorem.head(lines)), *code('antt', short_law(theorem)),
+            *links(things_of(theorem), theorem.by_name, page)]
 
 
 def shared_chapter(page: str) -> List[str]:
     """What it has of the larger commands."""
-    return ['', f'## {SHARED_TITLE}', '', *SHARED_TEXT.splitlines(), *links(shared_things(), frozenset(), page)]
+    names = ', '.join(f'`{name.rpartition(".")[2]}`' for name in LARGER)
+    return ['', f'## {SHARED_TITLE}', '', *SHARED_TEXT.splitlines(), *wrapped(f'The {len(LARGER)}: {names}.'), *links(shared_things(), frozenset(), page)]
 
 
 def kit() -> Optional[Path]:
@@ -354,9 +377,7 @@ def words_of_bytes() -> List[str]:
 
 def text_of(pages: Dict[str, str]) -> str:
     """The text of docs/STATEMENTS.md."""
-    lines, laws, *others = theorems()
-    found = [*chapter(lines, pages[lines.page]), *chapter(laws, pages[laws.page]), *shared_chapter(pages[SHARED_PAGE])]
-    found += [line for theorem in others for line in chapter(theorem, pages[theorem.page])]
+    found = [line for theorem in theorems() for line in chapter(theorem, pages[theorem.page])] + shared_chapter(pages[SHARED_PAGE])
     return '\n'.join([*HEAD.splitlines(), *code('antt', words_of_bytes()), *found, '', MADE]) + '\n'
 
 
