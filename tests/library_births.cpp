@@ -626,7 +626,8 @@ void try_refused(long step)
         check(listing(&g) == listing(&wanted) && gwb_depth(&g) == gwb_depth(&wanted), "another model where a request is refused");
         const bool are_lost = gwb_birth(&g, GWB_SOLID, 1) == 0;
         lost += are_lost;
-        check(has_births(&g, !are_lost) && gwb_compare(&g) == (are_lost ? GWB_MEMORY : GWB_OK), "births are neither known nor lost");
+        const gwb_kind compared = gwb_compare(&g); // (what solids were may be lost alone)
+        check(has_births(&g, !are_lost) && (compared == GWB_MEMORY || (compared == GWB_OK && !are_lost)), "births are neither known nor lost");
         check(gwb_watch(&g, false) == GWB_OK && has_births(&g, true), "births are known again");
         gwb_close(&g);
         check(requests.live == 0, "leaks");
