@@ -151,6 +151,8 @@ built 'features are built' library_features.cpp "${CXX:-c++}" -std=c++17 -Wold-s
 counted 'solids killed, copied and moved' "$dir/built/library_features"
 built 'machining is built' library_machining.cpp "${CXX:-c++}" -std=c++17 -Wold-style-cast -Wshadow
 counted 'features and cuts as in Python, and beside unit cubes' "$dir/built/library_machining"
+built 'features on large faces are built' library_near.cpp "${CXX:-c++}" -std=c++17 -O1 -Wold-style-cast -Wshadow
+counted 'features on large faces, beside small ones' "$dir/built/library_near"
 built 'Booleans are built' library_booleans.cpp "${CXX:-c++}" -std=c++17 -O1 -Wold-style-cast -Wshadow
 counted 'Booleans beside unit cubes, and each refusal' "$dir/built/library_booleans"
 sed -n 's/^\([^:]*: [0-9]*\)$/  \1/p' "$dir/log"
@@ -224,7 +226,7 @@ if has cargo 'cargo check where there is no archive' 'cargo doc where there is n
         --manifest-path bindings/rust/Cargo.toml
 fi
 # (each is a program that was built above)
-in_cpp='library_cpp library_results library_history library_features library_machining library_booleans library_record library_watch library_births library_outlines library_heap library_load library_triangles'
+in_cpp='library_cpp library_results library_history library_features library_machining library_near library_booleans library_record library_watch library_births library_outlines library_heap library_load library_triangles'
 threads='library_threads library_sharing library_pages'
 if has valgrind 'valgrind over the example in C' $in_cpp $threads; then
     tried 'valgrind over the example in C' valgrind -q --error-exitcode=9 --leak-check=full --show-leak-kinds=all "$dir/alone/block_c"
@@ -253,7 +255,7 @@ if "${CC:-cc}" $sanitizers -o "$dir/empty" "$dir/empty.c" 2> "$dir/err" && "$dir
     for name in library_features_refused library_record library_watch library_outlines library_heap library_load library_triangles library_threads library_pages library_worked; do
         sanitized "$name.c" "${CC:-cc}" -std=gnu11
     done
-    for name in library_cpp library_history library_features library_machining library_booleans library_births library_sharing; do
+    for name in library_cpp library_history library_features library_machining library_near library_booleans library_births library_sharing; do
         sanitized "$name.cpp" "${CXX:-c++}" -std=c++17
     done
     sanitized library_results.cpp "${CXX:-c++}" -std=c++17 -fno-exceptions

@@ -3,12 +3,13 @@
 #pragma once
 #include "sheets.hpp"
 #include <deque>
+#include <unordered_set>
 
 namespace gwb_session::sheets {
 
 // ---- the solid that is held
 
-/// Faces of a solid as a model of their own.
+/// Faces of a solid as a model of their own. In loops and among edges runs stand for what lies far.
 struct Model {
     Solid solid;
     std::map<Face, std::vector<Loop>> faces; ///< their loops, the outer one first
@@ -16,6 +17,7 @@ struct Model {
     std::map<Loop, Vertex> lone; ///< of loops without half-edges
     std::map<Edge, std::pair<Vertex, Vertex>> edges;
     std::map<Vertex, Vector> vertices;
+    std::map<HalfEdge, std::shared_ptr<const Chain>> runs;
 
     explicit Model(Solid of = {}) : solid(of) {}
 
@@ -30,7 +32,11 @@ struct Model {
         return half.is_second() ? ends.second : ends.first;
     }
     [[nodiscard]] const Vector &at(HalfEdge half) const { return vertices.at(start(half)); }
-    [[nodiscard]] Side side(HalfEdge half) const { return {at(half), at(half.twin()), half}; }
+    [[nodiscard]] Side side(HalfEdge half) const
+    {
+        const auto *run = look_up(runs, half);
+        return {at(half), at(half.twin()), half, run != nullptr ? run->get() : nullptr};
+    }
 
     /// Takes in a loop of a workbench.
     void read(const Bench &bench, Face face, Loop loop)
@@ -42,12 +48,32 @@ struct Model {
             vertices[*vertex] = vector(bench.vertex(*vertex));
         }
         for (HalfEdge half : loops[loop] = bench.half_edges(loop))
-            if (const auto [edge, is_new] = edges.try_emplace(half.edge()); is_new) {
-                const auto [from, to] = bench.edge(half.edge());
-                edge->second = {from, to};
-                for (Vertex end : {from, to})
-                    vertices[end] = vector(bench.vertex(end));
-            }
+            read(bench, half.edge());
+    }
+    /// The same of what is near of a loop that has an edge.
+    void read(const Bench &bench, Face face, Loop loop, const Chain::Near &near)
+    {
+        go_on();
+        faces[face].push_back(loop);
+        for (const auto &run : near.runs) {
+            const HalfEdge half = run_from(run->first().half);
+            runs[half] = run;
+            edges[half.edge()] = {bench.start_of(run->first().half), bench.end_of(run->last().half)};
+        }
+        loops[loop] = from_least(mapped(near.sides, [](const Side &side) { return side.half; }));
+        for (const Side &side : near.sides)
+            if (side.run == nullptr)
+                read(bench, side.half.edge());
+    }
+    void read(const Bench &bench, Edge number)
+    {
+        const auto [edge, is_new] = edges.try_emplace(number);
+        if (!is_new)
+            return;
+        const auto [from, to] = bench.edge(number);
+        edge->second = {from, to};
+        for (Vertex end : {from, to})
+            vertices[end] = vector(bench.vertex(end));
     }
     /// All of a solid. Refused: NoSolid.
     static Model whole(const Bench &bench, Solid solid)
@@ -80,6 +106,7 @@ struct Model {
         replace(found.loops, part.loops, made.loops);
         replace(found.edges, part.edges, made.edges);
         replace(found.vertices, part.vertices, made.vertices);
+        found.runs.insert(made.runs.begin(), made.runs.end());
         return found;
     }
     [[nodiscard]] std::string listing() const
@@ -123,13 +150,15 @@ public:
     {
         for (const auto &[vertex, at] : model.vertices)
             vertices_at[at].push_back(vertex);
+        for (const auto &[half, run] : model.runs)
+            put_ends(half, *run);
         put_rest();
     }
 
     /// The loop of a half-edge: none where that is one of the rest.
     [[nodiscard]] Loop loop_of(HalfEdge half) const
     {
-        const Loop loop = bench_.loop_of(half);
+        const Loop loop = bench_.loop_of(first_of(half));
         return model.loops.count(loop) != 0 ? loop : Loop();
     }
     /// Whether the side is all of a half-edge.
@@ -153,7 +182,19 @@ public:
     std::map<Vector, std::vector<Vertex>> vertices_at;
 
 private:
-    [[nodiscard]] bool is_held(HalfEdge half) const { return loop_of(half) != Loop(); }
+    /// The loop has a run, of which the half-edges are of the rest as well.
+    void put_ends(HalfEdge half, const Chain &run)
+    {
+        run_to_[run.last().half] = half;
+        const Loop loop = loop_of(half);
+        if (loops_with_runs_.insert(loop).second)
+            beside_runs_.insert(model.loops.at(loop).begin(), model.loops.at(loop).end());
+    }
+    [[nodiscard]] bool is_held(HalfEdge half) const
+    {
+        const Loop loop = loop_of(half);
+        return loop != Loop() && (loops_with_runs_.count(loop) == 0 || beside_runs_.count(half) != 0);
+    }
 
     /// Each half-edge of the rest leads to the next one round the vertex at its end, where edges of the rest alone are missing.
     void put_rest()
@@ -161,20 +202,29 @@ private:
         std::set<HalfEdge> left;
         for (const auto &[loop, halves] : model.loops)
             for (HalfEdge half : halves)
-                if (!is_held(half.twin()))
+                if (is_run(half) || !is_held(half.twin()))
                     left.insert(half.twin());
         while (!left.empty()) {
             Cycle &cycle = rest.emplace_back();
-            for (HalfEdge half = *left.begin(); left.erase(half) != 0;) {
+            for (HalfEdge half = *left.begin(); left.erase(half) != 0; half = after(half)) {
                 go_on();
                 cycle.push_back(model.side(half));
-                half = bench_.next(half);
-                while (!is_held(half.twin()))
-                    half = bench_.next(half.twin());
             }
         }
     }
+    [[nodiscard]] HalfEdge after(HalfEdge half) const
+    {
+        for (HalfEdge last = is_run(half) ? first_of(half.twin()).twin() : half;; last = bench_.next(last).twin()) {
+            if (is_held(last))
+                return last.twin();
+            if (const auto run = run_to_.find(last); run != run_to_.end())
+                return run->second.twin();
+        }
+    }
 
+    std::unordered_map<HalfEdge, HalfEdge> run_to_; ///< by the last half-edge of each
+    std::unordered_set<Loop> loops_with_runs_;
+    std::unordered_set<HalfEdge> beside_runs_; ///< of these loops
     const Bench &bench_;
     bool keeps_vertices_;
 };
@@ -222,6 +272,7 @@ public:
             if (!placed.goes_on)
                 join(placed);
         Model made(solid);
+        made.runs = held_.model.runs;
         name_vertices(made);
         name_edges(made);
         for (std::size_t region = 0; region < regions_.size(); region++)
@@ -339,6 +390,8 @@ private:
     [[nodiscard]] bool divides(const Placed &placed) const
     {
         const Placed &onward = *placed.mate->after;
+        if (is_run(placed.side.half) || is_run(onward.side.half))
+            return false;
         return &onward != &placed && onward.mate->after == &placed && !held_.is_fixed(placed.side.start) &&
                reduced(placed.side.way()) == negative(reduced(onward.side.way()));
     }

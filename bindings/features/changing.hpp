@@ -32,6 +32,8 @@ public:
             link(loop[at], loop[(at + 1) % loop.size()]);
     }
     [[nodiscard]] HalfEdge after(HalfEdge half) const { return after_.at(half); }
+    /// The same as an operator names it.
+    [[nodiscard]] HalfEdge corner_after(HalfEdge half) const { return first_of(after(half)); }
 
     /// The edge goes: its two loops become one, or the edge that sticks out is cut off. What comes before each of its half-edges leads past it.
     void take(Edge edge)
@@ -249,7 +251,7 @@ private:
             loop_of_[other] = ring;
         faces_++;
         take_edge(half, operator_of(&Bench::kemr, half, ring),
-                  [&](Edge edge) { return operator_of(&Bench::mekr, halves_.after(half.twin()), halves_.after(half), edge); });
+                  [&](Edge edge) { return operator_of(&Bench::mekr, halves_.corner_after(half.twin()), halves_.corner_after(half), edge); });
         ring_out(face, ring, spare);
     }
 
@@ -263,7 +265,7 @@ private:
         require(!is_fast(face), OtherKind());
         faces_--;
         take_edge(half, operator_of(&Bench::kef, half),
-                  [&](Edge edge) { return operator_of(&Bench::mef, halves_.after(half.twin()), halves_.after(half), edge, face, gone); });
+                  [&](Edge edge) { return operator_of(&Bench::mef, halves_.corner_after(half.twin()), halves_.corner_after(half), edge, face, gone); });
         loops_.join(loop_at(half), gone);
     }
 
@@ -275,7 +277,7 @@ private:
         const bool is_last = corner == half;
         if (is_last)
             half = plus(half.edge());
-        const Corner place = is_last ? lone(loop_at(half)) : Corner(corner);
+        const Corner place = is_last ? lone(loop_at(half)) : Corner(first_of(corner));
         const Vertex leaf = model_.start(half.twin());
         take_edge(half, operator_of(&Bench::kev, half), [&](Edge edge) { return grown(place, edge, leaf); });
     }
@@ -289,7 +291,7 @@ private:
             step(takes, makes(edge));
         } else {
             operators.push_back(operator_of(&Bench::kef, plus(spare_edge())));
-            operators.push_back(operator_of(&Bench::mef, minus(spare_edge()), halves_.after(plus(edge)), edge, spare_face(), spare_loop()));
+            operators.push_back(operator_of(&Bench::mef, minus(spare_edge()), halves_.corner_after(plus(edge)), edge, spare_face(), spare_loop()));
             operators.push_back(makes(spare_edge()));
         }
         halves_.take(edge);

@@ -74,7 +74,7 @@ private:
     void take(Face face, const std::vector<Cycle> &near)
     {
         for (const Side &side : joined(near)) {
-            if (box_of(side).meets(box_))
+            if (side.run == nullptr && box_of(side).meets(box_))
                 edges_.take(side.half.edge().number(), side.half.is_second() ? side.turned() : side, face);
             if (box_of(side.start).meets(box_))
                 vertices_.take(model_.start(side.half).number(), {side.start, side.start}, face);
@@ -152,9 +152,20 @@ private:
 struct Part {
     Model model;
     std::set<Face> fast;
+
+    /// The loops of which some isn't in it.
+    [[nodiscard]] std::set<Loop> loops_with_runs() const
+    {
+        std::set<Loop> found;
+        for (const auto &[loop, halves] : model.loops)
+            if (any(halves, is_run))
+                found.insert(loop);
+        return found;
+    }
 };
 
-/// The faces of a solid whose outlines meet a box or are wanted, without the other rings where the face looks the same way without them.
+/// The faces of a solid whose outlines meet a box or are wanted, without the other rings where the face looks the same way without them. Of loops of flat faces
+/// that aren't wanted what lies near.
 inline Part part_near(const Bench &bench, const Surface &surface, Solid solid, const Box &box, const std::set<Loop> &wanted)
 {
     Part found{Model(solid), {}};
@@ -166,15 +177,21 @@ inline Part part_near(const Bench &bench, const Surface &surface, Solid solid, c
         if (loops.count(outer) == 0)
             continue;
         const Plane *plane = surface.plane(face);
-        const bool needs_all = plane == nullptr || dot(plane->across, area_of(surface.cycle(outer))) <= 0;
+        const bool needs_all = plane == nullptr || dot(plane->across, surface.chain(outer).area()) <= 0;
         const auto rings = bench.rings(face);
         const bool is_fast = !needs_all && any(rings, [&near = loops](Loop ring) { return near.count(ring) == 0; });
         if (is_fast)
             found.fast.insert(face);
-        found.model.read(bench, face, outer);
+        const auto read = [&, &of = face](Loop loop) {
+            if (plane == nullptr || wanted.count(loop) != 0)
+                found.model.read(bench, of, loop);
+            else
+                found.model.read(bench, of, loop, surface.chain(loop).near(box));
+        };
+        read(outer);
         for (Loop ring : is_fast ? loops : std::set<Loop>(rings.begin(), rings.end()))
             if (ring != outer)
-                found.model.read(bench, face, ring);
+                read(ring);
     }
     return found;
 }
@@ -250,7 +267,7 @@ inline bool put_moves(const Bench &bench, const Surface &surface, Face face, con
         if (std::binary_search(looked_at.begin() + 1, looked_at.end(), ring))
             return true;
         const auto around = std::find_if(became.begin(), became.end(), [&](const auto &region) {
-            return any(surface.cycle(ring), [&](const Side &side) { return region.second->locate({side.start}) == Place::inside; });
+            return any(surface.chain(ring).sides(), [&](const Side &side) { return region.second->locate({side.start}) == Place::inside; });
         });
         if (around != became.end() && around->first != face)
             moves.push_back(changing::operator_of(&Bench::ring_in, ring, around->first));
@@ -281,17 +298,34 @@ inline void give(Bench &bench, const std::vector<Operator> &operators)
 }
 
 /// The loops that are wanted besides a part's, where no operators make of it what is to come: those along which edges at its rim become one, and the
-/// outlines around them; where there are none, the rings that it lacks.
+/// outlines around them; where there are none, all of those of which it has what is near, or the rings that it lacks.
 inline std::set<Loop> wanted_besides(const Bench &bench, const Part &part, const Combined &combined)
 {
     std::set<Loop> found;
     for (HalfEdge half : combined.beyond)
         found.insert({bench.loop_of(half), bench.face(bench.face_of(half)).outer_loop});
+    if (found.empty())
+        found = part.loops_with_runs();
     for (Face face : found.empty() ? part.fast : std::set<Face>()) {
         const auto rings = bench.rings(face);
         found.insert(rings.begin(), rings.end());
     }
     return found;
+}
+
+/// What is known of a solid's surface follows what a part of it became.
+inline void follow(Surface &surface, const Model &part, const Model &made)
+{
+    const auto is_in = [](const Model &model, Face face, const Model &other) {
+        const std::vector<Loop> *loops = look_up(other.faces, face);
+        return loops != nullptr && *loops == model.faces.at(face) && other.cycles(face) == model.cycles(face);
+    };
+    for (const auto &[face, loops] : part.faces)
+        if (!is_in(part, face, made))
+            surface.forget(face, loops);
+    for (const auto &[face, loops] : made.faces)
+        if (!is_in(made, face, part))
+            surface.put(face, loops, made.cycles(face));
 }
 
 /// Makes what comes of the faces of a solid near a box: by operators on those that differ, without the loops elsewhere, else with the
@@ -304,24 +338,25 @@ Combined make_near(Bench &bench, Solid solid, const Box &box, const std::vector<
         const Surface &surface = known.surface(bench, solid);
         const Part part = part_near(bench, surface, solid, box, wanted);
         AllNames names(bench);
-        Combined found = combined(bench, part.model, box, others, names, why, lay, check);
-        const auto operators = found.beyond.empty() ? operators_for(bench, surface, part, found, names) : std::nullopt;
-        if (!operators && !(more = wanted_besides(bench, part, found)).empty())
+        std::optional<Combined> found;
+        try {
+            found = combined(bench, part.model, box, others, names, why, lay, check);
+        } catch (const FarInTheWay &) {
+            more = part.loops_with_runs();
+            continue;
+        }
+        const auto operators = found->beyond.empty() ? operators_for(bench, surface, part, *found, names) : std::nullopt;
+        if (!operators && !(more = wanted_besides(bench, part, *found)).empty())
             continue;
         for (const Model &other : others)
             take_away(bench, other.solid);
         if (!operators) {
-            make_anew(bench, Model::whole(bench, solid).with(part.model, found.model));
-            return found;
+            make_anew(bench, Model::whole(bench, solid).with(part.model, found->model));
+            return *found;
         }
         give(bench, *operators);
-        known.follow(bench, solid, [&](Surface &of) {
-            for (const auto &[face, loops] : part.model.faces)
-                of.forget(face, loops);
-            for (const auto &[face, loops] : found.model.faces)
-                of.put(face, loops, found.model.cycles(face));
-        });
-        return found;
+        known.follow(bench, solid, [&](Surface &of) { follow(of, part.model, found->model); });
+        return *found;
     }
 }
 

@@ -128,20 +128,23 @@ inline Vector way_of(Face face, const Vector &across, const Reach &reach, bool i
 inline Vector start_of(const Bench &bench, HalfEdge half) { return vector(bench.vertex(bench.start_of(half))); }
 inline Side side_at(const Bench &bench, HalfEdge half) { return {start_of(bench, half), start_of(bench, half.twin()), half}; }
 
-/// The sides of the loops of a face, the outer one first; the vertex of a lone one, as a side of no length.
+/// The sides of a loop; the vertex of a lone one, as a side of no length.
+inline Cycle cycle_at(const Bench &bench, Loop loop)
+{
+    if (const std::optional<Vertex> vertex = bench.lone_vertex(loop))
+        return cycle_of({vector(bench.vertex(*vertex))});
+    return mapped(bench.half_edges(loop), [&](HalfEdge half) { return side_at(bench, half); });
+}
+/// Those of the loops of a face, the outer one first.
 inline std::vector<Cycle> cycles_at(const Bench &bench, Face face)
 {
     go_on();
-    return mapped(bench.loops_of(face), [&](Loop loop) {
-        if (const std::optional<Vertex> vertex = bench.lone_vertex(loop))
-            return cycle_of({vector(bench.vertex(*vertex))});
-        return mapped(bench.half_edges(loop), [&](HalfEdge half) { return side_at(bench, half); });
-    });
+    return mapped(bench.loops_of(face), [&](Loop loop) { return cycle_at(bench, loop); });
 }
 
 // ---- what lies near
 
-/// The loops of a solid with their sides, by boxes, and the planes of its faces.
+/// The loops of a solid with their sides, by boxes, and the planes of its faces. Loops have many sides, of which a feature reads those near it.
 class Surface {
 public:
     Surface(const Bench &bench, Solid solid)
@@ -160,8 +163,8 @@ public:
     void put(Face face, const std::vector<Loop> &loops, const std::vector<Cycle> &cycles)
     {
         for (std::size_t at = 0; at < loops.size(); at++) {
-            boxes_.put(box_of(cycles[at]), loops[at].number());
-            loops_.insert_or_assign(loops[at], cycles[at]);
+            const Chain &chain = loops_.insert_or_assign(loops[at], Chain(cycles[at])).first->second;
+            boxes_.put(chain.box(), loops[at].number());
         }
         if (const std::optional<Plane> plane = planes_.count(face) == 0 ? flat_plane(joined(cycles)) : std::nullopt)
             planes_.emplace(face, *plane);
@@ -172,7 +175,7 @@ public:
     {
         planes_.erase(face);
         for (Loop loop : loops) {
-            boxes_.take_away(box_of(cycle(loop)), loop.number());
+            boxes_.take_away(chain(loop).box(), loop.number());
             loops_.erase(loop);
         }
     }
@@ -182,9 +185,9 @@ public:
     /// Such a face, so far as some of its loops tell.
     [[nodiscard]] Shape shape(Face face, const std::set<Loop> &loops) const
     {
-        return {planes_.at(face), mapped(loops, [&](Loop loop) { return cycle(loop); })};
+        return {planes_.at(face), mapped(loops, [&](Loop loop) { return Cycle{chain(loop).closed()}; })};
     }
-    [[nodiscard]] const Cycle &cycle(Loop loop) const { return loops_.at(loop); }
+    [[nodiscard]] const Chain &chain(Loop loop) const { return loops_.at(loop); }
 
     /// The loops that meet a box, by faces.
     [[nodiscard]] std::map<Face, std::set<Loop>> near(const Bench &bench, const Box &box) const
@@ -219,7 +222,7 @@ private:
         std::pair<Shape, std::vector<LoopSide>> found(shape(face, loops), {});
         const Cycle own = cycle_of(path);
         for (Loop loop : loops)
-            for (const Side &side : cycle(loop))
+            for (const Side &side : chain(loop).meeting(box_of(path)))
                 if (found.first.is_met(side, own))
                     found.second.emplace_back(loop, side);
         return found;
@@ -247,7 +250,7 @@ private:
         return met(GWB_CAUSE_EDGE_TOUCHED, side.half.edge());
     }
 
-    std::unordered_map<Loop, Cycle> loops_;
+    std::unordered_map<Loop, Chain> loops_;
     std::map<Face, Plane> planes_;
     BoxIndex boxes_;
 };
@@ -337,7 +340,7 @@ inline void require_room(const Bench &bench, const Surface &surface, const Vecto
     std::vector<std::pair<Face, Shape>> faces;
     for (const auto &[of, loops] : surface.near(bench, box)) {
         for (Loop loop : loops)
-            append(edges, filtered(surface.cycle(loop), [&](const Side &edge) { return box_of(edge).meets(box); }));
+            append(edges, surface.chain(loop).meeting(box));
         if (of != face && of != other && surface.plane(of) != nullptr)
             faces.emplace_back(of, surface.shape(of, loops));
     }
@@ -457,7 +460,7 @@ inline Ring make_ring(Bench &bench, Face face, Items<Point> points)
     const Drawing drawn(bench, face, points);
     Ring made = draw(bench, face, drawn.path);
     drawn.known.follow(bench, drawn.solid, [&](Surface &surface) {
-        surface.put(face, {made.loop}, {cycle_of(drawn.path)});
+        surface.put(face, {made.loop}, {cycle_at(bench, made.loop)});
         surface.put(bench, made.face);
     });
     if (drawn.is_turned()) {
@@ -482,11 +485,11 @@ inline Pocket move_outline(Bench &bench, Face face, const Drawing &drawn, const 
     if (other != Face())
         bench.kfmrh(other, ring.face);
     drawn.known.follow(bench, drawn.solid, [&](Surface &of) {
-        of.put(face, {ring.loop}, {cycle_of(drawn.path)});
+        of.put(face, {ring.loop}, {cycle_at(bench, ring.loop)});
         for (Face side : sides)
             of.put(bench, side);
         if (other != Face())
-            of.put(other, {far_ring}, {cycle_of(far)});
+            of.put(other, {far_ring}, {cycle_at(bench, far_ring)});
         else
             of.put(bench, ring.face);
     });

@@ -262,7 +262,7 @@ void meet_in_plane(Operands &all, Pair faces)
         all.faces[face].is_met = true;
     for (std::size_t at = 0; at < one.sides.size(); at++) {
         const Box box = box_of(one.sides[at]);
-        if (!box.meets(two.box))
+        if (one.sides[at].run != nullptr || !box.meets(two.box))
             continue;
         go_on();
         for (std::size_t beyond : all.sides_near(faces[1], box))

@@ -29,6 +29,7 @@ void Operands::put(const Sheet &sheet, Number solid)
             edges.push_back({is_second ? side.turned() : side, is_second ? to : from, is_second ? from : to, solid});
         (is_second ? edges[edge->second].right : edges[edge->second].left) = own;
         face.corners.push_back(from), face.nexts.push_back(to), face.edges.push_back(edge->second);
+        face.has_run = face.has_run || side.run != nullptr;
     }
 }
 
@@ -47,7 +48,7 @@ const BoxIndex &Operands::sides_by_boxes(Number face)
 std::vector<std::size_t> Operands::sides_near(Number face, const Box &box)
 {
     if (is_large(face))
-        return sides_by_boxes(face).meeting(box);
+        return filtered(sides_by_boxes(face).meeting(box), [&](std::size_t at) { return sheet(face).sides[at].run == nullptr; });
     std::vector<std::size_t> all(faces[face].edges.size());
     std::iota(all.begin(), all.end(), std::size_t{0});
     return all;

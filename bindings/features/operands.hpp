@@ -18,6 +18,7 @@ struct FlatFace {
     Number solid;
     std::vector<Number> corners = {}, nexts = {}, edges = {};
     bool is_met = false;                      ///< by another solid
+    bool has_run = false;                     ///< so that of its sides those near are there
     std::unique_ptr<BoxIndex> by_boxes = {};  ///< the places of its sides, where these are many
     std::vector<Number> touched = {};         ///< of more than two solids: points within it at which corners and edges of others lie
 };
@@ -51,10 +52,11 @@ public:
     [[nodiscard]] const Box &box(Number solid) const { return around_[solid]; }
 
     [[nodiscard]] const Sheet &sheet(Number face) const { return *faces[face].sheet; }
+    [[nodiscard]] const CutEdge &edge(HalfEdge half) const { return edges[edge_numbers_.at(half.edge())]; }
 
     /// Whether the sides of a face are so many that those near something are looked up.
-    [[nodiscard]] bool is_large(Number face) const { return faces[face].edges.size() > many_sides; }
-    /// The places of the sides of a face near a box: all of a face that isn't large.
+    [[nodiscard]] bool is_large(Number face) const { return faces[face].has_run || faces[face].edges.size() > many_sides; }
+    /// The places of the sides of a face near a box, but for runs: all of a face that isn't large.
     [[nodiscard]] std::vector<std::size_t> sides_near(Number face, const Box &box);
     /// Where a point of the plane of a face lies.
     [[nodiscard]] Place locate(Number face, const ScaledPoint &point);

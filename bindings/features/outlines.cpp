@@ -50,6 +50,7 @@ public:
         for (const Bound *bound : bounds_)
             if (between_.count(bound->from) == 0)
                 put_side(*bound);
+        require_one_far();
         const Bound &first = *bounds_[0];
         const Plane &plane = all_.sheet(first.owner).plane;
         if (is_as_it_was()) {
@@ -79,8 +80,8 @@ private:
             half = half != HalfEdge() ? half : last->half;
             take_owners(*last, owners);
         }
-        sides_.push_back({all_.points.at(first.from).at, all_.points.at(last->to).at, half});
-        owners_[{sides_.back().start, sides_.back().end}] = std::move(owners);
+        sides_.push_back({all_.points.at(first.from).at, all_.points.at(last->to).at, half, is_run(half) ? all_.edge(half).side.run : nullptr});
+        owners_[sides_.back()] = std::move(owners);
     }
 
     /// The faces that a bound is a part of join those of its side, where there is none of their solid.
@@ -93,6 +94,16 @@ private:
         take(bound.owner);
         for (Number face : bound.others)
             take(face);
+    }
+
+    /// Of runs of several faces some sides may go as seams.
+    void require_one_far() const
+    {
+        std::set<Number> far;
+        for (const Bound *bound : bounds_)
+            if (is_run(bound->half))
+                far.insert(bound->owner);
+        require(far.size() <= 1, FarInTheWay());
     }
 
     /// Whether this is all of a face that stays.
@@ -111,7 +122,7 @@ private:
     {
         std::set<Number> found;
         for (const Side &side : joined(cycles)) {
-            const Owners &owners = owners_.at({side.start, side.end});
+            const Owners &owners = owners_.at(side);
             found.insert(owners.begin(), owners.end());
         }
         return mapped(found, [&](Number face) { return all_.sheet(face).owners[0]; });
@@ -121,7 +132,7 @@ private:
     const std::vector<const Bound *> &bounds_;
     std::map<Number, Ends> between_; ///< points that aren't whole
     std::vector<Side> sides_;
-    std::map<std::pair<Vector, Vector>, Owners> owners_; ///< of sides
+    std::map<Side, Owners> owners_;
 };
 
 /// The bounds of faces by the least face that each is a part of, where faces on both sides of seams became one.

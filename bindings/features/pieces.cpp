@@ -57,6 +57,10 @@ void Pieces::put_edges()
 
 void Pieces::put_edge(CutEdge &edge)
 {
+    if (edge.side.run != nullptr) { // (what lies between its ends may also be another edge)
+        put_wing(pieces_.emplace_back(Piece{edge.from, edge.to, edge.side.way()}), {edge.left, true, edge.side.half});
+        return;
+    }
     std::vector<Number> &stops = edge.stops;
     sort(stops);
     if (all_.points.comes_before(edge.to, edge.from))

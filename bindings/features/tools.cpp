@@ -65,10 +65,12 @@ std::vector<Sheet> sheets_of(const Tool &tool)
 bool lie_in_face(const Bench &bench, Face face, const std::vector<Sheet> &lids, Lies lies)
 {
     const Surface &surface = Surroundings::of(bench).surface(bench, bench.face(face).solid);
-    const std::set<Loop> near = surface.near(bench, box_of(lids))[face];
+    const Box box = box_of(lids);
+    const auto near = mapped(surface.near(bench, box)[face], [&](Loop loop) { return surface.chain(loop).near(box); }); // (which has their runs)
     if (near.empty())
         return false;
-    const std::vector<std::vector<Sheet>> both = {{{surface.shape(face, near), {face}, {}}}, lids};
+    const Shape shape(*surface.plane(face), mapped(near, [](const Chain::Near &loop) { return loop.sides; }));
+    const std::vector<std::vector<Sheet>> both = {{{shape, {face}, {}}}, lids};
     const bool are_turned = both[0][0].plane.across != lids[0].plane.across;
     operands::Operands all(both); // (which points to them)
     pieces::Pieces pieces(all);
@@ -101,7 +103,7 @@ void require_lids(const Bench &bench, const Tool &tool, const std::vector<Sheet>
 /// Takes the tool's numbers off a region, and puts the marks in their place.
 void put_marks(Sheet &region, const Tool &tool)
 {
-    const auto is_own = [](const Side &side) { return side.half.edge().number() >= own; };
+    const auto is_own = [](const Side &side) { return side.run == nullptr && side.half.edge().number() >= own; };
     for (Face owner : std::exchange(region.owners, {}))
         if (owner.number() < own)
             region.owners.push_back(owner);
