@@ -5,7 +5,7 @@ whole points, with what is said of them.
     tests/library_features.py LIBRARY
 
 Each line of tests/library_features.table is a feature, and behind `=` what it gives: `ok`, and six times the volume, the vertices, edges, faces
-and rings of the solid and a sum over its points; or the name of what is refused. A face is told by the ends of a side of its outer loop, an edge by
+and rings of the solid and a sum over its points; or the name of what is refused, its value, and of what isn't possible the cause, what was met and where. A face is told by the ends of a side of its outer loop, an edge by
 its own, in the direction of its first half-edge; a solid that is cut by its listing. `halve` cuts it in two, and tells of both; `union` adds a block
 at a point, `subtract` takes one away, and `intersect` leaves what is in it too; `around` tells of all of a row; `chamfers` takes a width and the ends of its edges; `pocket_along` and
 `boss_along` take a vector in place of a depth. A line `undo` takes the last feature back. The table was written by features in Python that shared no code
@@ -23,7 +23,7 @@ from counts import TOP, command_line, there
 
 sys.path.insert(0, str(TOP / 'companions'))
 
-from gwb import FacePart, Refused, Workbench  # noqa: E402
+from gwb import FacePart, Impossible, Refused, Workbench  # noqa: E402
 from gwb.geometry.lattice_cuts import off_lattice_cut  # noqa: E402
 
 TABLE = TOP / 'tests' / 'library_features.table'
@@ -41,6 +41,14 @@ def measures(bench: Workbench, solid: int) -> str:
     count = bench.count(solid)
     total = sum((x + 101) * (y + 211) * (z + 307) for x, y, z in (vertex.point for vertex in bench.solid(solid).vertices))
     return f'{6 * bench.volume(solid)} {count.vertices} {count.edges} {count.faces} {count.rings} {total}'
+
+
+def refusal(refused: Refused) -> str:
+    """The name of what is refused and its value; and what was met, as far as that is told."""
+    told: List[object] = [refused.name, refused.value]
+    if isinstance(refused, Impossible):
+        told += [*filter(None, [refused.cause]), *(refused.hit or ()), *(('at', *refused.point) if refused.point else ())]
+    return ' '.join(map(str, told))
 
 
 class Row:
@@ -187,7 +195,7 @@ class Tried:
             self._make(self._bench, word, words)
         except Refused as refused:
             assert self._bench.listing() == before, words
-            return refused.name
+            return refusal(refused)
         assert self._part, 'the first row of a part makes its solid'
         return f'ok {self._part.told()}'
 

@@ -7,6 +7,7 @@
 #include <fstream>
 #include <iostream>
 #include <map>
+#include <numeric>
 #include <set>
 #include <sstream>
 
@@ -49,6 +50,25 @@ static std::string measures(const Workbench &bench, Solid solid)
     text << "ok " << narrow(bench.six_volumes(solid));
     for (std::int64_t number : {std::int64_t{count.vertices}, std::int64_t{count.edges}, std::int64_t{count.faces}, std::int64_t{count.rings}, sum})
         text << ' ' << number;
+    return text.str();
+}
+
+// The name of what is refused and its value; and what was met, as far as that is told.
+static std::string refusal(const Failure &failure)
+{
+    constexpr std::array things = {"solid", "face", "loop", "edge", "vertex"};
+    const gwb_hit_row &hit = failure.hit;
+    std::ostringstream text;
+    text << failure.name() << ' ' << failure.value << (hit.cause != 0 ? " " : "") << gwb_cause_name(hit.cause);
+    if (hit.number != 0 && hit.kind < things.size())
+        text << ' ' << things[hit.kind] << ' ' << hit.number;
+    if (const std::int64_t scale = narrow(hit.scale); scale != 0) {
+        text << " at";
+        for (const gwb_wide &part : hit.point) {
+            const std::int64_t common = std::gcd(narrow(part), scale);
+            text << ' ' << narrow(part) / common << (common != scale ? "/" + std::to_string(scale / common) : "");
+        }
+    }
     return text.str();
 }
 
@@ -230,7 +250,7 @@ private:
         return gives(word == "boss" ? boss(attempt_, face, given.points(), depth) : pocket(attempt_, face, given.points(), depth));
     }
 
-    template <class T> std::string gives(const Result<T> &made) const { return made ? measures(bench_, solid_) : made.error().name(); }
+    template <class T> std::string gives(const Result<T> &made) const { return made ? measures(bench_, solid_) : refusal(made.error()); }
 
     Workbench bench_;
     Attempts attempt_ = bench_.attempt();

@@ -1,5 +1,5 @@
 //! Features of outlines and up to the edges of faces, and cuts between whole points, as the session in Python gives them.
-use gwb::{circle, Circle, Edge, Error, Face, HalfEdge, Misfit, Point, Readers, Refusal, Session, Solid};
+use gwb::{circle, Circle, Edge, Error, Face, HalfEdge, Met, Misfit, Point, Readers, Refusal, Session, Solid};
 use std::collections::BTreeSet;
 use std::fmt::Debug;
 
@@ -41,12 +41,27 @@ impl Numbers {
     }
 }
 
-/// What a feature gives, by the name of what it is refused for.
+/// The cause for which the last feature wasn't possible, what it met and where, as far as they are told.
+fn met(session: &Session) -> String {
+    let hit = session.hit().unwrap();
+    let mut told = hit.cause.map_or(String::new(), |cause| format!(" {cause}"));
+    told += &match hit.met {
+        Some(Met::Solid(solid)) => format!(" solid {solid}"),
+        Some(Met::Face(face)) => format!(" face {face}"),
+        Some(Met::Loop(of_loop)) => format!(" loop {of_loop}"),
+        Some(Met::Edge(edge)) => format!(" edge {edge}"),
+        Some(Met::Vertex(vertex)) => format!(" vertex {vertex}"),
+        _ => String::new(),
+    };
+    hit.point.map_or(told.clone(), |[x, y, z]| format!("{told} at {x} {y} {z}"))
+}
+
+/// What a feature gives, by the name of what it is refused for, its value and what was met.
 fn given<T: Debug>(session: &Session, solid: Solid, made: &Result<T, Error>) -> String {
     match made {
         Ok(_) => measures(session, solid),
-        Err(Error::Refused { refusal, .. }) => format!("{refusal:?}"),
-        Err(Error::Impossible { misfit, .. }) => format!("{misfit:?}"),
+        Err(Error::Refused { refusal, value }) => format!("{refusal:?} {value}"),
+        Err(Error::Impossible { misfit, value }) => format!("{misfit:?} {value}{}", met(session)),
         Err(other) => panic!("{other}"),
     }
 }
