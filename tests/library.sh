@@ -150,7 +150,7 @@ counted 'history, and values that follow it' "$dir/built/library_history"
 built 'features are built' library_features.cpp "${CXX:-c++}" -std=c++17 -Wold-style-cast -Wshadow
 counted 'solids killed, copied and moved' "$dir/built/library_features"
 built 'machining is built' library_machining.cpp "${CXX:-c++}" -std=c++17 -Wold-style-cast -Wshadow
-counted 'features and cuts as in Python, and beside unit cubes' "$dir/built/library_machining"
+counted 'features and cuts beside unit cubes' "$dir/built/library_machining"
 built 'features on large faces are built' library_near.cpp "${CXX:-c++}" -std=c++17 -O1 -Wold-style-cast -Wshadow
 counted 'features on large faces, beside small ones' "$dir/built/library_near"
 built 'Booleans are built' library_booleans.cpp "${CXX:-c++}" -std=c++17 -O1 -Wold-style-cast -Wshadow
@@ -176,7 +176,7 @@ else
 fi
 built 'one program in C is built' library_same_c.c "${CC:-cc}" -std=gnu11 -O2
 built 'one program in C++ is built' library_same_cpp.cpp "${CXX:-c++}" -std=c++17 -Wold-style-cast -Wshadow
-same="$dir/built/library_same_c $dir/built/library_same_cpp"
+set -- "$dir/built/library_same_c" "$dir/built/library_same_cpp"
 built 'the record is built' library_record.c "${CC:-cc}" -std=gnu11 -O2
 counted 'the record of commands, given again' "$dir/built/library_record"
 built 'the watch is built' library_watch.c "${CC:-cc}" -std=gnu11 -O2
@@ -184,7 +184,6 @@ counted 'sessions watched and not' "$dir/built/library_watch"
 counted 'sessions watched and not, with each block alone' "$dir/alone/library_watch"
 built 'births are built' library_births.cpp "${CXX:-c++}" -std=c++17 -O1 -Wold-style-cast -Wshadow
 counted 'births beside whole copies' "$dir/built/library_births"
-counted 'the table of features, by Python' python3 tests/library_features.py "$dir/built/libgwb.so"
 built 'outlines and sizes are built' library_outlines.c "${CC:-cc}" -std=gnu11 -O2
 counted 'outlines and sizes of features' "$dir/built/library_outlines"
 built 'threads are built' library_threads.c "${CC:-cc}" -std=gnu11 -O2 -pthread
@@ -209,12 +208,11 @@ if has rustc 'the crate and the example in Rust are built' 'the example in Rust'
     done
     tried 'one program in Rust is built' rustc --edition 2021 -O -L "dependency=$dir/built" -o "$dir/built/library_same_rust" \
         tests/library_same_rust.rs --extern "gwb=$dir/built/libgwb.rlib"
-    same="$same $dir/built/library_same_rust"
+    set -- "$@" "$dir/built/library_same_rust"
     tried 'the tests in Rust with each block alone are built' make -C bindings "ARCHIVE=$archive" "OUT=$dir/alone" 'CFLAGS=-O2 -DGWB_BLOCKS_ALONE' \
         "$dir/alone/session_rust"
     tried 'the tests in Rust, session, with each block alone' env GWB_BLOCKS_ALONE=1 "$dir/alone/session_rust"
 fi
-counted 'one program of features in all languages' python3 tests/library_same.py "$dir/built/libgwb.so" $same
 counted 'the programs of the page' tests/library_readme.py "$dir/built/libgwb.a"
 without_archive() {
     (cd bindings/rust && env "CARGO_TARGET_DIR=$dir/target" "GWB_LIB_DIR=$dir/none" cargo "$@" --offline)
@@ -228,11 +226,12 @@ fi
 # (each is a program that was built above)
 in_cpp='library_cpp library_results library_history library_features library_machining library_near library_booleans library_record library_watch library_births library_outlines library_heap library_load library_triangles'
 threads='library_threads library_sharing library_pages'
-if has valgrind 'valgrind over the example in C' $in_cpp $threads; then
+if has valgrind 'valgrind over the example in C' $in_cpp $threads 'one program of features'; then
     tried 'valgrind over the example in C' valgrind -q --error-exitcode=9 --leak-check=full --show-leak-kinds=all "$dir/alone/block_c"
     for name in $in_cpp; do
         tried "valgrind over $name" valgrind -q --error-exitcode=9 --leak-check=full --show-leak-kinds=all "$dir/alone/$name" 20
     done
+    set -- "$@" "valgrind -q --error-exitcode=9 --leak-check=full --show-leak-kinds=all $dir/alone/library_same_c"
     for name in $threads; do
         tried "helgrind over $name" valgrind -q --tool=helgrind --error-exitcode=9 "$dir/built/$name" 100
     done
@@ -252,10 +251,10 @@ echo 'int main(void) { return 0; }' > "$dir/empty.c"
 if "${CC:-cc}" $sanitizers -o "$dir/empty" "$dir/empty.c" 2> "$dir/err" && "$dir/empty"; then
     began=$(date +%s)
     tried 'the library is built with sanitizers' make -C bindings "ARCHIVE=$archive" "OUT=$dir/sanitized" "CFLAGS=$sanitizers" "CXXFLAGS=$sanitizers" "$dir/sanitized/libgwb.a"
-    for name in library_features_refused library_record library_watch library_outlines library_heap library_load library_triangles library_threads library_pages library_worked; do
+    for name in library_same_c library_features_refused library_record library_watch library_outlines library_heap library_load library_triangles library_threads library_pages library_worked; do
         sanitized "$name.c" "${CC:-cc}" -std=gnu11
     done
-    for name in library_cpp library_history library_features library_machining library_near library_booleans library_births library_sharing; do
+    for name in library_same_cpp library_cpp library_history library_features library_machining library_near library_booleans library_births library_sharing; do
         sanitized "$name.cpp" "${CXX:-c++}" -std=c++17
     done
     sanitized library_results.cpp "${CXX:-c++}" -std=c++17 -fno-exceptions
@@ -264,12 +263,14 @@ if "${CC:-cc}" $sanitizers -o "$dir/empty" "$dir/empty.c" 2> "$dir/err" && "$dir
         cat "$dir/sanitized/$name.log"
         counted "$name with sanitizers" "$dir/sanitized/$name" 20
     done
+    set -- "$@" "$dir/sanitized/library_same_c" "$dir/sanitized/library_same_cpp"
     echo "sanitizers took $(($(date +%s) - began)) seconds"
 else
     echo 'skipped: sanitizers over the programs in C and C++: the compiler has none'
     skipped=$((skipped + 1))
 fi
 
+counted 'one program of features in all languages' python3 tests/library_same.py "$dir/built/libgwb.so" "$@"
 built 'worked scripts are built' library_worked.c cc -O2 -std=gnu11
 counted 'the calls over worked scripts' "$dir/built/library_worked"
 if has valgrind 'valgrind over worked scripts'; then

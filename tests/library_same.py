@@ -1,15 +1,19 @@
 #!/usr/bin/env python3
-"""One random program of features in several languages: the session in Python over the library, and programs that read it and write what each line gives.
+"""One program of features in several languages: the session in Python over the library, and programs that read it and write what each line gives.
 
     tests/library_same.py LIBRARY PROGRAM..
 
-The PROGRAMs are built of library_same_c.c, library_same_cpp.cpp and library_same_rust.rs. A line of the program is a word and numbers, in the order of the arguments
-in gwb_features.h. Compared are for each line the numbers that come back, or the name of what is refused and its value; and the listing after each line, to
-the letter. What languages do differently by their conventions isn't in it: bindings/README.md says what that is. The last line counts.
+The PROGRAMs are built of library_same_c.c, library_same_cpp.cpp and library_same_rust.rs; each may be a command of several words. A line of the program is a
+word and numbers, in the order of the arguments in gwb_features.h: first those of the stored table (library_features.py), of which the session in Python has
+to give what is stored, then random ones. Compared are for each line the numbers that come back, or the name of what is refused, its value and what was met;
+and the listing after each line, to the letter. What languages do differently by their conventions isn't in it: bindings/README.md says what that is. The last
+line counts.
 """
 import random
+import shlex
 import subprocess
 import sys
+import tempfile
 from collections import Counter
 from fractions import Fraction
 from itertools import chain
@@ -20,9 +24,9 @@ from counts import TOP, there
 
 sys.path.insert(0, str(TOP / 'companions'))
 
-from gwb import FacePart, Impossible, InDraft, Refused, Workbench  # noqa: E402
+from gwb import FacePart, InDraft, Refused, Workbench  # noqa: E402
 from gwb.protocol.refusals import CAUSES  # noqa: E402
-from gwb.session.kernel import THINGS  # noqa: E402
+from library_features import Line, Table, refusal  # noqa: E402
 
 PARTS, LINES = 150, 11
 # A part before the random ones: a groove over the floor of a drilled hole takes corners away at the mouth of the hole, which is far from it.
@@ -76,9 +80,15 @@ class Session:
         self.is_drafting = False
         # How many lines of the draft may have changed something, and whether the last line took something back.
         self.steps, self.is_undone = 0, False
+        # What the last line gave.
+        self.given = ''
 
-    def give(self, word: str, numbers: Sequence[int]) -> str:
+    def give(self, word: str, numbers: Sequence[object]) -> str:
         """What a line gives, as text."""
+        self.given = self._gives(word, numbers)
+        return self.given
+
+    def _gives(self, word: str, numbers: Sequence[Any]) -> str:
         left = iter(numbers)
         one = lambda: next(left)  # noqa: E731
         try:
@@ -86,11 +96,8 @@ class Session:
             is_step = word not in ('faces', 'edges', 'off_lattice') and (word, len(numbers)) != ('glue_all', 1)
             self.steps, self.is_undone = self.steps + is_step, word == 'undo'
             return 'ok' + ''.join(f' {number}' for number in made)
-        except Impossible as refused:
-            thing = [THINGS.index(refused.hit[0]), refused.hit[1]] if refused.hit else []
-            return ' '.join(map(str, [refused.name, refused.value, *([refused.cause] if refused.cause else []), *thing]))
         except Refused as refused:
-            return f'{refused.name} {refused.value}'
+            return refusal(refused)
         except InDraft:
             return 'a draft is open'
 
@@ -102,6 +109,15 @@ class Session:
         """A new session."""
         self.bench.close()
         self.bench, self.is_drafting = Workbench(self._library, step=1), False
+        return []
+
+    def load(self, listing: str) -> List[int]:
+        """The model of a listing, in which `;` stands for the end of a line."""
+        self.bench.close()
+        with tempfile.TemporaryDirectory() as folder:
+            path = Path(folder) / 'solid'
+            path.write_text(listing.replace(';', '\n') + '\n')
+            self.bench = Workbench.load(path, self._library)
         return []
 
     def draft(self) -> List[int]:
@@ -196,9 +212,9 @@ def _nothing(_: object) -> List[int]:
     return []
 
 
-Call = Callable[[Session, Callable[[], int], Iterator[int]], List[int]]
+Call = Callable[[Session, Callable[[], Any], Iterator[int]], List[int]]
 _CALLS: Dict[str, Call] = {
-    'part': lambda s, n, w: s.part(), 'undo': lambda s, n, w: _nothing(s.bench.undo()), 'redo': lambda s, n, w: _nothing(s.bench.redo()),
+    'part': lambda s, n, w: s.part(), 'load': lambda s, n, w: s.load(n()), 'undo': lambda s, n, w: _nothing(s.bench.undo()), 'redo': lambda s, n, w: _nothing(s.bench.redo()),
     'draft': lambda s, n, w: s.draft(), 'commit': lambda s, n, w: s.end(True), 'abandon': lambda s, n, w: s.end(False),
     'block': lambda s, n, w: [number for made in [s.block(n(), _three(w), _three(w))] for number in
                               (made.top, made.bottom, *made.sides)],
@@ -415,20 +431,21 @@ def _blocks(text: str) -> List[str]:
     return [block.partition('\n')[2].rstrip('\n') for block in text.split('> ')[1:]]
 
 
-def written(library: str) -> Tuple[List[str], List[str]]:
-    """The lines of the program, and what the session in Python gives for each."""
+def written(library: str) -> Tuple[List[str], List[str], List[str]]:
+    """The lines of the program, what the session in Python gives for each, and what is wrong with the table."""
     session = Session(library)
-    author, lines, given = Author(session), [], []
-    for word, numbers in chain(FIRST, chain.from_iterable(author.part() for _ in range(PARTS))):
+    table, author, lines, given = Table(session), Author(session), list[str](), list[str]()
+    numbered = chain(FIRST, chain.from_iterable(author.part() for _ in range(PARTS)))
+    for word, numbers, wanted in chain(table.lines(), (Line(word, numbers) for word, numbers in numbered)):
         lines += [' '.join(map(str, [word, *numbers])), 'list']
-        given += [session.give(word, numbers), session.listing()]
-    return lines, given
+        given += [session.give(word, numbers) if wanted is None else wanted, session.listing()]
+    return lines, given, table.wrong
 
 
 def untried(lines: Sequence[str], given: Sequence[str]) -> List[str]:
     """What the program doesn't try: words that are hardly ever accepted, and too few kinds of refusals."""
     accepted: Counts[str] = Counter(line.split(' ')[0] for line, gives in zip(lines, given) if gives.split(' ')[0] == 'ok')
-    refused = {gives.split(' ')[0] for line, gives in zip(lines, given) if line != 'list' and gives.split(' ')[0] != 'ok'}
+    refused = {gives.split(' ')[0] for line, gives in zip(lines, given) if not line.startswith(('list', 'advice')) and gives.split(' ')[0] != 'ok'}
     print(f'{len(lines) // 2} lines, {sum(accepted.values())} accepted; refused were {" ".join(sorted(refused))}')
     tried = {word for gives in given for word in gives.split(' ')[2:3]}
     causes = [f'{name} was no cause of a refusal' for name, _ in CAUSES.values() if name not in tried]
@@ -440,11 +457,11 @@ def main() -> int:
     if len(sys.argv) < 3 or sys.argv[1] in ('-h', '--help'):
         print(__doc__)
         return 0 if len(sys.argv) > 1 and sys.argv[1] in ('-h', '--help') else 2
-    library, *programs = (str(there(path)) for path in sys.argv[1:])
-    lines, given = written(library)
-    wrong = untried(lines, given)
+    library, programs = str(there(sys.argv[1])), sys.argv[2:]
+    lines, given, wrong = written(library)
+    wrong += untried(lines, given)
     for program in programs:
-        ran = subprocess.run([program], input='\n'.join(lines) + '\n', capture_output=True, text=True, check=False)
+        ran = subprocess.run(shlex.split(program), input='\n'.join(lines) + '\n', capture_output=True, text=True, check=False)
         gives = _blocks(ran.stdout)
         if ran.returncode or len(gives) != len(given):
             wrong.append(f'{program}: status {ran.returncode}, {len(gives)} answers for {len(given)} lines: {ran.stderr[-300:]}')

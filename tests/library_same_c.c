@@ -13,6 +13,7 @@ static gwb_refusal why;
 static gwb_outline_made outline;
 static gwb_profile_made profile;
 static gwb_point corners[MOST_WORDS];
+static char text[1 << 20];
 static uint32_t made[MOST_NUMBERS], others[MOST_NUMBERS], edges[MOST_NUMBERS], turned[MOST_NUMBERS];
 
 /* ---- the words of a line after the first one: numbers, taken one after another */
@@ -73,9 +74,24 @@ static void put(const uint32_t *numbers, size_t n)
         printf(" %u", (unsigned)numbers[i]);
 }
 
-/* Why a feature isn't possible: the cause, and the thing that was met. */
+/* A part of a place: a whole number, or a fraction in lowest terms. */
+static void put_part(int64_t part, int64_t scale)
+{
+    int64_t common = part < 0 ? -part : part, other = scale;
+    while (other != 0) {
+        const int64_t left = common % other;
+        common = other;
+        other = left;
+    }
+    printf(" %lld", (long long)(part / common));
+    if (scale != common)
+        printf("/%lld", (long long)(scale / common));
+}
+
+/* Why a feature isn't possible: the cause, the thing that was met, and where. */
 static void put_misfit(void)
 {
+    static const char *things[] = {"solid", "face", "loop", "edge", "vertex"};
     gwb_hit_row hit;
     printf("%s %u", gwb_misfit_name(why.number), (unsigned)why.value);
     if (!gwb_hit(&g, &hit))
@@ -83,7 +99,11 @@ static void put_misfit(void)
     if (hit.cause != 0)
         printf(" %s", gwb_cause_name(hit.cause));
     if (hit.number != 0 && hit.kind <= GWB_VERTEX)
-        put((const uint32_t[]){hit.kind, hit.number}, 2);
+        printf(" %s %u", things[hit.kind], (unsigned)hit.number);
+    if (hit.scale.low != 0)
+        printf(" at");
+    for (size_t axis = 0; axis < 3 && hit.scale.low != 0; axis++)
+        put_part((int64_t)hit.point[axis].low, (int64_t)hit.scale.low);
 }
 
 /* Whether a line was accepted. If not, its refusal is told. */
@@ -158,25 +178,34 @@ static void put_copy(enum gwb_kind kind, uint32_t solid)
 
 static void list(void)
 {
-    char none;
-    const size_t length = gwb_read_listing(&g, &none, 0);
-    char *text = malloc(length + 1);
-    if (text == NULL)
+    const size_t length = gwb_read_listing(&g, text, sizeof text);
+    if (length > sizeof text)
         abort();
-    gwb_read_listing(&g, text, length);
     printf("%.*s", (int)length, text);
-    free(text);
 }
 
-static void put_advice(uint32_t solid, const gwb_cut_plane *cut)
+/* A listing, in which ';' stands for the end of a line. */
+static void load(char *listing)
+{
+    for (char *end = listing; (end = strchr(end, ';')) != NULL;)
+        *end = '\n';
+    is_well(gwb_load(&g, listing, strlen(listing), &why));
+}
+
+/* How many edges are cut, and the factor; or all of it, as lines of a script. */
+static void put_advice(uint32_t solid, const gwb_cut_plane *cut, bool is_text)
 {
     gwb_advice *advice = NULL;
-    if (!is_well(gwb_off_lattice(&g, solid, cut, 3, &advice, &why)))
-        return;
-    gwb_edge_cut none;
-    const gwb_wide factor = gwb_advice_factor(advice);
-    printf(" %zu %llu", gwb_advice_cuts(advice, &none, 0), (unsigned long long)factor.low);
-    gwb_advice_free(advice);
+    const enum gwb_kind kind = gwb_off_lattice(&g, solid, cut, 3, &advice, &why);
+    if (kind == GWB_OK && is_text) {
+        const size_t length = gwb_advice_text(advice, 77, text, sizeof text);
+        printf("%.*s", length > sizeof text ? 0 : (int)length, text);
+    } else if (is_well(kind)) {
+        gwb_edge_cut none;
+        printf(" %zu %llu", gwb_advice_cuts(advice, &none, 0), (unsigned long long)gwb_advice_factor(advice).low);
+    }
+    if (kind == GWB_OK)
+        gwb_advice_free(advice);
 }
 
 static void find_faces(void)
@@ -361,11 +390,12 @@ static bool is_of_solid(const char *word, uint32_t solid)
 static bool is_of_plane(const char *word, uint32_t solid)
 {
     const bool is_split = strcmp(word, "split") == 0, is_trim = strcmp(word, "trim") == 0, is_advice = strcmp(word, "off_lattice") == 0;
-    if (!is_split && !is_trim && !is_advice && strcmp(word, "cut") != 0)
+    const bool is_text = strcmp(word, "advice") == 0;
+    if (!is_split && !is_trim && !is_advice && !is_text && strcmp(word, "cut") != 0)
         return false;
     const gwb_cut_plane cut = plane();
-    if (is_advice)
-        put_advice(solid, &cut);
+    if (is_advice || is_text)
+        put_advice(solid, &cut, is_text);
     else if (is_trim)
         put_lists(gwb_trim(&g, solid, &cut, &why), GWB_MADE_LOWER_CAPS, GWB_MADE_LOWER_CAPS);
     else
@@ -470,9 +500,13 @@ int main(void)
         const char *word = strtok(line, " \n");
         given = at = 0;
         printf("> %s\n", word);
-        for (const char *next = strtok(NULL, " \n"); next != NULL && given < MOST_WORDS; next = strtok(NULL, " \n"))
-            words[given++] = strtoll(next, NULL, 10);
-        give(word);
+        if (strcmp(word, "load") == 0) {
+            load(strtok(NULL, ""));
+        } else {
+            for (const char *next = strtok(NULL, " \n"); next != NULL && given < MOST_WORDS; next = strtok(NULL, " \n"))
+                words[given++] = strtoll(next, NULL, 10);
+            give(word);
+        }
         printf("\n");
     }
     gwb_close(&g);

@@ -3,6 +3,7 @@
 #include "gwb_features.hpp"
 #include <iostream>
 #include <map>
+#include <numeric>
 #include <set>
 #include <sstream>
 
@@ -59,6 +60,12 @@ public:
         return way == 1 ? Motion::quarter_turns(axis, static_cast<unsigned>(number())) : Motion::mirror(axis);
     }
     bool has_more() { return !words_.eof(); }
+    std::string text()
+    {
+        std::string left;
+        std::getline(words_, left);
+        return left;
+    }
 
 private:
     std::istringstream words_;
@@ -89,7 +96,7 @@ private:
             {"groove", &Given::groove},     {"shoulder", &Given::shoulder}, {"chamfer", &Given::chamfer}, {"kill", &Given::kill},
             {"copy", &Given::copy},         {"move", &Given::move},       {"pattern", &Given::pattern},   {"scale", &Given::scale},
             {"glue_all", &Given::glue_all}, {"split", &Given::split},     {"off_lattice", &Given::off_lattice}, {"cut", &Given::cut},
-            {"trim", &Given::trim},         {"union", &Given::unite},
+            {"trim", &Given::trim},         {"union", &Given::unite},     {"load", &Given::load},       {"advice", &Given::advice},
             {"subtract", &Given::subtract}, {"intersect", &Given::intersect}, {"separate", &Given::separate}, {"join_faces", &Given::join_faces},
             {"faces", &Given::faces},       {"edges", &Given::edges},     {"renumber", &Given::renumber},
             {"polyhedron", &Given::polyhedron},     {"pattern_around", &Given::pattern_around}, {"chamfer_edges", &Given::chamfer_edges}};
@@ -99,14 +106,27 @@ private:
     // Whether a line was accepted. If not, its refusal is told.
     template <class T> static bool is_well(const Result<T> &result)
     {
-        std::cout << (result ? std::string("ok") : result.error().name());
-        if (!result) {
-            const gwb_hit_row &hit = result.error().hit;
-            std::cout << ' ' << result.error().value << (hit.cause != 0 ? " " : "") << gwb_cause_name(hit.cause);
-            if (hit.number != 0 && hit.kind <= GWB_VERTEX)
-                std::cout << ' ' << hit.kind << ' ' << hit.number;
-        }
+        if (result)
+            std::cout << "ok";
+        else
+            put_refusal(result.error());
         return static_cast<bool>(result);
+    }
+    // The name of what is refused and its value; and what was met, as far as that is told.
+    static void put_refusal(const Failure &failure)
+    {
+        constexpr std::array things = {"solid", "face", "loop", "edge", "vertex"};
+        const gwb_hit_row &hit = failure.hit;
+        std::cout << failure.name() << ' ' << failure.value << (hit.cause != 0 ? " " : "") << gwb_cause_name(hit.cause);
+        if (hit.number != 0 && hit.kind < things.size())
+            std::cout << ' ' << things[hit.kind] << ' ' << hit.number;
+        const std::int64_t scale = narrow(hit.scale);
+        if (scale != 0)
+            std::cout << " at";
+        for (std::size_t axis = 0; axis < 3 && scale != 0; axis++) {
+            const std::int64_t part = narrow(hit.point[axis]), common = std::gcd(part, scale);
+            std::cout << ' ' << part / common << (common != scale ? "/" + std::to_string(scale / common) : "");
+        }
     }
     template <class Kind> static void put(const std::vector<Kind> &numbers)
     {
@@ -432,6 +452,19 @@ private:
         const Result<OffLattice> said = gwb_session::off_lattice(*attempt_, solid, words.plane());
         if (is_well(said))
             std::cout << ' ' << said->cuts().size() << ' ' << said->factor().low;
+    }
+    void advice(Words &words)
+    {
+        const auto solid = words.name<Solid>();
+        std::cout << gwb_session::off_lattice(*bench_, solid, words.plane()).advice(Solid(77));
+    }
+    // A listing, in which ';' stands for the end of a line.
+    void load(Words &words)
+    {
+        std::string listing = words.text();
+        std::replace(listing.begin(), listing.end(), ';', '\n');
+        bench_->load(listing + '\n');
+        std::cout << "ok";
     }
     void faces(Words &words)
     {

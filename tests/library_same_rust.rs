@@ -5,11 +5,11 @@ use std::collections::BTreeSet;
 use std::io::{self, BufRead, Lines, StdinLock};
 
 /// The words of a line after the first one: numbers, taken one after another.
-struct Words(std::vec::IntoIter<i64>);
+struct Words(std::vec::IntoIter<String>);
 
 impl Words {
     fn number(&mut self) -> i64 {
-        self.0.next().unwrap()
+        self.0.next().unwrap().parse().unwrap()
     }
     fn name<N: Id>(&mut self) -> N {
         N::from_number(self.number() as u32)
@@ -22,6 +22,10 @@ impl Words {
     }
     fn ratio(&mut self) -> [u64; 2] {
         [0; 2].map(|_: i32| self.number() as u64)
+    }
+    /// All that are left.
+    fn names<N: Id>(&mut self) -> Vec<N> {
+        std::iter::from_fn(|| (self.0.len() > 0).then(|| self.name())).collect()
     }
     fn points(&mut self) -> Vec<Point> {
         let mut found = Vec::new();
@@ -72,6 +76,10 @@ fn read(readers: &Readers, word: &str, words: &mut Words) -> Option<Result<Strin
         "off_lattice" => {
             let (solid, plane) = (words.name::<Solid>(), words.plane());
             readers.off_lattice(solid, plane, 3).map(|said| format!(" {} {}", said.cuts.len(), said.factor.unwrap_or(0)))
+        }
+        "advice" => {
+            let (solid, plane) = (words.name::<Solid>(), words.plane());
+            readers.off_lattice(solid, plane, 3).map(|said| said.advice(Solid(77)))
         }
         "faces" => readers.find_faces(&faces(words)).map(|found| told(&found)),
         "edges" => readers.find_edges(&edges(words)).map(|found| told(&found)),
@@ -171,13 +179,13 @@ macro_rules! made {
             }
             "chamfer_edges" => {
                 let width = words.number();
-                let edges: Vec<Edge> = words.0.by_ref().map(|number| Edge(number as u32)).collect();
+                let edges: Vec<Edge> = words.names();
                 bench.chamfer_edges(&edges, width).map(|made| told(&made))
             }
             "polyhedron" => {
                 let (solid, count, size) = (words.name::<Solid>(), words.number(), words.number() as u32);
                 let points: Vec<Point> = (0..count).map(|_| words.point()).collect();
-                let corners: Vec<u32> = words.0.by_ref().map(|number| number as u32).collect();
+                let corners: Vec<u32> = words.0.by_ref().map(|number| number.parse().unwrap()).collect();
                 let sizes = vec![size; corners.len() / size as usize];
                 bench.polyhedron(solid, &points, &corners, &sizes).map(|made| format!(" {} {}", made.first_vertex, made.first_face))
             }
@@ -190,20 +198,20 @@ macro_rules! made {
             }
             "scale" => bench.scale(words.number()).map(|()| String::new()),
             "glue_all" => {
-                let solids: Vec<Solid> = words.0.by_ref().map(|number| Solid(number as u32)).collect();
+                let solids: Vec<Solid> = words.names();
                 bench.glue_all(&solids).map(|()| String::new())
             }
             "union" => {
-                let solids: Vec<Solid> = words.0.by_ref().map(|number| Solid(number as u32)).collect();
+                let solids: Vec<Solid> = words.names();
                 bench.union(&solids).map(|_| String::new())
             }
             "intersect" => {
-                let solids: Vec<Solid> = words.0.by_ref().map(|number| Solid(number as u32)).collect();
+                let solids: Vec<Solid> = words.names();
                 bench.intersect(&solids).map(|_| String::new())
             }
             "subtract" => {
                 let solid = words.name();
-                let tools: Vec<Solid> = words.0.by_ref().map(|number| Solid(number as u32)).collect();
+                let tools: Vec<Solid> = words.names();
                 bench.subtract(solid, &tools).map(|_| String::new())
             }
             "separate" => {
@@ -225,24 +233,25 @@ macro_rules! made {
     }};
 }
 
-/// The cause of a misfit, and the thing that was met.
-fn met(hit: Option<Hit>) -> String {
-    let thing = match hit.and_then(|hit| hit.met) {
-        Some(Met::Solid(solid)) => format!(" 0 {solid}"),
-        Some(Met::Face(face)) => format!(" 1 {face}"),
-        Some(Met::Loop(of_loop)) => format!(" 2 {of_loop}"),
-        Some(Met::Edge(edge)) => format!(" 3 {edge}"),
-        Some(Met::Vertex(vertex)) => format!(" 4 {vertex}"),
+/// The cause of a misfit, the thing that was met, and where.
+fn met(hit: Hit) -> String {
+    let mut told = hit.cause.map_or(String::new(), |cause| format!(" {cause}"));
+    told += &match hit.met {
+        Some(Met::Solid(solid)) => format!(" solid {solid}"),
+        Some(Met::Face(face)) => format!(" face {face}"),
+        Some(Met::Loop(of_loop)) => format!(" loop {of_loop}"),
+        Some(Met::Edge(edge)) => format!(" edge {edge}"),
+        Some(Met::Vertex(vertex)) => format!(" vertex {vertex}"),
         _ => String::new(),
     };
-    hit.and_then(|hit| hit.cause).map_or(String::new(), |cause| format!(" {cause}")) + &thing
+    hit.point.map_or(told.clone(), |[x, y, z]| format!("{told} at {x} {y} {z}"))
 }
 
 fn tell(word: &str, given: Result<String, Error>, hit: Option<Hit>) {
     match given {
-        Ok(text) if word == "list" => println!("{text}"),
+        Ok(text) if word == "list" || word == "advice" => println!("{text}"),
         Ok(text) => println!("ok{text}"),
-        Err(error @ Error::Impossible { .. }) => println!("{error}{}", met(hit)),
+        Err(error @ Error::Impossible { .. }) => println!("{error}{}", met(hit.unwrap())),
         Err(error) => println!("{error}"),
     }
 }
@@ -253,7 +262,7 @@ fn next(lines: &mut Lines<StdinLock<'_>>) -> Option<(String, Words)> {
     let mut words = line.split(' ').map(str::to_owned);
     let word = words.next().unwrap();
     println!("> {word}");
-    Some((word, Words(words.map(|number| number.parse().unwrap()).collect::<Vec<i64>>().into_iter())))
+    Some((word, Words(words.collect::<Vec<_>>().into_iter())))
 }
 
 /// The steps of a draft, up to its end.
@@ -276,6 +285,10 @@ fn main() {
             "part" => {
                 session = Session::new().unwrap();
                 tell("part", Ok(String::new()), None);
+            }
+            "load" => {
+                let listing = words.0.collect::<Vec<_>>().join(" ").replace(';', "\n") + "\n";
+                tell("load", session.load(&listing).map(|()| String::new()), None);
             }
             "draft" => draft(&mut session, &mut lines),
             "undo" => tell("undo", session.undo().map(|()| String::new()), None),
