@@ -1,5 +1,6 @@
 """A call that an exception leaves, at whatever place, is whole or has left nothing; threads wait for each other."""
 
+import gc
 import inspect
 import linecache
 import os
@@ -22,7 +23,7 @@ TRACED = {f'{FOLDER}/{name}.py' for name in (
     'workbench', 'bench', 'kernel', 'notes', 'library', 'steps', 'turns', 'commands', 'feature_methods',
     'selection', 'solids')}
 # Python looks for signals where a call begins or returns: not between a line and the `try:` after it, nor between a block and its `finally`.
-NOT_BEFORE = ('try:', '.is_inside =', 'group_from = outer')
+NOT_BEFORE = ('try:', 'with suppress(', 'kernel.is_inside, ', 'group_from = outer')
 SQUARE = [(5, 5, 20), (15, 5, 20), (15, 15, 20), (5, 15, 20)]
 
 
@@ -223,9 +224,8 @@ class Interrupted(unittest.TestCase):
     def test_a_draft_or_a_group_left_at_each_line_of_its_end(self):
         for begin in ('draft', 'group'):
             line = 1
-            with mock.patch.object(sys, 'unraisablehook'):
-                while copy_context().run(self.leave_at_the_end, begin, line):
-                    line += 1
+            while copy_context().run(self.leave_at_the_end, begin, line):
+                line += 1
             self.assertGreater(line, 20, begin)
 
     def leave_at_the_end(self, begin, line):
@@ -246,7 +246,7 @@ class Interrupted(unittest.TestCase):
             return interrupter.has_come
 
     def test_a_group_left_at_its_begin_or_its_end_leaves_what_can_be_redone(self):
-        with Workbench(library(), step=STEP) as bench, mock.patch.object(sys, 'unraisablehook'):
+        with Workbench(library(), step=STEP) as bench:
             for place in (0, 5):
                 bench.block((place, 0, 0), (2, 2, 2))
             bench.undo()
@@ -269,6 +269,50 @@ class Interrupted(unittest.TestCase):
             pass
         self.assertEqual((commands_of(bench), len(bench.solids())), ([], 0), line)
         return interrupter.has_come
+
+    def test_no_signal_is_lost_where_nothing_refers_to_a_draft_or_a_session(self):
+        line, seen = 1, set()
+        with mock.patch.object(sys, 'unraisablehook') as lost:
+            while copy_context().run(self.drop_all, line, seen):
+                line += 1
+            self.assertEqual(lost.mock_calls, [])
+        self.assertLess({'begin_turn', 'end_dropped', 'end', '_unless_kept'}, seen)
+
+    def drop_all(self, line, seen):
+        """Whether the line is come to where drafts that nothing refers to any more are ended by the next call, and a session after them. A signal
+        comes there."""
+        class Signalling(Interrupter):
+            def line(self, frame, event, _):
+                try:
+                    return super().line(frame, event, _)
+                except Left:
+                    seen.add(frame.f_code.co_name)
+                    signal.raise_signal(signal.SIGINT)
+                    return self.line
+
+        bench = Workbench(library(), step=STEP)
+        bench.block((0, 0, 0), (2, 2, 2))
+        outer, inner, interrupter = bench.draft(), bench.draft(), Signalling(line)
+        for block in (outer, inner):
+            block.__enter__()
+            bench.block((9, 0, 0), (1, 1, 1))
+        has_come = False
+        try:
+            with interrupter:
+                block = outer = inner = None
+                held = len(bench.solids())
+        except KeyboardInterrupt:
+            has_come, held = True, len(bench.solids())
+        self.assertEqual((has_come, held), (interrupter.has_come, 1), line)
+        handle = bench._kernel.lines.handle
+        try:
+            with interrupter:
+                bench = None
+                gc.collect()
+        except KeyboardInterrupt:
+            has_come = True
+        self.assertEqual((has_come, handle.is_open), (interrupter.has_come, False), line)
+        return has_come
 
     def test_a_handler_that_gives_a_call_in_a_call(self):
         with Workbench(library(), step=STEP) as bench:

@@ -90,13 +90,21 @@ class Kernel:
         """With the lock, waits for the end of what is held, unless what calls this is part of it. What an exception left half-way is put right."""
         if self.holder:
             self.holder.leave_ended()
+        self.end_dropped()
         while self.holder and not self.holder.is_here:
             self.holder.require_end()
             self.lock.wait(_PATIENCE)
+            self.end_dropped()
         self._is_giving = self._has_given = False
         if not self.settle() and self.lines.is_drafting and not any(block.is_draft for block in self.blocks):
             self.lines.abandon()    # (nobody has begun it)
             self.settle()
+
+    def end_dropped(self) -> None:
+        """A draft or a group that nothing refers to any more ends, with all within it, as by an exception."""
+        dropped = next((block for block in self.blocks if block.is_dropped), None)
+        if dropped:
+            dropped.end(False)
 
     def settle(self) -> bool:
         """The notes follow the commands, unless a draft is open, in which there is nothing new, or the session is closed."""

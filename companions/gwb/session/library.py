@@ -3,8 +3,10 @@
 import ctypes
 import os
 import re
+from functools import partial
 from pathlib import Path
-from typing import Any, Callable, Iterable, Iterator, Optional, Sequence, Tuple
+from typing import Any, Callable, Iterable, Iterator, Optional, Sequence, Set, Tuple
+from weakref import ReferenceType
 
 from ..errors import CompanionError, Ended, ProgramMissing
 from ..geometry.free_numbers import KINDS, from_least
@@ -81,22 +83,30 @@ def is_proved() -> Optional[bool]:
         return None
 
 
+class _Closing(ReferenceType['Library']):
+    """What closes a session that nothing refers to any more. No line of Python runs then, in which a Ctrl-C would be lost: the call of the library
+    itself is told, and takes this beside the handle, as a number."""
+
+    _as_parameter_ = 0
+
+
+# Of the sessions that are there, and of some that were.
+_CLOSING: Set[_Closing] = set()
+
+
 class Library:
     """A session of the library, whose accepted commands are recorded, and what it says."""
 
     def __init__(self, path: str) -> None:
-        self.handle = Handle()
-        self.library = load(path)
+        self.handle, self.library = Handle(), load(path)
+        _CLOSING.difference_update([closing for closing in _CLOSING if closing() is None])
+        _CLOSING.add(_Closing(self, partial(self.library.close, self.handle)))
         # How often something was undone, redone, or taken back in a draft.
         self._taken_back = 0
         if not self.library.open(self.handle) or self.library.record(self.handle) != OK:
             raise MemoryError('no session was opened')
         # Work that takes long ends where a handler of signals raises: the call is answered with that, and nothing has changed.
         self.library.stop_by(self.handle, ctypes.cast(ctypes.pythonapi.PyErr_CheckSignals, ADDRESS), None)
-
-    def __del__(self) -> None:
-        if hasattr(self, 'library'):
-            self.close()
 
     def close(self) -> None:
         """Ends the session."""

@@ -1,6 +1,7 @@
 """Drafts, which are one command, and groups of commands, which are one step to undo: what isn't made whole leaves nothing behind."""
 
 from typing import Optional, Type
+from weakref import ReferenceType, ref
 
 from ..errors import MemoryRefused, NoDraft
 from .kernel import Kernel
@@ -10,11 +11,16 @@ from .turns import Holder
 class _Work:
     """What is given in a draft, in a group, or in part of a draft that is open, from its begin on."""
 
-    def __init__(self, kernel: Kernel, is_group: bool) -> None:
+    def __init__(self, kernel: Kernel, is_group: bool, block: 'ReferenceType[Block]') -> None:
         lines, notes = kernel.lines, kernel.notes
-        self._kernel, self._is_kept, self._outer = kernel, False, notes.group_from
+        self._kernel, self._block, self._is_kept, self._outer = kernel, block, False, notes.group_from
         self._is_part, self._before, self._mark, self._ahead = lines.is_drafting, notes.at, lines.mark(), notes.ahead()
         self.is_draft, self._now = not (is_group or self._is_part), (len(notes.now.looks), notes.now.unit, len(notes.now.calls))
+
+    @property
+    def is_dropped(self) -> bool:
+        """Whether nothing refers to its block any more."""
+        return self._block() is None
 
     def end(self, is_whole: bool) -> None:
         """It is over, with all within it that is still open. It is kept if it is whole; else all is as before, whatever exception comes meanwhile."""
@@ -84,7 +90,7 @@ class _Work:
 
 class Block:
     """What a `with` statement holds: a draft or a group, or a part of a draft that is open. It is used once. Where an exception comes before its end
-    has begun, it ends when nothing refers to it any more."""
+    has begun, the next call ends it, once nothing refers to it any more: Python loses a Ctrl-C that comes in a finaliser."""
 
     _work: Optional[_Work] = None
 
@@ -99,7 +105,7 @@ class Block:
             if not kernel.is_inside:
                 kernel.begin_turn()
             kernel.lines.require_open()
-            self._work = _Work(kernel, self._is_group)
+            self._work = _Work(kernel, self._is_group, ref(self))
             kernel.blocks.append(self._work)
             try:
                 if self._work.is_draft:
@@ -115,12 +121,8 @@ class Block:
 
     def __exit__(self, kind: Optional[Type[BaseException]], *_: object) -> None:
         with self._kernel.lock:
+            self._kernel.end_dropped()
             if self._work and self._work in self._kernel.blocks:
                 self._work.end(kind is None)
             elif kind is None:
                 raise NoDraft('the draft has ended before its block did')
-
-    def __del__(self) -> None:
-        if self._work and self._work in self._kernel.blocks:
-            with self._kernel.lock:
-                self._work.end(False)
