@@ -52,21 +52,26 @@ KNOWN_BYTES = 'rattle/std/specs/Io/KnownBytes.antt'
 BYTES = ('Appends', 'Consumes', 'IsAtEnd')
 HEAD = """# Statements
 
-This page has the contracts of `make_all`, of `run`, of the laws of handles and of the laws over bytes. Where a contract only names a law, the law stands
-below it; so do the definitions that it rests on, if all of this is 12 lines or less. Then come the names of all definitions that it rests on, by their files,
-in the order in which they are used. [PROOFS.md](PROOFS.md#how-to-read-a-statement) explains the signs. Some definitions are taken *by name*: what they lead
-to is left out.
+Who checks a proof by a machine trusts the prover, and reads only *what* was proved: the theorem and the definitions of its words. This page lists what
+there is to read for each main theorem. [PROOFS.md](PROOFS.md) says in plain words what they mean, and [explains the signs](PROOFS.md#how-to-read-a-statement).
 
-- `make_all` and `run` take what is said of the larger commands: it has the last chapter.
-- The laws of handles take `Tells` and `IsWhole`, which stand in the first chapter, and `new_journal`, which is a new session.
-- The laws over bytes take `answers`, all that is written for a script: you can read them without its definition. Those of a run also take `Outs`,
+The theorems are, in this order: `make_all`, which answers a list of calls; `run`, which answers a script; the laws of what C does with handles; and the
+laws of `answers`, which speak only of the text of scripts and replies. Of each theorem the page has
+
+- its contract; where that only names a law, the law too, and the definitions that it rests on if all of this is 12 lines or less
+- how many definitions it rests on, which types of the code they use, and a checksum (*Sum*), which changes when the statement changes
+- the names of these definitions, by their files, in the order in which they are used
+
+Some definitions are taken *by name*: the page names them, but not what they rest on.
+
+- `make_all` and `run` take the definitions of the larger commands by name, which the last chapter lists.
+- The laws of handles take `Tells` and `IsWhole` by name, which the first chapter lists, and `new_journal`, which is a new session.
+- The laws of scripts take `answers` by name, all that is written for a script: you can read them without its definition. Those of a run also take `Outs`,
   `output_of`, `summary_of` and `new_journal`.
 
-This command writes each theorem and its definitions as one page:
+This command writes each theorem and its definitions as one page, of which *Sum* is the checksum:
 
     tests/statement.py --pages FOLDER
-
-*Sum* is a checksum of the page that this command writes for the theorem, so it changes when a statement changes.
 
 If a reader or a writer is a list of bytes, a theorem says exactly what was read or written. If it is a file or a pipe, the contract sees no bytes (`None`):
 then `Appends`, `Consumes` and `IsAtEnd` below hold trivially, so the theorem promises nothing about the bytes:
