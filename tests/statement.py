@@ -15,6 +15,7 @@ import shutil
 import sys
 import textwrap
 from dataclasses import dataclass
+from functools import lru_cache
 from itertools import groupby
 from pathlib import Path
 from typing import Dict, FrozenSet, Iterator, List, Optional, Tuple
@@ -41,6 +42,10 @@ SHARED_PAGE = 'larger_commands.md'
 # What a call may be told, and what is whole: on the page of lists of calls, and taken by name where exports of a handle are such a list.
 HEADLINE = frozenset({'Rattle.commands.specs.Telling.Tells', 'Rattle.commands.specs.Telling.IsWhole', 'Rattle.undo_journal.specs.Journal.new_journal'})
 HEADLINE_PAGE = 'make_all.md'
+# The laws of marks, of the models that operators make, and of convex solids that have a chapter. They take by name what the page of lists of calls has.
+FURTHER = (('call_lists/src/laws.rt', 'marks_lead_back'), ('reached_models/src/lib.rt', 'sound_models_are_reached'), ('convex_laws/src/lib.rt', 'blocks_are_convex'),
+           ('convex_laws/src/lib.rt', 'splits_keep_strictly_convex'), ('convex_laws/src/lib.rt', 'convex_splits_are_refused_for'),
+           ('convex_laws/src/lib.rt', 'built_are_convex'))
 SHARED_TITLE = 'Larger commands'
 SHARED_TEXT = """Here are the definitions that the contracts of `make_all` and `run` take by name: when a lamina, a block, a sweep, a glue and a split are refused, which
 of these conditions are tested before memory is asked for, what models the commands make, and by which operators."""
@@ -55,8 +60,9 @@ HEAD = """# Statements
 Who checks a proof by a machine trusts the prover, and reads only *what* was proved: the theorem and the definitions of its words. This page lists what
 there is to read for each main theorem. [PROOFS.md](PROOFS.md) says in plain words what they mean, and [explains the signs](PROOFS.md#how-to-read-a-statement).
 
-The theorems are, in this order: `make_all`, which answers a list of calls; `run`, which answers a script; the laws of what C does with handles; and the
-laws of `answers`, which speak only of the text of scripts and replies. Of each theorem the page has
+The theorems are, in this order: `make_all`, which answers a list of calls; `run`, which answers a script; the laws of what C does with handles; laws of
+marks, of the models that operators make, and of convex solids; and the laws of `answers`, which speak only of the text of scripts and replies. Of each
+theorem the page has
 
 - its contract; where that only names a law, the law too, and the definitions that it rests on if all of this is 12 lines or less
 - how many definitions it rests on, which types of the code they use, and a checksum (*Sum*), which changes when the statement changes
@@ -66,6 +72,7 @@ Some definitions are taken *by name*: the page names them, but not what they res
 
 - `make_all` and `run` take the definitions of the larger commands by name, which the last chapter lists.
 - The laws of handles take `Tells` and `IsWhole` by name, which the first chapter lists, and `new_journal`, which is a new session.
+- The laws of marks, models and convex solids take by name what the first chapter lists, and the larger commands.
 - The laws of scripts take `answers` by name, all that is written for a script: you can read them without its definition. Those of a run also take `Outs`,
   `output_of`, `summary_of` and `new_journal`.
 
@@ -103,18 +110,29 @@ class Theorem:
         return [line for line in head_of(lines, self.function) if not self.law or 'ensures' not in line or f'{{ {self.law} }}' in line]
 
 
+def laws_in(file: str, function: str, by_name: FrozenSet[str]) -> Iterator[Theorem]:
+    """The laws of a function, each by its clause; a function without laws as it is."""
+    laws = re.findall(r'ensures (?:\w+ )?\{ ([A-Z]\w+) \}', '\n'.join(head_of((CRATES / file).read_text().splitlines(), function)))
+    yield from (Theorem(file, function, law, by_name) for law in laws or [''])
+
+
 def laws_of(file: str, by_name: FrozenSet[str]) -> Iterator[Theorem]:
-    """The laws of the functions of a file, each by its clause; a function without laws as it is."""
-    lines = (CRATES / file).read_text().splitlines()
-    for function in re.findall(r'^pub fn (\w+)', '\n'.join(lines), re.MULTILINE):
-        laws = re.findall(r'ensures (?:\w+ )?\{ ([A-Z]\w+) \}', '\n'.join(head_of(lines, function)))
-        yield from (Theorem(file, function, law, by_name) for law in laws or [''])
+    """The laws of the functions of a file."""
+    for function in re.findall(r'^pub fn (\w+)', (CRATES / file).read_text(), re.MULTILINE):
+        yield from laws_in(file, function, by_name)
+
+
+@lru_cache(maxsize=None)
+def known() -> FrozenSet[str]:
+    """What the page of lists of calls has, or takes by name."""
+    things = things_of(Theorem('call_lists/src/making.rt', 'make_all', by_name=SHARED))
+    return frozenset(f'{thing.module}.{thing.name}' for thing in things if isinstance(thing, Definition))
 
 
 def theorems() -> List[Theorem]:
-    """A list of calls, a script's run, each law of a handle, and each law over bytes."""
+    """A list of calls, a script's run, each law of a handle, those of marks, models and convex solids, and each law over bytes."""
     return [Theorem('call_lists/src/making.rt', 'make_all', by_name=SHARED), Theorem('script_running/src/running.rt', 'run', by_name=SHARED),
-            *laws_of(HANDLES, HEADLINE), *laws_of(LAWS, BY_NAME)]
+            *laws_of(HANDLES, HEADLINE), *(law for file, function in FURTHER for law in laws_in(file, function, known())), *laws_of(LAWS, BY_NAME)]
 
 
 def doc_above(lines: List[str], at: int) -> List[str]:
@@ -210,7 +228,7 @@ def shown(definition: Definition, by_name: FrozenSet[str]) -> List[str]:
     lines = [*definition.comment, *definition.lines]
     name = f'{definition.module}.{definition.name}'
     if name in by_name:
-        page = SHARED_PAGE if name in SHARED else HEADLINE_PAGE if by_name is HEADLINE else ''
+        page = SHARED_PAGE if name in SHARED else HEADLINE_PAGE if by_name in (HEADLINE, known()) else ''
         why = f'it stands on {page}' if page else 'nothing looks into it here'
         lines = [*definition.comment, definition.lines[0].split(' where')[0], f'-- (by its name: {why})']
     return lines
@@ -333,7 +351,7 @@ def sentence(theorem: Theorem) -> str:
     """What a theorem says: the comment of the law, or the function's documentation, of which one sentence where that is no law."""
     lines = (CRATES / theorem.file).read_text().splitlines()
     law = named(scope_of(lines), theorem.law)
-    if isinstance(law, Definition) and law.comment:
+    if isinstance(law, Definition) and law.comment and theorem.by_name != known():
         told_of = ' '.join(line.lstrip('- ') for line in law.comment)
         return told_of[:1].upper() + told_of[1:] + '.'
     at = next(at for at, line in enumerate(lines) if re.match(rf'pub fn {theorem.function}\b', line))
