@@ -5,10 +5,10 @@ Each row of tests/library_features.table is a feature, and behind `=` what it gi
 the solid and a sum over its points; or the name of what is refused, its value, and of what isn't possible the cause, what was met and where. A face is told
 by the ends of a side of its outer loop, an edge by its own, in the direction of its first half-edge; a solid that is cut by its listing. `halve` cuts it in
 two, and tells of both; `union` adds a block at a point, `subtract` takes one away, and `intersect` leaves what is in it too; `around` tells of all of a row;
-`chamfers` takes a width and the ends of its edges; `pocket_along` and `boss_along` take a vector in place of a depth. A row `undo` takes the last feature
-back. The table was written by features in Python that shared no code with those of the library, a row by turned points, chamfers of several edges by cuts,
-features by vectors by products of areas with these, and the last 40 parts, of Booleans, by unit cubes; what is undone was compared at random points with what
-was cut out or put on.
+`chamfers` takes a width and the ends of its edges; `pocket_along` and `boss_along` take a vector in place of a depth. `block`, `profile` and `model` begin a
+part. A row `undo` takes the last feature back. The table was written by features in Python that shared no code with those of the library, a row by turned
+points, chamfers of several edges by cuts, features by vectors by products of areas with these, and 40 parts of Booleans by unit cubes; what is undone was
+compared at random points with what was cut out or put on, and in what is refused as Meets in slanted parts gwb-check found that it would touch itself.
 """
 import re
 from itertools import takewhile
@@ -27,7 +27,7 @@ Point = Tuple[int, int, int]
 SOLID, ABOVE = 1, 77
 # What rows are called in the program, where it isn't the same.
 _CALLS = {'halve': 'cut', 'around': 'pattern_around', 'chamfers': 'chamfer_edges', 'cut': 'off_lattice'}
-_BOOLEANS = ('union', 'subtract', 'intersect')
+_BOOLEANS, _BEGINNINGS = ('union', 'subtract', 'intersect'), ('block', 'profile', 'model')
 
 
 class Line(NamedTuple):
@@ -83,10 +83,12 @@ class Table:
     def _row(self, row: str) -> Iterator[Line]:
         words, _, stored = row.partition(' = ')
         word, _, rest = words.partition(' ')
-        if word in ('part', 'undo'):
+        if word == 'undo':
             yield Line(word)
             return
-        before = '' if word in ('block', 'profile', 'model') else self._session.listing()
+        if word in _BEGINNINGS:
+            yield Line('part')
+        before = '' if word in _BEGINNINGS else self._session.listing()
         yield from self._feature(word, rest)
         after, given = self._session.listing(), self._session.given
         is_made = given.startswith('ok') and word != 'cut'
