@@ -17,6 +17,8 @@ from gwb import CompanionError, Impossible, NotOne, Refused, Unfit, Workbench
 from gwb.checks.check import check
 from gwb.geometry.measures import area_vector
 from gwb.geometry.vectors import add
+from gwb.programs.playing import played
+from gwb.scripts.marks import mark_in
 
 PARTS = sorted((TESTS / 'parts').glob('*.py'))
 
@@ -390,6 +392,35 @@ class Scripts(unittest.TestCase):
                     again.undo()
                     bench.undo()
                 self.assertEqual((again.script(), bench.script()), (empty, empty))
+
+    def test_drafts_and_groups_have_names(self):
+        bench = Workbench(library(), step=STEP)
+        self.addCleanup(bench.close)
+        with bench.draft('Geh\u00e4use, unten'):
+            block = bench.block((0, 0, 0), (9, 9, 9))
+            with bench.draft('bore'):
+                bench.drill(block.top, (4, 4, 9), 2, 4)
+        with bench.group('feet'):
+            bench.move(block, (0, 0, 1))
+            bench.block((20, 0, 0), (1, 1, 1))
+        with self.assertRaises(KeyError), bench.draft('nothing'):
+            bench.move(block, (0, 0, 1))
+            raise KeyError
+        with bench.draft('empty'):
+            pass
+        with tempfile.TemporaryDirectory() as folder:
+            bench.save(f'{folder}/part.gwb')
+            saved = Path(f'{folder}/part.gwb').read_bytes()
+            marks = [mark_in(line) for line in saved.splitlines()]
+            self.assertEqual([(mark.is_step, mark.names) for mark in marks if mark], [(False, ['Geh\u00e4use', 'unten']), (True, ['feet']), (False, ['feet'])])
+            self.assertIn(rb': Geh\u00e4use, unten', saved)
+            with Workbench.load(f'{folder}/part.gwb', library()) as again:
+                again.save(f'{folder}/again.gwb')
+                self.assertEqual(Path(f'{folder}/again.gwb').read_bytes(), saved)
+            rows = [step.row for step in played(saved).steps if step.row]
+            self.assertEqual(rows, ['Geh\u00e4use, unten', 'feet'])
+        with self.assertRaisesRegex(TypeError, '^name: a str is wanted'):
+            bench.draft(1)
 
     def test_steps_within_steps_of_a_file(self):
         blocks = [f'block {number} {9 * number} 0 0 1 1 1' for number in range(1, 6)]

@@ -12,6 +12,7 @@ from ..geometry.model import Model
 from ..geometry.vectors import Vector
 from ..protocol.language import first_word, is_answered, is_comment
 from ..protocol.replies import Reply, shortened
+from ..scripts.marks import mark_in
 from ..session.library import Library, find_path, is_library
 from .explain import meaning
 from .pipe import Pipe, find_program
@@ -23,8 +24,6 @@ _PLACES = {'mvfs': '.F', 'kvfs': 'S', 'mev': 'H', 'mef': 'H..F', 'kef': 'H', 'ke
 _FRESH, _WHOLE = ('lamina', 'block', 'sweep', 'split'), ('glue', 'split')
 # Where the command stands that is taken back or done again, from how many are held.
 _TURNS = {'undo': -1, 'redo': 0}
-# The mark of a saved script before commands that are one step, perhaps with a name of it.
-_MARK = re.compile(rb'# (step|draft) of ([1-9][0-9]{0,8}) commands(?:: (.{1,200}))?')
 _NUMBER = re.compile('@?([+-]?)0*([0-9]{1,9})')
 # The reply to a command, and the model before and after it, or that of some faces, among which are all that it changed.
 Answer = Tuple[Reply, Model, Model]
@@ -172,9 +171,9 @@ def _rows_of(script: bytes) -> Dict[int, str]:
     words: List[str] = []
     left, first, name = 0, 0, ''
     for number, line in enumerate(script.split(b'\n'), 1):
-        mark = _MARK.fullmatch(line.rstrip(b'\r'))
+        mark = mark_in(line)
         if mark and not left:
-            left, first, name, words = int(mark[2]), 0, (mark[3] or b'').decode('utf-8', 'replace'), []
+            left, first, name, words = mark.count, 0, ', '.join(mark.names), []
         if not is_answered(line) or is_comment(line):
             continue
         if left:

@@ -11,9 +11,9 @@ from .turns import Holder
 class _Work:
     """What is given in a draft, in a group, or in part of a draft that is open, from its begin on."""
 
-    def __init__(self, kernel: Kernel, is_group: bool, block: 'ReferenceType[Block]') -> None:
+    def __init__(self, kernel: Kernel, is_group: bool, name: str, block: 'ReferenceType[Block]') -> None:
         lines, notes = kernel.lines, kernel.notes
-        self._kernel, self._block, self._is_kept, self._outer = kernel, block, False, notes.group_from
+        self._kernel, self._name, self._block, self._is_kept, self._outer = kernel, name, block, False, notes.group_from
         self._is_part, self._before, self._mark, self._ahead = lines.is_drafting, notes.at, lines.mark(), notes.ahead()
         self.is_draft, self._now = not (is_group or self._is_part), (len(notes.now.looks), notes.now.unit, len(notes.now.calls))
 
@@ -50,9 +50,13 @@ class _Work:
         were given before the first command of a group with that."""
         kernel, notes, looks, unit = self._kernel, self._kernel.notes, self._kernel.notes.now.looks, self._kernel.notes.now.unit
         is_empty = self.is_draft and kernel.lines.mark() == 0
+        if self._name and (self.is_draft or self._is_part):
+            notes.now.calls[self._now[2]:] = [self._name]
         if self.is_draft:
             (kernel.lines.abandon if is_empty else kernel.lines.commit)()
         kernel.settle()
+        for note in notes.all[self._before + 1:notes.at + 1] if self._name and not self._is_part else ():
+            note.calls[:] = [self._name]
         if is_empty:
             notes.put(*looks)
             notes.now.unit = unit
@@ -94,8 +98,8 @@ class Block:
 
     _work: Optional[_Work] = None
 
-    def __init__(self, kernel: Kernel, is_group: bool) -> None:
-        self._kernel, self._is_group = kernel, is_group
+    def __init__(self, kernel: Kernel, is_group: bool, name: str = '') -> None:
+        self._kernel, self._is_group, self._name = kernel, is_group, name
 
     def __enter__(self) -> None:
         kernel = self._kernel
@@ -105,7 +109,7 @@ class Block:
             if not kernel.is_inside:
                 kernel.begin_turn()
             kernel.lines.require_open()
-            self._work = _Work(kernel, self._is_group, ref(self))
+            self._work = _Work(kernel, self._is_group, self._name, ref(self))
             kernel.blocks.append(self._work)
             try:
                 if self._work.is_draft:

@@ -12,7 +12,6 @@ Methods are in parts over what they share (bench.py): commands (commands.py), wh
 (solids.py), labels and files (exporting.py), and the session itself, scripts and drawings here.
 """
 
-import re
 from fractions import Fraction
 from html import escape
 from pathlib import Path
@@ -26,6 +25,7 @@ from ..protocol.language import COMMANDS, first_answered, first_word, is_answere
 from ..protocol.listing import read_model
 from ..protocol.replies import Reply, is_listed
 from ..protocol.word_advice import IN_PYTHON
+from ..scripts.marks import Mark, mark_in, mark_line
 from ..scripts.unit_comments import unit_in, unit_line, unit_lines
 from . import arguments
 from .commands import Commands
@@ -43,8 +43,6 @@ from .steps import Block
 # What is said of names that went.
 _GONE = {'unit': 'lengths are millimetres now, and step says how fine they are',
          'six_volume': "volume(solid) is exact, and ask('volume 1') says six times it in steps"}
-# In a saved script the mark before the commands that are one step to undo, or one draft; gwb reads over it.
-_MARK = re.compile(rb'# (step|draft) of ([1-9][0-9]{0,8}) commands(?:: (.{1,200}))?')
 
 
 class Workbench(SolidMethods, FeatureMethods, Commands, Reading, Exporting):
@@ -99,24 +97,25 @@ class Workbench(SolidMethods, FeatureMethods, Commands, Reading, Exporting):
         """
         return self._kernel.ask(arguments.text('line', line))
 
-    def draft(self) -> ContextManager[None]:
+    def draft(self, name: str = '') -> ContextManager[None]:
         """The calls given in it are one command. By an exception it is abandoned: all is as before, what can be redone included. Within another
-        draft they are part of that, and an exception takes these alone back.
+        draft they are part of that, and an exception takes these alone back. A saved script and the steps of its page call it by the name, or else by
+        its methods.
 
         What is read in it is its model. It takes all but `undo` and `redo`, which raise InDraft. Calls of other threads wait for its end.
 
-        >>> with bench.draft():
+        >>> with bench.draft('lid'):
         ...     _ = bench.move(block, (0, 0, 5))
         ...     _ = bench.block((50, 0, 0), (1, 1, 1))
         >>> bench.undo()
         >>> bench.solids().one().points[0]
         (0, 0, 0)
         """
-        return Block(self._kernel, False)
+        return Block(self._kernel, False, arguments.text('name', name))
 
-    def group(self) -> ContextManager[None]:
+    def group(self, name: str = '') -> ContextManager[None]:
         """The calls given in it are one step to undo, in a draft part of it. By an exception all of them are taken back, what could be redone
-        before included.
+        before included. The name is as that of a draft.
 
         It takes all but `undo` and `redo`, which raise InGroup; groups and drafts may stand in it. Calls of other threads wait for its end.
 
@@ -127,7 +126,7 @@ class Workbench(SolidMethods, FeatureMethods, Commands, Reading, Exporting):
         >>> bench.solids().one().points[0]
         (0, 0, 0)
         """
-        return Block(self._kernel, True)
+        return Block(self._kernel, True, arguments.text('name', name))
 
     def listing(self) -> Model:
         """The model held, its points in steps of the lattice.
@@ -205,19 +204,19 @@ class Workbench(SolidMethods, FeatureMethods, Commands, Reading, Exporting):
             raise
         return bench
 
-    def _take(self, file: Path, lines: Iterator[Tuple[int, bytes]], within: bytes = b'', most: int = maxsize) -> int:
+    def _take(self, file: Path, lines: Iterator[Tuple[int, bytes]], within: Optional[Mark] = None, most: int = maxsize) -> int:
         """Gives the lines of a script, up to so many commands, which are a step or a draft where `within` says so: how many were given. A complaint
         is raised, which names the file and the line."""
         given = 0
         for number, line in lines:
-            mark, unit = _MARK.fullmatch(line.rstrip(b'\r')), unit_in(line)
+            mark, unit = mark_in(line), unit_in(line)
             if unit is not None:
                 self._kernel.notes.now.unit = unit
-            elif mark and within not in (mark[1], b'draft'):
+            elif mark and (not within or within.is_step and not mark.is_step):
                 notes, outer = self._kernel.notes, self._kernel.notes.called
-                with Block(self._kernel, mark[1] == b'step'):
-                    notes.called = mark[3].decode('ascii', 'backslashreplace').split(', ') if mark[3] else []
-                    given += self._take(file, lines, mark[1], min(int(mark[2]), most - given))
+                with Block(self._kernel, mark.is_step):
+                    notes.called = mark.names
+                    given += self._take(file, lines, mark, min(mark.count, most - given))
                 notes.called = outer
             elif is_answered(line) and not is_comment(line):
                 text = line.decode('utf-8', 'surrogateescape')
@@ -262,19 +261,18 @@ def _saved_lines(kernel: Kernel) -> Iterator[str]:
     steps = {first: commands[first:last] for first, last in zip(starts, [*starts[1:], len(notes)])}
     for place, (lines, note) in enumerate(zip(commands, [*notes, kernel.notes.now])):
         if len(steps.get(place, [])) > 1:
-            yield f'# step of {sum(map(len, steps[place]))} commands{_called(notes[place:place + len(steps[place])])}'
+            yield mark_line(Mark(True, sum(map(len, steps[place])), _called(notes[place:place + len(steps[place])])))
         if len(lines) > 1 and place < len(notes):
-            yield f'# draft of {len(lines)} commands{_called([note])}'
+            yield mark_line(Mark(False, len(lines), _called([note])))
         yield from lines
         if note.unit != unit:
             yield unit_line(note.unit)
         unit = note.unit
 
 
-def _called(notes: List[Note]) -> str:
+def _called(notes: List[Note]) -> List[str]:
     """What a mark says of the calls that gave these commands."""
-    names = ', '.join(dict.fromkeys(name for note in notes for name in note.calls))
-    return f': {names[:200]}' if names else ''
+    return list(dict.fromkeys(name for note in notes for name in note.calls))
 
 
 def _require_no_form(file: Path, data: bytes) -> None:
