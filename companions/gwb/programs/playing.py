@@ -173,7 +173,7 @@ def _rows_of(script: bytes) -> Dict[int, str]:
     for number, line in enumerate(script.split(b'\n'), 1):
         mark = mark_in(line)
         if mark and not left:
-            left, first, name, words = mark.count, 0, ', '.join(mark.names), []
+            left, first, name, words = mark.commands, 0, ', '.join(mark.names), []
         if not is_answered(line) or is_comment(line):
             continue
         if left:

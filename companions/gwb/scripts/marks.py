@@ -12,7 +12,7 @@ class Mark(NamedTuple):
     """So many commands are one step, or one draft, and what that is called: the methods that gave it, or the name that the caller gave it."""
 
     is_step: bool
-    count: int
+    commands: int
     names: List[str]
 
 
@@ -34,4 +34,4 @@ def _plain(text: str) -> List[str]:
 def mark_line(mark: Mark) -> str:
     """The line of a script that is the mark."""
     names = json.dumps(', '.join(mark.names)[:_LONGEST])[1:-1]
-    return f'# {"step" if mark.is_step else "draft"} of {mark.count} commands{names and ": " + names}'
+    return f'# {"step" if mark.is_step else "draft"} of {mark.commands} commands{names and ": " + names}'

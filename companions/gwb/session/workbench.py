@@ -216,7 +216,7 @@ class Workbench(SolidMethods, FeatureMethods, Commands, Reading, Exporting):
                 notes, outer = self._kernel.notes, self._kernel.notes.called
                 with Block(self._kernel, mark.is_step):
                     notes.called = mark.names
-                    given += self._take(file, lines, mark, min(mark.count, most - given))
+                    given += self._take(file, lines, mark, min(mark.commands, most - given))
                 notes.called = outer
             elif is_answered(line) and not is_comment(line):
                 text = line.decode('utf-8', 'surrogateescape')
