@@ -53,7 +53,7 @@ Combined combined_with(Bench &bench, Operation operation, Solid first, const std
         operands[0] = sheets;
         return laid(bench, operation, first, operands, why);
     };
-    return make_near(bench, first, near, others, why, lay, [](const Combined &, const std::vector<Sheet> &) {});
+    return make_near(bench, first, near, others, why, lay);
 }
 
 /// The faces that regions became, with those that they are parts of.
@@ -97,7 +97,7 @@ Sources join_faces(Bench &bench, Solid solid)
     const auto regions = arrangement::made_of({sheets, {}}, made_by(Operation::unite), arrangement::Joins::all, is_nothing, why);
     const Held held(bench, before, false);
     AllNames names(bench);
-    const Combined found = Assembly(held, regions, names).made(solid, why);
+    const Combined found = assembled(held, regions, names, solid, why);
     if (found.model.edges.size() == before.edges.size())
         return {};
     make_anew(bench, found.model);

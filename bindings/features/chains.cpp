@@ -182,4 +182,50 @@ Chain::Near Chain::near(const Box &box) const
     return found;
 }
 
+// ---- of sides
+
+Box box_of(const std::vector<Side> &cycles)
+{
+    Box box = box_of(cycles[0].start);
+    for (const Side &side : cycles)
+        box.take(side.run != nullptr ? box_of(side) : box_of(side.start));
+    return box;
+}
+
+Vector area_of(const std::vector<Side> &sides)
+{
+    Vector sum{};
+    for (const Side &side : sides)
+        sum = add(sum, side.run != nullptr ? side.run->area() : cross(side.start, side.end));
+    return sum;
+}
+
+std::optional<bool> is_crossed(const std::vector<Side> &sides, const ScaledPoint &point, Axes axes)
+{
+    bool is_odd = false;
+    for (const Side &side : sides) {
+        if (side.run != nullptr) {
+            const std::optional<bool> passes = side.run->is_crossed(point, axes);
+            if (!passes)
+                return std::nullopt;
+            is_odd = is_odd != *passes;
+            continue;
+        }
+        const Wide start = side.start[axes[1]] * point.scale, end = side.end[axes[1]] * point.scale, level = point.at[axes[1]];
+        if (std::min(start, end) > level || std::max(start, end) < level) // it lies beside the ray
+            continue;
+        if (side.holds(point, axes))
+            return std::nullopt;
+        if ((start > level) != (end > level) && (side.turn(point, axes) > 0) == (end > start))
+            is_odd = !is_odd;
+    }
+    return is_odd;
+}
+
+Place locate(const std::vector<Side> &cycles, const ScaledPoint &point, Axes axes)
+{
+    const std::optional<bool> is_within = is_crossed(cycles, point, axes);
+    return !is_within ? Place::on : *is_within ? Place::inside : Place::outside;
+}
+
 } // namespace gwb_session::machining

@@ -78,22 +78,10 @@ private:
 
 inline Box box_of(const Side &side) { return side.run != nullptr ? side.run->box() : Box::between(side.start, side.end); }
 /// The box around closed cycles, where each side ends at a start.
-inline Box box_of(const std::vector<Side> &cycles)
-{
-    Box box = box_of(cycles[0].start);
-    for (const Side &side : cycles)
-        box.take(side.run != nullptr ? box_of(side) : box_of(side.start));
-    return box;
-}
+Box box_of(const std::vector<Side> &cycles);
 
 /// Twice the area that the sides of cycles go round, as a vector.
-inline Vector area_of(const std::vector<Side> &sides)
-{
-    Vector sum{};
-    for (const Side &side : sides)
-        sum = add(sum, side.run != nullptr ? side.run->area() : cross(side.start, side.end));
-    return sum;
-}
+Vector area_of(const std::vector<Side> &sides);
 
 /// The ways in which a side leaves its start and comes to its end.
 inline Vector way_out(const Side &side) { return side.run != nullptr ? side.run->first().way() : side.way(); }
@@ -105,33 +93,9 @@ inline bool has_runs(const std::vector<Side> &sides) { return any(sides, [](cons
 inline std::vector<Side> without_runs(const std::vector<Side> &sides) { return has_runs(sides) ? Chain(sides).sides() : sides; }
 
 /// What a ray from a point of a plane along the first axis does: whether it crosses an odd number of sides in it; none where the point lies on one.
-inline std::optional<bool> is_crossed(const std::vector<Side> &sides, const ScaledPoint &point, Axes axes)
-{
-    bool is_odd = false;
-    for (const Side &side : sides) {
-        if (side.run != nullptr) {
-            const std::optional<bool> passes = side.run->is_crossed(point, axes);
-            if (!passes)
-                return std::nullopt;
-            is_odd = is_odd != *passes;
-            continue;
-        }
-        const Wide start = side.start[axes[1]] * point.scale, end = side.end[axes[1]] * point.scale, level = point.at[axes[1]];
-        if (std::min(start, end) > level || std::max(start, end) < level) // it lies beside the ray
-            continue;
-        if (side.holds(point, axes))
-            return std::nullopt;
-        if ((start > level) != (end > level) && (side.turn(point, axes) > 0) == (end > start))
-            is_odd = !is_odd;
-    }
-    return is_odd;
-}
+std::optional<bool> is_crossed(const std::vector<Side> &sides, const ScaledPoint &point, Axes axes);
 
 /// Where a point lies against cycles in its plane.
-inline Place locate(const std::vector<Side> &cycles, const ScaledPoint &point, Axes axes)
-{
-    const std::optional<bool> is_within = is_crossed(cycles, point, axes);
-    return !is_within ? Place::on : *is_within ? Place::inside : Place::outside;
-}
+Place locate(const std::vector<Side> &cycles, const ScaledPoint &point, Axes axes);
 
 } // namespace gwb_session::machining

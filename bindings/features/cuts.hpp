@@ -1,186 +1,20 @@
 /// @file cuts.hpp Solids cut in two, and trimmed, by planes: by split, or where that refuses for the corners that the plane touches or for how it
 /// runs through faces and holes, face by face; caps close both parts then, and faces in the plane are one with the caps beside them.
 #pragma once
-#include "combining.hpp"
+#include "machining.hpp"
 
 namespace gwb_session::cuts {
 
-using namespace combining;
-using exact::Plane;
-
-// ---- what lies below
-
-/// Puts in what is left of a face below the plane. A face in the plane is left where it looks upwards.
-inline void put_below(const Sheet &sheet, const Plane &plane, const Failure &why, std::vector<Sheet> &left)
-{
-    go_on();
-    const bool is_below = any(sheet.sides, [&](const Side &side) { return plane.height(side.start) < 0; });
-    const bool is_above = any(sheet.sides, [&](const Side &side) { return plane.height(side.start) > 0; });
-    if (!is_above && (is_below || dot(sheet.plane.across, plane.across) > 0))
-        left.push_back(sheet);
-    if (!is_above || !is_below)
-        return;
-    std::vector<Side> sides; // the parts below, which split found to end at whole points; those in the plane where the face beside them lies below
-    for (Side side : sheet.sides) {
-        const Wide start = plane.height(side.start), end = plane.height(side.end);
-        if (sign(start) * sign(end) < 0)
-            (start < 0 ? side.end : side.start) = *divided(side, start, end).whole();
-        const bool is_in_plane = start == 0 && end == 0;
-        if (is_in_plane ? dot(plane.across, cross(sheet.plane.across, side.way())) < 0 : std::min(start, end) < 0)
-            sides.push_back(side);
-    }
-    for (const auto &[first, last] : sheet.cut_by(plane)) { // the sides along which the plane cuts the face
-        const Side side{*first.whole(), *last.whole()};
-        sides.push_back(dot(cross(sheet.plane.across, plane.across), side.way()) > 0 ? side : side.turned());
-    }
-    for (const std::vector<Cycle> &cycles : regions_of(sides, sheet.plane.across, why))
-        left.push_back({Shape(cycles), {sheet.owners[0]}, {}});
-}
-
-/// The sides in the plane that have no other beside them, turned round.
-inline std::vector<Side> open_sides(const std::vector<Sheet> &left, const Plane &plane)
-{
-    std::multiset<std::pair<Vector, Vector>> open;
-    for (const Sheet &sheet : left)
-        for (const Side &side : filtered(sheet.sides, [&](const Side &of) { return plane.height(of.start) == 0 && plane.height(of.end) == 0; }))
-            if (const auto other = open.find({side.start, side.end}); other != open.end())
-                open.erase(other);
-            else
-                open.insert({side.end, side.start});
-    return mapped(open, [](const auto &ends) { return Side{ends.first, ends.second}; });
-}
-
-/// Sheets of a plane become one, without their seams, which are there in both directions.
-inline void put_joined(const std::vector<Sheet> &sheets, const Plane &plane, const Failure &why, std::vector<Sheet> &left)
-{
-    if (sheets.size() == 1) {
-        left.push_back(sheets[0]);
-        return;
-    }
-    Sheet made = sheets[0];
-    std::set<std::pair<Vector, Vector>> ways;
-    std::vector<Side> sides;
-    for (const Sheet &sheet : sheets) {
-        append(sides, sheet.sides);
-        made.marks = {0};
-        if (&sheet != &sheets[0])
-            append(made.owners, sheet.owners);
-    }
-    for (const Side &side : sides)
-        ways.insert({side.start, side.end});
-    sides = filtered(sides, [&](const Side &side) { return ways.count({side.end, side.start}) == 0; });
-    for (const std::vector<Cycle> &cycles : regions_of(sides, plane.across, why))
-        left.push_back({Shape(cycles), made.owners, made.marks});
-}
-
-/// Closes what is left by caps, which have marks: faces in the plane beside them become one with them.
-inline void put_caps(std::vector<Sheet> &left, const Plane &plane, const Failure &why)
-{
-    const auto is_level = [&](const Sheet &sheet) { return lie_in(sheet.sides, plane); };
-    std::vector<Sheet> level = filtered(left, is_level);
-    for (const std::vector<Cycle> &cycles : regions_of(open_sides(left, plane), plane.across, why))
-        level.push_back({Shape(cycles), {}, {0}});
-    left.erase(std::remove_if(left.begin(), left.end(), is_level), left.end());
-    std::map<std::pair<Vector, Vector>, std::size_t> at_sides;
-    for (std::size_t at = 0; at < level.size(); at++)
-        for (const Side &side : level[at].sides)
-            at_sides[{side.start, side.end}] = at;
-    JoinedSets<std::size_t> joined_sheets;
-    for (const auto &[ends, at] : at_sides)
-        if (const std::size_t *beside = look_up(at_sides, std::pair(ends.second, ends.first)); beside != nullptr && level[at].marks != level[*beside].marks)
-            joined_sheets.join(std::min(joined_sheets.name(at), joined_sheets.name(*beside)), std::max(joined_sheets.name(at), joined_sheets.name(*beside)));
-    std::map<std::size_t, std::vector<Sheet>> members;
-    for (std::size_t at = 0; at < level.size(); at++)
-        members[joined_sheets.name(at)].push_back(level[at]);
-    for (const auto &[name, sheets] : members)
-        put_joined(sheets, plane, why, left);
-}
-
-/// The part of a solid below a plane, closed by caps, which are its faces that have marks.
-inline Combined part_below(const Held &held, const std::vector<Sheet> &sheets, const Plane &plane, Solid solid, AllNames &names)
-{
-    const Failure meets = impossible(Misfit::meets, held.model.solid.number(), met(GWB_CAUSE_TOUCHES_ITSELF));
-    std::vector<Sheet> left;
-    for (const Sheet &sheet : sheets)
-        put_below(sheet, plane, meets, left);
-    put_caps(left, plane, meets);
-    return Assembly(held, left, names).made(solid, meets);
-}
-
-// ---- what is cut
+using namespace machining;
 
 /// The faces that close the part below a plane, and those that close the one above.
 using Caps = std::array<std::vector<Face>, 2>;
 
 /// The command split.
-inline Caps split(Bench &bench, Solid solid, const gwb_cut_plane &row, Solid above)
-{
-    const Face before = bench.greatest<Face>();
-    const Plane plane = Plane::of(row);
-    bench.split(solid, row.a, row.b, row.c, row.d, above);
-    const auto caps = [&](Solid part) {
-        return filtered(bench.faces(part), [&](Face face) { return face > before && lie_in(joined(cycles_at(bench, face)), plane); });
-    };
-    return {caps(solid), caps(above)};
-}
-
-/// Cuts a solid face by face. What lies above may not be wanted.
-inline Caps cut_by_faces(Bench &bench, Solid solid, const Plane &plane, const Path &corners, Solid above, bool is_wanted)
-{
-    const Held held(bench, Model::whole(bench, solid));
-    const std::vector<Sheet> sheets = sheets_of(held.model);
-    AllNames names(bench);
-    const Combined lower = part_below(held, sheets, plane, solid, names);
-    const Combined upper = is_wanted ? part_below(held, sheets, plane.turned(), above, names) : Combined();
-    const bool touch = !corners.empty() && touch_anew({&held.model}, {&lower.model, &upper.model}, box_of(corners));
-    require(!touch, impossible(Misfit::meets, solid.number(), met(GWB_CAUSE_TOUCHES_ITSELF)));
-    if (const auto operators = changing::operators_between({held.model, lower.model}, names))
-        give(bench, *operators);
-    else
-        make_anew(bench, lower.model);
-    if (is_wanted)
-        bench.load(upper.model.listing());
-    return {lower.marked(0), upper.marked(0)};
-}
-
-/// Whether a face lies in a plane: beside it split would leave a seam.
-inline bool has_face_in(const Model &model, const Plane &plane)
-{
-    return any(model.faces, [&](const auto &row) {
-        const std::vector<Side> sides = joined(model.cycles(row.first));
-        return !sides.empty() && lie_in(sides, plane);
-    });
-}
+Caps split(Bench &bench, Solid solid, const gwb_cut_plane &row, Solid above);
 
 /// What lies above a plane becomes another solid, or goes where it isn't wanted. Not possible: Meets: at corners that lie in the plane one of the parts
 /// meets or touches itself as the solid didn't.
-inline Caps cut(Bench &bench, Solid solid, const gwb_cut_plane &row, Solid above, bool is_wanted)
-{
-    const Plane plane = Plane::of(row);
-    const Path points = mapped(bench.half_edge_rows(solid), [&](const gwb_half_edge_row &half) {
-        go_on();
-        return vector(bench.vertex(Vertex(half.start)));
-    });
-    const Path corners = filtered(points, [&](const Vector &at) { return plane.height(at) == 0; });
-    const Model before = corners.empty() ? Model() : Model::whole(bench, solid);
-    const bool has_level = has_face_in(before, plane);
-    const std::size_t mark = gwb_mark(bench.handle());
-    Result<Caps> caps = tried([&] { return split(bench, solid, row, above); });
-    constexpr std::array coped_with = {GWB_WHY_TOUCHED_FACE, GWB_WHY_CUT_OFTEN, GWB_WHY_CUT_CROSSED, GWB_WHY_BRANCHED_VERTEX, GWB_WHY_SECTION_HOLES};
-    require(has(caps) || any(coped_with, [&](gwb_why why) { return caps.error().is(why); }), caps.error());
-    if (caps && has_level)
-        (void)gwb_back(bench.handle(), mark);
-    if (!caps || has_level)
-        return cut_by_faces(bench, solid, plane, corners, above, is_wanted);
-    if (!corners.empty()) {
-        const Model lower = Model::whole(bench, solid), upper = is_wanted ? Model::whole(bench, above) : Model();
-        require(!touch_anew({&before}, {&lower, &upper}, box_of(corners)), impossible(Misfit::meets, solid.number(), met(GWB_CAUSE_TOUCHES_ITSELF)));
-    }
-    if (!is_wanted) {
-        (*caps)[1].clear();
-        take_away(bench, above);
-    }
-    return *caps;
-}
+Caps cut(Bench &bench, Solid solid, const gwb_cut_plane &row, Solid above, bool is_wanted);
 
 } // namespace gwb_session::cuts

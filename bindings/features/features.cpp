@@ -3,6 +3,7 @@
 #include "gwb_features.h"
 #pragma GCC visibility pop
 #include "booleans.hpp"
+#include "circles.hpp"
 #include "components.hpp"
 #include "cuts.hpp"
 #include "drilling.hpp"

@@ -1,106 +1,24 @@
-/// @file simple_outlines.hpp Whether an outline crosses or touches itself, in time n log n.
+/// @file simple_outlines.hpp Outlines that callers give: whether they are flat, and neither cross nor touch themselves.
 #pragma once
 #include "shapes.hpp"
 
 namespace gwb_session::machining {
 
-/// Whether two different sides of an outline meet otherwise than neighbours do, at their common end.
-inline bool clash(const Side &side, const Side &other, Axes axes)
+/// Points of the caller; refused where one lies out of range.
+Path path_of(Items<Point> points);
+
+/// Refuses points off a plane, which was met.
+void require_in(const Plane &plane, const Path &path, const gwb_hit_row &hit = {});
+
+/// The normal of the flat simple outline through points.
+Vector simple_normal(const Path &path);
+
+/// What belongs to the sides of a path, the other way round, and what belongs to its points: from the same point on.
+template <class Item> std::vector<Item> backwards(const std::vector<Item> &sides) { return {sides.rbegin(), sides.rend()}; }
+template <class Item> std::vector<Item> turned(std::vector<Item> points)
 {
-    const auto folds = [&](const Side &one, const Side &next) { return next.holds({one.start}, axes) || one.holds({next.end}, axes); };
-    if (side.end == other.start)
-        return folds(side, other);
-    return other.end == side.start ? folds(other, side) : side.meets(other, axes);
-}
-
-/// A line that goes over an outline whose points are different, and knows the sides that it crosses in their order along it. Of sides that clash some
-/// are beside each other on it before they do; until then their order is the same all the way.
-class Sweep {
-public:
-    Sweep(const Cycle &sides, Axes axes) : sides_(sides), axes_(axes), places_(sides.size())
-    {
-        rows_ = mapped(sides, [&](const Side &side) { return Row(std::minmax({flat(side.start), flat(side.end)})); });
-    }
-
-    /// Whether any two clash. It goes over the outline once.
-    bool finds_clash()
-    {
-        std::vector<std::pair<Flat, std::size_t>> corners; // at each a side begins and the one before it ends
-        for (std::size_t at = 0; at < sides_.size(); at++)
-            corners.emplace_back(flat(sides_[at].start), at);
-        std::sort(corners.begin(), corners.end());
-        return any(corners, [&](const auto &corner) {
-            go_on();
-            const std::array beside = {corner.second, (corner.second + sides_.size() - 1) % sides_.size()};
-            return any(beside, [&](std::size_t at) { return rows_[at].second == corner.first && clashes_behind(at); }) ||
-                   any(beside, [&](std::size_t at) { return rows_[at].first == corner.first && clashes_at(at); });
-        });
-    }
-
-private:
-    using Flat = std::array<std::int64_t, 2>;
-    using Row = std::pair<Flat, Flat>; ///< the ends of a side, in the order in which the line comes to them
-    struct Lower {
-        const std::vector<Row> *rows;
-        bool operator()(std::size_t one, std::size_t other) const
-        {
-            const Row &first = (*rows)[one], &second = (*rows)[other];
-            const int turned = first.first <= second.first ? turn(first, second) : -turn(second, first);
-            return turned != 0 ? turned > 0 : one < other;
-        }
-    };
-    using Order = std::set<std::size_t, Lower>;
-
-    /// Positive where the second one, which begins later, lies left of the first, by where it begins, or else by where it ends.
-    static int turn(const Row &first, const Row &second)
-    {
-        const auto left = [&](const Flat &at) { // (coordinates lie within 10^9, so this does within 2^63)
-            const std::int64_t x = first.second[0] - first.first[0], y = first.second[1] - first.first[1];
-            return x * (at[1] - first.first[1]) - y * (at[0] - first.first[0]);
-        };
-        const std::int64_t begins = left(second.first);
-        return sign(begins != 0 ? begins : left(second.second));
-    }
-
-    [[nodiscard]] Flat flat(const Vector &at) const { return {static_cast<std::int64_t>(at[axes_[0]]), static_cast<std::int64_t>(at[axes_[1]])}; }
-    [[nodiscard]] bool clashes(std::size_t one, std::size_t other) const { return clash(sides_[one], sides_[other], axes_); }
-
-    /// A side begins: whether it clashes with one beside it.
-    bool clashes_at(std::size_t at)
-    {
-        const auto here = places_[at] = order_.insert(at).first;
-        const auto next = std::next(here);
-        return (here != order_.begin() && clashes(*std::prev(here), at)) || (next != order_.end() && clashes(at, *next));
-    }
-
-    /// A side ends: whether those beside it clash.
-    bool clashes_behind(std::size_t at)
-    {
-        const auto next = order_.erase(places_[at]);
-        return next != order_.begin() && next != order_.end() && clashes(*std::prev(next), *next);
-    }
-
-    const Cycle &sides_;
-    Axes axes_;
-    std::vector<Row> rows_;
-    Order order_{Lower{&rows_}};
-    std::vector<Order::iterator> places_;
-};
-
-/// Refuses an outline of different points that crosses or touches itself, with the place of the first side that meets a later one.
-inline void require_simple(const Cycle &sides, Axes axes)
-{
-    if (!Sweep(sides, axes).finds_clash())
-        return;
-    BoxIndex boxes;
-    for (std::size_t at = 0; at < sides.size(); at++)
-        boxes.put(box_of(sides[at]), at);
-    for (std::size_t at = 0; at < sides.size(); at++) {
-        go_on();
-        const auto beyond = boxes.meeting(box_of(sides[at]));
-        require(!any(beyond, [&](std::size_t other) { return other > at && clash(sides[at], sides[other], axes); }),
-                impossible(Misfit::outline_crossed, place(at)));
-    }
+    std::reverse(points.begin() + 1, points.end());
+    return points;
 }
 
 } // namespace gwb_session::machining

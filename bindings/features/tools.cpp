@@ -130,7 +130,7 @@ Combined change(Bench &bench, Operation operation, Face face, const Tool &tool, 
             put_marks(region, tool);
         return regions;
     };
-    return make_near(bench, solid, box_of(added), {}, meets, lay, [](const Combined &, const std::vector<Sheet> &) {});
+    return make_near(bench, solid, box_of(added), {}, meets, lay);
 }
 
 } // namespace gwb_session::tools

@@ -1,0 +1,344 @@
+#include "assembly.hpp"
+#include <deque>
+
+namespace gwb_session::sheets {
+
+namespace {
+
+/// A closed surface of regions put together: sides, what follows each in its loop, and the mate of each.
+class Assembly {
+public:
+    Assembly(const Held &held, const std::vector<Sheet> &regions, AllNames &names) : held_(held), regions_(regions), names_(names)
+    {
+        for (const Sheet &region : regions_)
+            starts_.push_back(mapped(region.cycles, [&](const Cycle &cycle) { return put(cycle, &region); }));
+        for (const Cycle &cycle : held.rest)
+            put(cycle, nullptr);
+    }
+
+    /// The model of a solid, without the rest, once. Throws `why` where the surface isn't closed, or faces lie back to back at an edge.
+    Combined made(Solid solid, const Failure &why)
+    {
+        pair_whole();
+        require(pair_along_lines(), why);
+        std::vector<HalfEdge> beyond;
+        for (Placed &placed : sides_)
+            if ((placed.goes_on = divides(placed)) && placed.region == nullptr)
+                beyond.push_back(placed.side.half);
+        for (Placed &placed : sides_)
+            if (!placed.goes_on)
+                join(placed);
+        Model made(solid);
+        made.runs = held_.model.runs;
+        name_vertices(made);
+        name_edges(made);
+        for (std::size_t region = 0; region < regions_.size(); region++)
+            name_face(made, regions_[region], starts_[region]);
+        return Combined{std::move(made), std::move(regions_), std::move(beyond)};
+    }
+
+private:
+    struct Placed {
+        Side side;
+        const Sheet *region; ///< none of the rest
+        Placed *after = nullptr, *mate = nullptr;
+        bool goes_on = false; ///< straight from the one before it, as one edge
+        const Placed *edge = nullptr; ///< the first one of that edge
+        std::vector<Side> parts = {}; ///< of the first one: all of them
+        Vertex start = {};
+        HalfEdge half = {};
+
+        [[nodiscard]] bool runs_back(const Vector &way) const { return dot(way, side.way()) < 0; }
+    };
+    using Row = std::vector<Placed *>;
+
+    /// The first of the sides of a cycle, which follow each other.
+    Placed *put(const Cycle &cycle, const Sheet *region)
+    {
+        go_on();
+        Placed *first = &sides_.emplace_back(Placed{cycle[0], region}), *last = first;
+        for (std::size_t at = 1; at < cycle.size(); at++)
+            last = last->after = &sides_.emplace_back(Placed{cycle[at], region});
+        return last->after = first;
+    }
+
+    /// Sides that are both half-edges of an old edge are mates.
+    void pair_whole()
+    {
+        std::unordered_map<HalfEdge, Placed *> whole;
+        for (Placed &placed : sides_)
+            if (held_.is_whole(placed.side))
+                whole[placed.side.half] = &placed;
+        for (const auto &[half, placed] : whole)
+            if (const auto mate = whole.find(half.twin()); mate != whole.end())
+                placed->mate = mate->second;
+    }
+
+    /// The other sides are cut where the sides on one line end, and pair up.
+    bool pair_along_lines()
+    {
+        std::map<std::pair<Vector, Vector>, Row> lines;
+        for (Placed &placed : sides_)
+            if (placed.mate == nullptr) {
+                if (placed.region == nullptr) // the rest's are whole, and so are their mates
+                    return false;
+                const Vector way = line_of(placed.side.way());
+                lines[{way, cross(placed.side.start, way)}].push_back(&placed);
+            }
+        return all(lines, [&](const auto &line) { return pair_on_line(line.first.first, line.second); });
+    }
+
+    bool pair_on_line(const Vector &way, const Row &line)
+    {
+        go_on();
+        std::set<Vector> stops;
+        for (const Placed *placed : line)
+            stops.insert({placed->side.start, placed->side.end});
+        std::map<Vector, Row> parts; // by where they begin along the line
+        for (Placed *placed : line)
+            cut(placed, stops, parts);
+        return all(parts, [&](const auto &part) { return pair(part.second, way); });
+    }
+
+    /// A side becomes parts that end where sides of its line do.
+    void cut(Placed *placed, const std::set<Vector> &stops, std::map<Vector, Row> &parts)
+    {
+        const Side side = placed->side;
+        Path points(stops.lower_bound(std::min(side.start, side.end)), stops.upper_bound(std::max(side.start, side.end)));
+        if (side.end < side.start)
+            std::reverse(points.begin(), points.end());
+        for (std::size_t at = 1; at < points.size(); at++) {
+            if (at > 1)
+                placed = placed->after = &sides_.emplace_back(Placed{side, placed->region, placed->after});
+            placed->side = {points[at - 1], points[at], side.half};
+            parts[std::min(points[at - 1], points[at])].push_back(placed);
+        }
+    }
+
+    /// Mates among sides between the same two points: each that runs back with the next one round the line, which runs along; the solid lies between.
+    bool pair(Row sides, const Vector &way)
+    {
+        if (sides.size() > 2)
+            sort_round(sides, way);
+        for (std::size_t at = 0; at < sides.size(); at++) {
+            Placed *placed = sides[at], *following = sides[(at + 1) % sides.size()];
+            if (placed->runs_back(way) == following->runs_back(way))
+                return false;
+            if (placed->runs_back(way))
+                placed->mate = following, following->mate = placed;
+        }
+        return true;
+    }
+    /// Sorts sides of one line by the turn of their faces about it, counterclockwise as seen from where the way points: so do their normals, those of
+    /// sides that run back turned round. They lie across the way, so that they are looked at along an axis.
+    static void sort_round(Row &sides, const Vector &way)
+    {
+        const Axes axes = flat_axes(way);
+        const auto normal = [&](const Placed *placed) {
+            const Vector &across = placed->region->plane.across;
+            return placed->runs_back(way) ? negative(across) : across;
+        };
+        Vector from{};
+        from[axes[0]] = 1;
+        std::sort(sides.begin(), sides.end(), [&](const Placed *one, const Placed *other) { return comes_before(from, normal(other), normal(one), axes); });
+    }
+
+    /// A vertex that only divides an edge goes, unless it was there for no other reason before.
+    [[nodiscard]] bool divides(const Placed &placed) const
+    {
+        const Placed &onward = *placed.mate->after;
+        if (is_run(placed.side.half) || is_run(onward.side.half))
+            return false;
+        return &onward != &placed && onward.mate->after == &placed && !held_.is_fixed(placed.side.start) &&
+               reduced(placed.side.way()) == negative(reduced(onward.side.way()));
+    }
+
+    /// The sides from one on that are one edge become this one, with the first old half-edge of its parts.
+    static void join(Placed &own)
+    {
+        own.edge = &own;
+        own.parts = {own.side};
+        for (; own.after->goes_on; own.after = own.after->after) {
+            Placed &part = *own.after;
+            part.edge = &own;
+            own.parts.push_back(part.side);
+            own.side = {own.side.start, part.side.end, own.side.is_old() ? own.side.half : part.side.half};
+            own.mate = part.mate;
+        }
+    }
+
+    void name_vertices(Model &made)
+    {
+        for (Placed &first : sides_)
+            if (!first.goes_on && first.start == Vertex()) {
+                Row fan = {&first}; // the sides that leave the vertex
+                for (Placed *side = first.mate->after; side != &first; side = side->mate->after)
+                    fan.push_back(side);
+                const Vertex vertex = names_.vertices.one(old_vertices(fan));
+                made.vertices[vertex] = first.side.start;
+                for (Placed *side : fan)
+                    side->start = vertex;
+            }
+    }
+
+    /// The old vertices at the point where sides start: those first at which half-edges of theirs did.
+    [[nodiscard]] std::vector<Vertex> old_vertices(const Row &fan) const
+    {
+        const std::vector<Vertex> *here = look_up(held_.vertices_at, fan[0]->side.start);
+        std::vector<Vertex> found = here != nullptr ? *here : std::vector<Vertex>();
+        std::stable_partition(found.begin(), found.end(), [&](Vertex vertex) {
+            return any(fan, [&](const Placed *side) { return side->parts[0].is_old() && held_.model.start(side->parts[0].half) == vertex; });
+        });
+        return found;
+    }
+
+    /// Sides that are all of an old one come first. A new edge starts at the vertex of the lesser number.
+    void name_edges(Model &made)
+    {
+        for (bool is_whole : {true, false})
+            for (Placed &own : sides_)
+                if (!own.goes_on && own.half == HalfEdge() && (!is_whole || held_.is_whole(own.side))) {
+                    Placed &mate = *own.mate;
+                    const std::vector<HalfEdge> halves = old_halves(own);
+                    const Edge edge = names_.edges.one(mapped(halves, [](HalfEdge half) { return half.edge(); }));
+                    const auto old = std::find_if(halves.begin(), halves.end(), [&](HalfEdge half) { return half.edge() == edge; });
+                    const bool is_second = old != halves.end() ? old->is_second() : mate.start < own.start;
+                    own.half = is_second ? minus(edge) : plus(edge);
+                    mate.half = own.half.twin();
+                    made.edges[edge] = is_second ? std::pair(mate.start, own.start) : std::pair(own.start, mate.start);
+                }
+    }
+
+    /// The old half-edges that the edge of a side is made of, as it runs: those that it is all of first.
+    [[nodiscard]] std::vector<HalfEdge> old_halves(const Placed &own) const
+    {
+        std::vector<Side> parts = own.parts;
+        append(parts, mapped(own.mate->parts, [](const Side &part) { return part.turned(); }));
+        std::vector<HalfEdge> halves, others;
+        for (const Side &side : parts)
+            if (side.is_old())
+                (held_.is_whole(side) ? halves : others).push_back(side.half);
+        std::sort(halves.begin(), halves.end());
+        append(halves, others);
+        return halves;
+    }
+
+    void name_face(Model &made, Sheet &region, const Row &starts)
+    {
+        std::vector<Loop> row;
+        for (const Placed *start : starts) {
+            std::vector<HalfEdge> halves;
+            std::vector<Loop> wanted;
+            const Placed *edge = start->edge;
+            do {
+                halves.push_back(edge->half);
+                if (edge->side.is_old())
+                    wanted.push_back(held_.loop_of(edge->side.half));
+                edge = edge->after;
+            } while (edge != start->edge);
+            row.push_back(names_.loops.one(wanted));
+            made.loops[row.back()] = from_least(std::move(halves));
+        }
+        std::sort(row.begin() + 1, row.end());
+        region.face = names_.faces.one(region.owners);
+        made.faces[region.face] = row;
+    }
+
+    const Held &held_;
+    std::vector<Sheet> regions_;
+    AllNames &names_;
+    std::deque<Placed> sides_; // which stay where they are
+    std::vector<Row> starts_;
+};
+
+} // namespace
+
+// ---- what is held
+
+Held::Held(const Bench &bench, Model parts, bool keeps_vertices) : model(std::move(parts)), bench_(bench), keeps_vertices_(keeps_vertices)
+{
+    for (const auto &[vertex, at] : model.vertices)
+        vertices_at[at].push_back(vertex);
+    for (const auto &[half, run] : model.runs)
+        put_ends(half, *run);
+    put_rest();
+}
+
+Loop Held::loop_of(HalfEdge half) const
+{
+    const Loop loop = bench_.loop_of(first_of(half));
+    return model.loops.count(loop) != 0 ? loop : Loop();
+}
+
+bool Held::is_whole(const Side &side) const
+{
+    return side.is_old() && model.at(side.half) == side.start && model.at(side.half.twin()) == side.end;
+}
+
+bool Held::is_fixed(const Vector &point) const
+{
+    const std::vector<Vertex> *here = look_up(vertices_at, point);
+    return here != nullptr && any(*here, [&](Vertex vertex) {
+        const auto halves = bench_.around(vertex);
+        return any(halves, [&](HalfEdge half) { return !is_held(half) && !is_held(half.twin()); }) ||
+               (keeps_vertices_ && std::distance(halves.begin(), halves.end()) == 2);
+    });
+}
+
+void Held::put_ends(HalfEdge half, const Chain &run)
+{
+    run_to_[run.last().half] = half;
+    const Loop loop = loop_of(half);
+    if (loops_with_runs_.insert(loop).second)
+        beside_runs_.insert(model.loops.at(loop).begin(), model.loops.at(loop).end());
+}
+
+bool Held::is_held(HalfEdge half) const
+{
+    const Loop loop = loop_of(half);
+    return loop != Loop() && (loops_with_runs_.count(loop) == 0 || beside_runs_.count(half) != 0);
+}
+
+void Held::put_rest()
+{
+    std::set<HalfEdge> left;
+    for (const auto &[loop, halves] : model.loops)
+        for (HalfEdge half : halves)
+            if (is_run(half) || !is_held(half.twin()))
+                left.insert(half.twin());
+    while (!left.empty()) {
+        Cycle &cycle = rest.emplace_back();
+        for (HalfEdge half = *left.begin(); left.erase(half) != 0; half = after(half)) {
+            go_on();
+            cycle.push_back(model.side(half));
+        }
+    }
+}
+
+HalfEdge Held::after(HalfEdge half) const
+{
+    for (HalfEdge last = is_run(half) ? first_of(half.twin()).twin() : half;; last = bench_.next(last).twin()) {
+        if (is_held(last))
+            return last.twin();
+        if (const auto run = run_to_.find(last); run != run_to_.end())
+            return run->second.twin();
+    }
+}
+
+// ---- what is made
+
+std::vector<Face> Combined::marked(std::size_t mark) const
+{
+    std::set<Face> found;
+    for (const Sheet &region : regions)
+        if (std::find(region.marks.begin(), region.marks.end(), mark) != region.marks.end())
+            found.insert(region.face);
+    return {found.begin(), found.end()};
+}
+
+Combined assembled(const Held &held, const std::vector<Sheet> &regions, AllNames &names, Solid solid, const Failure &why)
+{
+    return Assembly(held, regions, names).made(solid, why);
+}
+
+} // namespace gwb_session::sheets

@@ -1,0 +1,238 @@
+#include "machining.hpp"
+
+namespace gwb_session::machining {
+
+namespace {
+
+/// The whole vector of this length along such a normal of a face. Not possible where there is none in range: OffLattice.
+Vector steps_along(Face face, const Vector &across, std::int64_t length)
+{
+    const Wide root = whole_length(across);
+    if (root == 0)
+        throw impossible(Misfit::off_lattice, face.number(), met(GWB_CAUSE_NO_SCALE));
+    if (length % root != 0)
+        throw impossible(Misfit::off_lattice, face.number(), met_factor(GWB_CAUSE_DEPTH_FRACTION, root / greatest_divisor(root, length)));
+    return times(across, length / root);
+}
+
+/// The vector by which a feature goes into the solid of a face, or out of it. Not possible: OffLattice; AlongPlane, where a vector lies in the face or goes
+/// the other way.
+Vector way_of(Face face, const Vector &across, const Reach &reach, bool is_out)
+{
+    if (const Size *length = std::get_if<Size>(&reach))
+        return steps_along(face, across, is_out ? length->length() : -length->length());
+    const Vector way = vector(std::get<Point>(reach));
+    require(longest(across) <= 2 * farthest, impossible(Misfit::off_lattice, face.number()));
+    require(longest(way) <= 2 * farthest, refused(GWB_WHY_POINT_RANGE, 0));
+    require(sign(dot(across, way)) == (is_out ? 1 : -1), impossible(Misfit::along_plane, face.number()));
+    return way;
+}
+
+// ---- what is met
+
+/// How what an outline sweeps over meets a face: it touches that where no point lies on its other side.
+gwb_hit_row met_by(const Surface &surface, Face face, const Path &path, const Path &far)
+{
+    const Plane *plane = surface.plane(face);
+    const auto lies = [&](const Vector &at, int side) { return plane == nullptr || sign(plane->height(at)) == side; };
+    const auto some = [&](int side) {
+        const auto is_there = [&](const Vector &at) { return lies(at, side); };
+        return any(path, is_there) || any(far, is_there);
+    };
+    return met(some(-1) && some(1) ? GWB_CAUSE_COMES_THROUGH : GWB_CAUSE_TOUCHES_FACE, face);
+}
+
+/// Refuses to move an outline in a face to another place where what it sweeps over would meet or touch the solid elsewhere than in the face,
+/// or in the other one where it ends there. In these only what is on the outline counts.
+void require_room(const Bench &bench, const Surface &surface, const Vector &across, const Path &path, const Path &far, Face face, Face other)
+{
+    const Vector way = subtract(far[0], path[0]);
+    Box box = box_of(path);
+    box.take(box_of(far));
+    std::vector<Side> edges; // that are near, and other faces
+    std::vector<std::pair<Face, Shape>> faces;
+    for (const auto &[of, loops] : surface.near(bench, box)) {
+        for (Loop loop : loops)
+            append(edges, surface.chain(loop).meeting(box));
+        if (of != face && of != other && surface.plane(of) != nullptr)
+            faces.emplace_back(of, surface.shape(of, loops));
+    }
+    if (edges.empty() && faces.empty())
+        return;
+    const std::array lids = {Shape(Plane::through(path[0], across), {cycle_of(path)}), Shape(Plane::through(far[0], across), {cycle_of(far)})};
+    std::vector<Shape> walls = mapped(lids[0].sides, [&](const Side &side) {
+        return Shape({cycle_of({side.start, side.end, add(side.end, way), add(side.start, way)})});
+    });
+    if (other == Face())
+        walls.push_back(lids[1]);
+    BoxIndex boxes;
+    for (std::size_t at = 0; at < walls.size(); at++)
+        boxes.put(walls[at].box, at);
+    const auto meets = [&](const Side &edge) { // has a point on a wall, or within
+        go_on();
+        const auto touches = [&](std::size_t at) { return walls[at].meets(edge); };
+        const auto passes = [&](const Shape &lid) { return sign(lid.height({edge.start})) * sign(lid.height({edge.end})) < 0 && lid.meets(edge); };
+        const auto lies_beside = [&](const Shape &lid, const Vector &ray) { return lid.hit({edge.start}, ray) != Place::outside; };
+        return any(boxes.meeting(box_of(edge)), touches) || any(lids, passes) || (lies_beside(lids[0], negative(way)) && lies_beside(lids[1], way));
+    };
+    const auto is_met = [&](const auto &beside) {
+        go_on();
+        const auto touches = [&](std::size_t at) { return any(walls[at].sides, [&](const Side &side) { return beside.second.meets(side); }); };
+        return any(boxes.meeting(beside.second.box), touches);
+    };
+    const auto met_face = std::find_if(faces.begin(), faces.end(), is_met);
+    if (met_face != faces.end())
+        throw impossible(Misfit::meets, face.number(), met_by(surface, met_face->first, path, far));
+    const auto edge = std::find_if(edges.begin(), edges.end(), meets);
+    if (edge != edges.end())
+        throw impossible(Misfit::meets, face.number(), met_by(surface, beyond(bench, edge->half, face), path, far));
+}
+
+/// The face that a ray from a point of a face goes out through, which is parallel, and the way to it.
+std::pair<Face, Vector> opposite(const Bench &bench, const Surface &surface, Face face, const Vector &across, const Vector &start)
+{
+    require(longest(across) <= 2 * farthest, impossible(Misfit::off_lattice, face.number()));
+    const Vector back = negative(across);
+    std::map<ScaledPoint, Face> behind; // by how many times as far as the normal is long
+    for (const auto &[other, loops] : surface.near(bench, Box::between(start, add(start, times(back, 2 * farthest))))) {
+        const Plane *plane = other != face ? surface.plane(other) : nullptr;
+        if (plane != nullptr && surface.shape(other, loops).hit({start}, back) != Place::outside)
+            behind.emplace(on_way({}, {1, 0, 0}, magnitude(plane->height(start)), magnitude(dot(plane->across, back))), other);
+    }
+    require(!behind.empty(), impossible(Misfit::no_opposite, face.number()));
+    const auto &[way, nearest] = *behind.begin();
+    require(are_parallel(surface.plane(nearest)->across, back), impossible(Misfit::not_parallel, nearest.number()));
+    return {nearest, on_way({}, back, way.at[0], way.scale).whole_at(nearest)};
+}
+
+// ---- what is drawn and moved
+
+/// Draws a closed path from the lone vertex of a loop, where its first point lies: the face inside, where the points run clockwise, and the edges and
+/// vertices in the order of the points.
+Ring close_path(Bench &bench, Loop loop, Vertex first, const Path &path)
+{
+    Ring made{Face(), loop, {}, {first}};
+    for (std::size_t at = 1; at < path.size(); at++) {
+        go_on();
+        const Corner corner = at == 1 ? lone(loop) : Corner(minus(made.edges.back()));
+        const NewVertex grown = bench.mev(corner, corner, point(path[at]));
+        made.edges.push_back(grown.edge);
+        made.vertices.push_back(grown.vertex);
+    }
+    const NewFace closing = bench.mef(minus(made.edges.back()), plus(made.edges.front()));
+    made.face = closing.face;
+    made.edges.push_back(closing.edge);
+    return made;
+}
+
+/// The ring through points that run as a ring does, and the face inside it, whose half-edges are the second ones of the edges.
+Ring draw(Bench &bench, Face face, const Path &path)
+{
+    const HalfEdge start = *bench.around(bench.face(face).outer_loop).begin();
+    const NewVertex spur = bench.mev(start, start, point(path[0]));
+    return close_path(bench, bench.kemr(plus(spur.edge)), spur.vertex, path);
+}
+
+/// An outline that is ready to be drawn in a face.
+struct Drawing {
+    Solid solid;
+    Vector across;
+    Surroundings &known;
+    Path given, path;
+
+    Drawing(const Bench &bench, Face face, Items<Point> points)
+        : solid(solid_of(bench, face)), across(plane_of(bench, face).across), known(Surroundings::of(bench)), given(path_of(points)),
+          path(known.surface(bench, solid).ring_path(bench, face, given))
+    {
+    }
+    [[nodiscard]] bool is_turned() const { return path != given; }
+};
+
+/// Moves an outline in a face by a vector, as far as another face where it is to end in that.
+Pocket move_outline(Bench &bench, Face face, const Drawing &drawn, const Vector &way, Face other = Face())
+{
+    const Path far = moved(drawn.path, way);
+    const Surface &surface = drawn.known.surface(bench, drawn.solid);
+    if (other != Face())
+        (void)surface.ring_path(bench, other, far);
+    require_room(bench, surface, drawn.across, drawn.path, far, face, other);
+    const Ring ring = draw(bench, face, drawn.path);
+    bench.sweep(ring.face, point(way));
+    const std::vector<Face> sides = mapped(ring.edges, [&](Edge edge) { return bench.face_of(minus(edge)); });
+    const Loop far_ring = bench.face(ring.face).outer_loop;
+    if (other != Face())
+        bench.kfmrh(other, ring.face);
+    drawn.known.follow(bench, drawn.solid, [&](Surface &of) {
+        of.put(face, {ring.loop}, {cycle_at(bench, ring.loop)});
+        for (Face side : sides)
+            of.put(bench, side);
+        if (other != Face())
+            of.put(other, {far_ring}, {cycle_at(bench, far_ring)});
+        else
+            of.put(bench, ring.face);
+    });
+    return Pocket{other != Face() ? other : ring.face, ring.loop, drawn.is_turned() ? backwards(sides) : sides};
+}
+
+} // namespace
+
+Wide whole_length(const Vector &across)
+{
+    const Wide square = longest(across) <= 2 * farthest ? dot(across, across) : 0;
+    Wide root = 0;
+    for (Wide bit = Wide{1} << 62; bit != 0; bit >>= 1)
+        root += (root + bit) * (root + bit) <= square ? bit : 0;
+    return root * root == square ? root : 0;
+}
+
+Profile make_profile(Bench &bench, Solid solid, Items<Point> points, Point along)
+{
+    const Path path = path_of(points);
+    const Vector across = simple_normal(path);
+    const Vector way = vector(along);
+    require(longest(way) <= 2 * farthest, refused(GWB_WHY_POINT_RANGE, 0));
+    const int side = sign(dot(across, way));
+    require(side != 0, impossible(Misfit::along_plane, 0));
+    // two faces back to back, of which the one moves to where the points run counterclockwise
+    const Path drawn = side > 0 ? path : turned(path);
+    const Face far = bench.next_free<Face>();
+    const Loop loop = bench.next_free<Loop>();
+    const Vertex first = bench.next_free<Vertex>();
+    bench.mvfs(solid, far, loop, first, point(drawn[0]));
+    const Ring flat = close_path(bench, loop, first, drawn);
+    bench.sweep(far, along);
+    const std::vector<Face> sides = mapped(flat.edges, [&](Edge edge) { return bench.face_of(plus(edge)); });
+    return Profile{solid, far, flat.face, side < 0 ? backwards(sides) : sides};
+}
+
+Ring make_ring(Bench &bench, Face face, Items<Point> points)
+{
+    const Drawing drawn(bench, face, points);
+    Ring made = draw(bench, face, drawn.path);
+    drawn.known.follow(bench, drawn.solid, [&](Surface &surface) {
+        surface.put(face, {made.loop}, {cycle_at(bench, made.loop)});
+        surface.put(bench, made.face);
+    });
+    if (drawn.is_turned()) {
+        made.edges = backwards(made.edges);
+        made.vertices = turned(made.vertices);
+    }
+    return made;
+}
+
+Pocket make_raised(Bench &bench, Face face, Items<Point> points, const Reach &reach, bool is_boss)
+{
+    const Drawing drawn(bench, face, points);
+    const Vector way = way_of(face, drawn.across, reach, is_boss);
+    require(all(moved(drawn.path, way), is_in_range), is_boss ? refused(GWB_WHY_POINT_RANGE, 0) : impossible(Misfit::meets, face.number()));
+    return move_outline(bench, face, drawn, way);
+}
+
+Pocket make_hole(Bench &bench, Face face, Items<Point> points)
+{
+    const Drawing drawn(bench, face, points);
+    const auto [end, way] = opposite(bench, drawn.known.surface(bench, drawn.solid), face, drawn.across, drawn.path[0]);
+    return move_outline(bench, face, drawn, way, end);
+}
+
+} // namespace gwb_session::machining

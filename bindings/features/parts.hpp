@@ -1,0 +1,50 @@
+/// @file parts.hpp Faces of a solid as a model of their own.
+#pragma once
+#include "sheets.hpp"
+
+namespace gwb_session::sheets {
+
+/// Faces of a solid as a model of their own. In loops and among edges runs stand for what lies far.
+struct Model {
+    Solid solid;
+    std::map<Face, std::vector<Loop>> faces; ///< their loops, the outer one first
+    std::map<Loop, std::vector<HalfEdge>> loops;
+    std::map<Loop, Vertex> lone; ///< of loops without half-edges
+    std::map<Edge, std::pair<Vertex, Vertex>> edges;
+    std::map<Vertex, Vector> vertices;
+    std::map<HalfEdge, std::shared_ptr<const Chain>> runs;
+
+    explicit Model(Solid of = {}) : solid(of) {}
+
+    /// The cycles of a face, the outline first.
+    [[nodiscard]] std::vector<Cycle> cycles(Face face) const;
+    [[nodiscard]] Vertex start(HalfEdge half) const
+    {
+        const auto &ends = edges.at(half.edge());
+        return half.is_second() ? ends.second : ends.first;
+    }
+    [[nodiscard]] const Vector &at(HalfEdge half) const { return vertices.at(start(half)); }
+    [[nodiscard]] Side side(HalfEdge half) const
+    {
+        const auto *run = look_up(runs, half);
+        return {at(half), at(half.twin()), half, run != nullptr ? run->get() : nullptr};
+    }
+
+    /// Takes in a loop of a workbench.
+    void read(const Bench &bench, Face face, Loop loop);
+    /// The same of what is near of a loop that has an edge.
+    void read(const Bench &bench, Face face, Loop loop, const Chain::Near &near);
+    void read(const Bench &bench, Edge number);
+    /// All of a solid. Refused: NoSolid.
+    static Model whole(const Bench &bench, Solid solid);
+    /// Takes in all of a model of others.
+    void take_in(const Model &other);
+    /// What this one is where a part of it has become another one.
+    [[nodiscard]] Model with(const Model &part, const Model &made) const;
+    [[nodiscard]] std::string listing() const;
+};
+
+/// A solid becomes what a model of all of it says.
+void make_anew(Bench &bench, const Model &model);
+
+} // namespace gwb_session::sheets

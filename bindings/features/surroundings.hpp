@@ -1,0 +1,98 @@
+/// @file surroundings.hpp What is known of the solids of a model: their loops and the planes of their faces, by places. What was read of a solid for one feature
+/// is known to the next ones, until another command comes.
+#pragma once
+#include "simple_outlines.hpp"
+#include <unordered_map>
+
+namespace gwb_session::machining {
+
+// ---- faces
+
+inline Vector start_of(const Bench &bench, HalfEdge half) { return vector(bench.vertex(bench.start_of(half))); }
+inline Side side_at(const Bench &bench, HalfEdge half) { return {start_of(bench, half), start_of(bench, half.twin()), half}; }
+
+/// The sides of a loop; the vertex of a lone one, as a side of no length.
+Cycle cycle_at(const Bench &bench, Loop loop);
+/// Those of the loops of a face, the outer one first.
+std::vector<Cycle> cycles_at(const Bench &bench, Face face);
+
+// ---- what lies near
+
+/// The loops of a solid with their sides, by boxes, and the planes of its faces. Loops have many sides, of which a feature reads those near it.
+class Surface {
+public:
+    Surface(const Bench &bench, Solid solid);
+
+    /// Takes in a face that is new.
+    void put(const Bench &bench, Face face);
+    /// The same, of some of its loops, where the others are known, or of new rings of a face whose plane is known.
+    void put(Face face, const std::vector<Loop> &loops, const std::vector<Cycle> &cycles);
+
+    /// A face is gone, or lies elsewhere, and so do these loops.
+    void forget(Face face, const std::vector<Loop> &loops);
+
+    /// The plane of a face, where that is plain and flat.
+    [[nodiscard]] const Plane *plane(Face face) const { return look_up(planes_, face); }
+    /// Such a face, so far as some of its loops tell.
+    [[nodiscard]] Shape shape(Face face, const std::set<Loop> &loops) const;
+    [[nodiscard]] const Chain &chain(Loop loop) const { return loops_.at(loop); }
+
+    /// The loops that meet a box, by faces.
+    [[nodiscard]] std::map<Face, std::set<Loop>> near(const Bench &bench, const Box &box) const;
+
+    /// The points of an outline strictly inside a plain flat face, turned so that they run as a ring does; the first stays the first.
+    [[nodiscard]] Path ring_path(const Bench &bench, Face face, const Path &path) const;
+
+private:
+    using LoopSide = std::pair<Loop, Side>;
+    /// A face so far as it lies beside an outline in it, and its sides that the outline meets.
+    [[nodiscard]] std::pair<Shape, std::vector<LoopSide>> beside_of(const Bench &bench, Face face, const Path &path) const;
+    /// Whether a corner of an outline, or the middle of a side, lies outside a face.
+    [[nodiscard]] static bool has_point_outside(const Shape &beside, const Path &path);
+
+    /// What an outline meets of a face: of the sides that it meets first one that it crosses.
+    [[nodiscard]] gwb_hit_row met_by(const Bench &bench, Face face, const Shape &beside, const std::vector<LoopSide> &sides, const Path &path) const;
+
+    std::unordered_map<Loop, Chain> loops_;
+    std::map<Face, Plane> planes_;
+    BoxIndex boxes_;
+};
+
+/// What is kept with a session: what is known of the solids of its model, and what the last feature made.
+class Surroundings {
+public:
+    /// Those of the model that a workbench holds, which are forgotten where it isn't the one that they are of.
+    static Surroundings &of(const Bench &bench);
+
+    /// The surface of a solid, which is read where it isn't known.
+    const Surface &surface(const Bench &bench, Solid solid) { return surfaces_.try_emplace(solid, bench, solid).first->second; }
+
+    /// Takes in what a command did to a solid, and that it did nothing else to the model.
+    template <class Put> void follow(const Bench &bench, Solid solid, Put put)
+    {
+        changes = UINT64_MAX;
+        put(surfaces_.at(solid));
+        changes = beside_of(bench.handle())->changes;
+    }
+
+    Lists lists; ///< what the last feature made
+    std::optional<gwb_hit_row> hit; ///< what it met, where it was refused
+    std::uint64_t changes = UINT64_MAX; ///< after which what is known was read; the greatest where it is of no model
+
+private:
+    std::map<Solid, Surface> surfaces_;
+};
+
+/// Refuses a solid that isn't there: NoSolid.
+void require_solid(const Bench &bench, Solid solid);
+
+/// The solid of a face. Refused: NoFace.
+Solid solid_of(const Bench &bench, Face face);
+
+/// The plane of a face. Refused: NoFace, NotFlat.
+Plane plane_of(const Bench &bench, Face face);
+
+/// The face at one of the two sides of an edge: another one than this, where there is one. None of a lone vertex.
+Face beyond(const Bench &bench, HalfEdge half, Face face);
+
+} // namespace gwb_session::machining
