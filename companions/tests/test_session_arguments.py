@@ -107,7 +107,7 @@ WITHOUT_ARGUMENTS = {'close', 'draft', 'group', 'listing', 'page', 'script', 'sh
 class Silent:
     """Lines that may not be sent."""
 
-    is_open, is_drafting, depth, settled = True, False, 0, 0
+    is_open, is_drafting, depth, recorded = True, False, 0, 0
 
     def require_open(self):
         """The session goes on."""

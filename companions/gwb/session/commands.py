@@ -152,9 +152,8 @@ class Commands(Methods):
         places = self._kernel.lengths.points('points', points, arguments.MOST_LAMINA_POINTS)
         number = self._new('solid', solid)
         self._kernel.do('lamina', number, *(part for place in places for part in place), typed=(number, rows(places), len(places)))
-        fresh = self._kernel.lines.fresh
-        front, back = fresh('face')
-        return Lamina(number, front, back, fresh('edge'), fresh('vertex'))
+        (front, back), edges, vertices = self._kernel.lines.fresh('face', 'edge', 'vertex')
+        return Lamina(number, front, back, edges, vertices)
 
     def block(self, point: arguments.Point, sizes: arguments.Point, *, solid: Optional[int] = None) -> Block:
         """A new solid: the block from the point on with edges along the axes, so long as the sizes say.
@@ -169,9 +168,8 @@ class Commands(Methods):
             at = next(at for at, length in enumerate(size) if length < 1)
             raise refused('block', NUMBERS['SizeRange'], at + 1, f'sizes[{at}] is {lengths.out(size[at])}; sizes are above 0')
         kernel.do('block', number, *place, *size)
-        fresh = kernel.lines.fresh
-        top, bottom, *sides = fresh('face')
-        return Block(number, top, bottom, tuple(sides), fresh('edge'), fresh('vertex'))
+        (top, bottom, *sides), edges, vertices = kernel.lines.fresh('face', 'edge', 'vertex')
+        return Block(number, top, bottom, tuple(sides), edges, vertices)
 
     def sweep(self, face: arguments.Face, vector: arguments.Point) -> Sweep:
         """The face moves by the vector and leaves a side behind each of its half-edges.
@@ -184,15 +182,15 @@ class Commands(Methods):
         """
         number, way = self._number('face', face), self._kernel.lengths.point('vector', vector)
         self._kernel.do('sweep', number, *way)
-        fresh = self._kernel.lines.fresh
-        edges = iter(fresh('edge'))
+        sides, fresh, vertices = self._kernel.lines.fresh('face', 'edge', 'vertex')
+        edges = iter(fresh)
         rising: List[int] = []
         far: List[int] = []
         for loop in FacePart(self._kernel, number).loops:
             round_loop = list(islice(edges, 2 * len(loop.half_edges)))
             rising += [round_loop[0], *round_loop[1:-1:2]]
             far += [*round_loop[2::2], round_loop[-1]]
-        return Sweep(number, fresh('face'), tuple(rising), tuple(far), fresh('vertex'))
+        return Sweep(number, sides, tuple(rising), tuple(far), vertices)
 
     def glue(self, face: arguments.Face, other: arguments.Face) -> int:
         """The solids of the two faces become one along them: its number.

@@ -3,7 +3,7 @@
 import os
 import re
 from fractions import Fraction
-from threading import Condition
+from threading import Condition, RLock
 from typing import Any, Callable, Dict, Iterable, Iterator, List, Optional, Sequence, Tuple, TypeVar, Union
 from weakref import WeakSet
 
@@ -32,8 +32,9 @@ _PATIENCE = 1.0
 # Of a larger model it isn't told what would do in the place of a refused command: that may take long.
 _MOST_EDGES = 20_000
 # The commands and features after which numbers may be free that were in use.
-_FREEING = ('kvfs', 'kev', 'kef', 'kemr', 'mekr', 'kfmrh', 'glue', 'undo', 'redo', 'kill_solid', 'renumber', 'cut', 'trim', 'union', 'subtract',
-            'intersect', 'separate', 'join_faces', 'glue_all', 'notch', 'pad', 'slot', 'groove', 'shoulder', 'chamfer', 'chamfer_edges')
+_FREEING = frozenset((
+    'kvfs', 'kev', 'kef', 'kemr', 'mekr', 'kfmrh', 'glue', 'undo', 'redo', 'kill_solid', 'renumber', 'cut', 'trim', 'union', 'subtract', 'intersect',
+    'separate', 'join_faces', 'glue_all', 'notch', 'pad', 'slot', 'groove', 'shoulder', 'chamfer', 'chamfer_edges'))
 _CUTS = ('cut', 'trim')
 # The ways of `ringmv` by the numbers that its call takes, where lone corners begin, and what stands for a word that no call takes.
 _WAYS, _LONE, _NO_CODE = ('in', 'out'), 2 ** 31, -2 ** 64
@@ -50,7 +51,8 @@ class Kernel:
 
     def __init__(self, path: str, unit: Fraction) -> None:
         # While something is held, all waits that isn't part of it.
-        self.lock, self.is_inside = Condition(), False
+        self.turn, self.is_inside = RLock(), False
+        self.lock = Condition(self.turn)
         self.holder: Optional[Holder] = None
         self.lines, self.notes = Library(path), Notes(unit)
         self.numbers = NewNumbers(self.lines)
@@ -58,6 +60,8 @@ class Kernel:
         self.blocks: List[Any] = []
         # Whether a command is being given, whether this turn has given one, and whether things may have gone that have labels.
         self._is_giving = self._has_given = self._may_have_gone = False
+        # Whether an exception may have left the notes and the commands in disagreement: a call that returns hasn't.
+        self.is_ragged = False
         self._listing: Dict[Tuple[int, ...], Model] = {}
         self._lengths = Lengths(unit)
         # The commands that were held when the session ended, and the labels.
@@ -83,11 +87,23 @@ class Kernel:
         if self.lock.acquire(blocking=False):
             self.lock.release()
             return
-        self.lock, self.is_inside, self.holder = Condition(), False, None
+        self.turn, self.is_inside, self.holder = RLock(), False, None
+        self.lock = Condition(self.turn)
         self.close()
 
     def begin_turn(self) -> None:
         """With the lock, waits for the end of what is held, unless what calls this is part of it. What an exception left half-way is put right."""
+        if self.blocks:
+            self._wait()
+        self._is_giving = self._has_given = False
+        if self.is_ragged:
+            if self.lines.is_drafting and not any(block.is_draft for block in self.blocks):
+                self.lines.abandon()    # (nobody has begun it)
+            self.settle()
+        self.is_ragged = True
+
+    def _wait(self) -> None:
+        """Waits for the end of what is held, unless what calls this is part of it."""
         if self.holder:
             self.holder.leave_ended()
         self.end_dropped()
@@ -95,10 +111,6 @@ class Kernel:
             self.holder.require_end()
             self.lock.wait(_PATIENCE)
             self.end_dropped()
-        self._is_giving = self._has_given = False
-        if not self.settle() and self.lines.is_drafting and not any(block.is_draft for block in self.blocks):
-            self.lines.abandon()    # (nobody has begun it)
-            self.settle()
 
     def end_dropped(self) -> None:
         """A draft or a group that nothing refers to any more ends, with all within it, as by an exception."""
@@ -106,12 +118,11 @@ class Kernel:
         if dropped:
             dropped.end(False)
 
-    def settle(self) -> bool:
+    def settle(self) -> None:
         """The notes follow the commands, unless a draft is open, in which there is nothing new, or the session is closed."""
-        depth = self.lines.settled
+        depth = self.lines.settled if self.blocks else self.lines.recorded
         if depth is not None:
             self.notes.settle(depth)
-        return depth is not None
 
     # What is held
 
@@ -198,9 +209,7 @@ class Kernel:
             raise OutOfStep('another call is under way')
         is_new = word not in ('undo', 'redo')
         if is_new:
-            if not self.lines.is_drafting:
-                self.notes.expect()
-            self.notes.give()
+            self.notes.give(not (self.blocks and self.lines.is_drafting))
         if is_new and self._may_have_gone and not self._has_given:
             # What is gone has no label any more, before a turn makes something that may have its number. Undo gives it back.
             gone = [(thing, None) for thing in self.notes.labels if not self.lines.in_use(*thing)]

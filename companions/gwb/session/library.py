@@ -5,7 +5,7 @@ import os
 import re
 from functools import partial
 from pathlib import Path
-from typing import Any, Callable, Iterable, Iterator, Optional, Sequence, Set, Tuple
+from typing import Any, Callable, Iterable, Iterator, List, Optional, Sequence, Set, Tuple
 from weakref import ReferenceType
 
 from ..errors import CompanionError, Ended, ProgramMissing
@@ -177,29 +177,32 @@ class Library:
         self._taken_back += self.mark() > place
         self.library.back(self.handle, place)
 
-    def fresh(self, kind: str) -> Tuple[int, ...]:
-        """The fresh numbers of a kind of the last command that was accepted: none where it took none, as a split that cuts nothing."""
+    def fresh(self, *kinds: str) -> List[Tuple[int, ...]]:
+        """The fresh numbers of each of the kinds of the last command that was accepted: none where it took none, as a split that cuts nothing."""
         self.require_open()
-        row = Pair()
-        return tuple(range(row.first, row.second + 1)) if self.library.fresh(self.handle, _PLACES[kind], row) == FOUND else ()
+        read, handle, row = self.library.fresh, self.handle, Pair()
+        return [tuple(range(row.first, row.second + 1)) if read(handle, _PLACES[kind], row) == FOUND else () for kind in kinds]
 
     # What is recorded
 
     @property
     def depth(self) -> int:
         """How many commands are held, in a draft those before it."""
-        return int(self.library.recorded(self.handle)) - self.is_drafting if self.handle.is_open else 0
+        return (self.recorded or 0) - self.is_drafting
 
     def state(self) -> Tuple[int, int, int]:
         """Numbers that are the same only while the model is."""
         return (self.depth, self.mark(), self._taken_back)
 
     @property
+    def recorded(self) -> Optional[int]:
+        """How many commands are held, a draft that is open being one more; None where the session is closed."""
+        return int(self.library.recorded(self.handle)) if self.handle.is_open else None
+
+    @property
     def settled(self) -> Optional[int]:
         """How many commands are held; None where a draft is open, or the session is closed."""
-        if not self.handle.is_open:
-            return None
-        held: int = self.library.recorded(self.handle)
+        held = self.recorded
         return held if held == self.library.depth(self.handle) else None
 
     @property

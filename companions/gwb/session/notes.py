@@ -67,9 +67,14 @@ class Notes:
         """A command or a draft is about to be given, outside of a draft."""
         self._coming = Note(self.group_from is None or self.at <= self.group_from, self.all[self.at].unit)
 
-    def give(self) -> None:
-        """What comes, or the draft that is open, is given by what is called."""
-        self.now.calls += [name for name in self.called if name not in self.now.calls]
+    def give(self, is_command: bool) -> None:
+        """A command, or a step of the draft that is open, is given by what is called."""
+        if is_command:
+            self.expect()
+        calls = self.now.calls
+        for name in self.called:
+            if name not in calls:
+                calls.append(name)
 
     def settle(self, depth: int) -> None:
         """So many commands are held, and no draft is open."""

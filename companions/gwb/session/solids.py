@@ -479,7 +479,8 @@ class SolidMethods(Methods):
             if word == 'split':
                 kernel.do('split', solid, *plane, above)
                 # (some fresh numbers are taken on the way)
-                made = [tuple(number for number in lines.fresh(kind) if lines.in_use(kind, number)) for kind in ('face', 'edge', 'vertex')]
+                kinds = 'face', 'edge', 'vertex'
+                made = [tuple(number for number in fresh if lines.in_use(kind, number)) for kind, fresh in zip(kinds, lines.fresh(*kinds))]
                 flat = [kernel.find('find_faces', FaceQuery(solid=side, plane=ctypes.pointer(level))) for side in (solid, above)]
                 made = [*(tuple(face for face in faces if face in made[0]) for faces in flat), *made]
             else:

@@ -24,6 +24,7 @@ class _Work:
 
     def end(self, is_whole: bool) -> None:
         """It is over, with all within it that is still open. It is kept if it is whole; else all is as before, whatever exception comes meanwhile."""
+        self._kernel.is_ragged = True
         try:
             if is_whole:
                 self._kernel.lines.require_open()

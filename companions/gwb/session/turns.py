@@ -73,13 +73,15 @@ def _taken(method: Any, is_read: bool) -> Any:
     @wraps(method)
     def taken(self: TakesTurns, *values: Any, **named: Any) -> Any:
         kernel = self._kernel
-        with kernel.lock:
+        with kernel.turn:
             if kernel.is_inside or is_read and not kernel.holder:
                 return method(self, *values, **named)
             kernel.begin_turn()
             kernel.is_inside, kernel.notes.called = True, [] if method.__name__ == 'ask' else [method.__name__]
             try:
-                return method(self, *values, **named)
+                said = method(self, *values, **named)
+                kernel.is_ragged = False
+                return said
             finally:
                 kernel.is_inside, kernel.notes.called = False, []
 
