@@ -43,6 +43,10 @@ int main()
     }
     std::ofstream(base + "script") << "# solid 1 name \"Lid\"\n";
     check(export_to(bench, base + "step", base + "script").empty() && text_of(base + "step").find("'Lid'") != std::string::npos, "names are taken along");
+    check(export_to(bench, base + "stl", "", Step{1, 1000}).empty() && text_of(base + "stl").find("0.004") != std::string::npos, "a step in STL");
+    check(export_to(bench, base + "off", "", Step{5, 2}).empty() && text_of(base + "off").find("\n10 10 10\n") != std::string::npos, "a step in OFF");
+    check(export_to(bench, base + "obj").empty() && text_of(base + "obj").find("v 4 4 4\n") != std::string::npos, "without a step a coordinate is 1 mm");
+    check(try_export(bench, base + "stl", "", Step{1, 0}).fault == ExportFault::refused, "no step");
     bench.block({4, 0, 0}, {4, 4, 4});
     check(export_to(bench, base + "stl").find("solids 1 and 2 touch") != std::string::npos, "a warning is told");
     const std::string before = text_of(base + "stl");

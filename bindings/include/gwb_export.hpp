@@ -2,6 +2,7 @@
 /// sought in the folder that the environment variable GWB_COMPANIONS names, else as any program is.
 ///
 ///     export_to(bench, "part.step");                         // or .stp .3mf .stl .obj .off .glb
+///     export_to(bench, "part.stl", "", {1, 1000});           // of a session whose coordinates are 1/1000 mm, as lengths of gwb_lengths.hpp are
 ///     export_to(bench, "part.3mf", "part.script");           // with the names, colours and unit that comments of this file say
 #ifndef GWB_EXPORT_HPP
 #define GWB_EXPORT_HPP
@@ -45,6 +46,11 @@ struct Exported {
     explicit operator bool() const { return !fault; }
 };
 
+/// How many millimetres a coordinate is: a fraction above zero. All files are in millimetres.
+struct Step {
+    std::uint32_t numerator = 1, denominator = 1;
+};
+
 namespace exporting {
 
 /// An open file without a name, gone at the end of its scope.
@@ -82,7 +88,7 @@ private:
 };
 
 /// The words of the command that writes files of an ending: none where there is none.
-inline std::vector<std::string> command(const std::string &path, const std::string &names)
+inline std::vector<std::string> command(const std::string &path, const std::string &names, const std::optional<Step> &step)
 {
     const std::size_t dot = path.rfind('.');
     std::string ending = dot == std::string::npos ? "" : path.substr(dot + 1);
@@ -95,6 +101,8 @@ inline std::vector<std::string> command(const std::string &path, const std::stri
             words = {"gwb-mesh", "--form", form};
     if (!words.empty() && !names.empty())
         words.insert(words.end(), {"--names", names});
+    if (!words.empty() && step)
+        words.insert(words.end(), {"--unit", std::to_string(step->numerator) + "/" + std::to_string(step->denominator)});
     if (const char *folder = std::getenv("GWB_COMPANIONS"); folder != nullptr && !words.empty())
         words[0] = std::string(folder) + "/" + words[0];
     return words;
@@ -124,10 +132,12 @@ inline int run(std::vector<std::string> words, int input, int output, int said)
 
 } // namespace exporting
 
-/// Writes what is held to a file, by the ending of its name. `names` is a script whose comments say names, colours and the unit, or empty. A reader.
-template <class Policy> Exported try_export(const Commands<Policy> &bench, const std::string &path, const std::string &names = "")
+/// Writes what is held to a file, by the ending of its name. `names` is a script whose comments say names, colours and the unit, or empty. Without
+/// `step` a coordinate is as large as they say, else a millimetre. A reader.
+template <class Policy>
+Exported try_export(const Commands<Policy> &bench, const std::string &path, const std::string &names = "", const std::optional<Step> &step = {})
 {
-    const std::vector<std::string> words = exporting::command(path, names);
+    const std::vector<std::string> words = exporting::command(path, names, step);
     if (words.empty())
         return {ExportFault::no_form, path + ": the endings are step stp 3mf stl obj off glb"};
     exporting::Unnamed input, output, said;
@@ -164,9 +174,9 @@ private:
 };
 
 /// The same, which throws NotExported: warnings, as of solids that touch.
-inline std::string export_to(const Workbench &bench, const std::string &path, const std::string &names = "")
+inline std::string export_to(const Workbench &bench, const std::string &path, const std::string &names = "", const std::optional<Step> &step = {})
 {
-    const Exported exported = try_export(bench, path, names);
+    const Exported exported = try_export(bench, path, names, step);
     if (!exported)
         throw NotExported(exported);
     return exported.said;

@@ -5,15 +5,15 @@ _gwb()
     case ${1##*/} in
     gwb) words='--stop -h --help -V --version' ;;
     gwb-check) words='-h --help --solid --version --between --slivers' ;;
-    gwb-dxf) words='-h --help --solid --version --view --section --face --no-hidden --names' ;;
+    gwb-dxf) words='-h --help --solid --version --view --section --face --no-hidden --names --unit' ;;
     gwb-explain) words='-h --help --annotate --version' ;;
     gwb-import) words='-h --help --form --scale --round --within --keep-triangles --repair --flat --version' ;;
-    gwb-mesh) words='-h --help --solid --version --form --materials --groups --names' ;;
+    gwb-mesh) words='-h --help --solid --version --form --materials --groups --names --unit' ;;
     gwb-script) words='-h --help --solid --version --move --turn --mirror --scale --without --after --copy --away --short' ;;
     gwb-shell) words='-h --help --version' ;;
-    gwb-step) words='-h --help --solid --version --names' ;;
+    gwb-step) words='-h --help --solid --version --names --unit' ;;
     gwb-svg) words='-h --help --solid --version --view --names --no-hidden --size' ;;
-    gwb-view) words='-h --help --solid --version --steps --names' ;;
+    gwb-view) words='-h --help --solid --version --steps --names --unit' ;;
     esac
     case "${1##*/} $3" in
     'gwb-import --form') values='step glb 3mf ply off stl amf obj' ;;

@@ -164,7 +164,18 @@ class Units(InFolder):
 
 
 class Names(InFolder):
-    """`--names`."""
+    """`--names` and `--unit`."""
+
+    def test_a_unit(self):
+        path = self.file('part', listed('block 1 0 0 0 3 3 3\n'))
+        named = ['--names', self.file('names.gwb', '# unit 1/60\n')]
+        for words, size in (([], '3'), (['--unit', '1/1000'], '0.003'), (['--unit', '0.5'], '1.5'), (named, '0.05'), ([*named, '--unit', '2'], '6')):
+            self.assertIn(f'\n{size} {size} {size}\n', run('mesh', *words, path).out)
+        for companion in ('view', 'step', 'dxf'):
+            self.assertNotEqual(*(run(companion, '--unit', unit, path).out for unit in ('1/1000', '1')), companion)
+        self.assertEqual([run('mesh', '--unit', unit, path).status for unit in ('0', '-1', '1/0', 'x')], [2] * 4)
+        outcome = run('mesh', '--unit', '1', self.file('part.gwb', 'block 1 0 0 0 3 3 3\n'))
+        self.assertEqual((outcome.status, outcome.err), (3, 'gwb-mesh: --unit goes with replies of gwb, and this is a script, which says its own\n'))
 
     def refused(self, script, data=None):
         path = self.file('part', data or listed('block 1 0 0 0 3 3 3\n'))

@@ -33,6 +33,15 @@ impl fmt::Display for ExportError {
 
 impl std::error::Error for ExportError {}
 
+/// How many millimetres a coordinate is: a fraction above zero. All files are in millimetres.
+#[derive(Clone, Copy, Debug, PartialEq, Eq)]
+pub struct Step {
+    /// What is divided.
+    pub numerator: u32,
+    /// By what.
+    pub denominator: u32,
+}
+
 /// The program that writes files of an ending, and its words.
 fn program(path: &Path) -> Option<(PathBuf, Vec<String>)> {
     let ending = path.extension()?.to_str()?.to_ascii_lowercase();
@@ -46,11 +55,19 @@ fn program(path: &Path) -> Option<(PathBuf, Vec<String>)> {
 
 impl Readers {
     /// Writes what is held to a file, by the ending of its name: `.step`, `.stp`, `.3mf`, `.stl`, `.obj`, `.off` or `.glb`. `names` is a script whose
-    /// comments say names, colours and the unit. What comes back are warnings, as of solids that touch.
+    /// comments say names, colours and the unit; without it a coordinate is a millimetre. What comes back are warnings, as of solids that touch.
     ///
     /// # Errors
     /// As [`ExportError`] says.
     pub fn export(&self, path: impl AsRef<Path>, names: Option<&Path>) -> Result<String, ExportError> {
+        self.export_by(path, names, None)
+    }
+
+    /// The same, with coordinates that are so large, as `Some(Step { numerator: 1, denominator: 1000 })` where lengths are those of `mm!`.
+    ///
+    /// # Errors
+    /// As [`ExportError`] says.
+    pub fn export_by(&self, path: impl AsRef<Path>, names: Option<&Path>, step: Option<Step>) -> Result<String, ExportError> {
         let path = path.as_ref();
         let (program, words) = program(path).ok_or_else(|| ExportError::NoForm(path.into()))?;
         let listing = self.listing().map_err(|error| ExportError::Refused(error.to_string()))?;
@@ -58,6 +75,9 @@ impl Readers {
         command.args(words).stdin(Stdio::piped()).stdout(Stdio::piped()).stderr(Stdio::piped());
         if let Some(names) = names {
             command.arg("--names").arg(names);
+        }
+        if let Some(step) = step {
+            command.arg("--unit").arg(format!("{}/{}", step.numerator, step.denominator));
         }
         let no_program = |why| ExportError::NoProgram(program.clone(), why);
         let mut child = command.spawn().map_err(no_program)?;

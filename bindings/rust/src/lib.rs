@@ -48,7 +48,7 @@ mod session;
 
 pub use draft::{Draft, Mark};
 pub use error::Error;
-pub use exporting::ExportError;
+pub use exporting::{ExportError, Step};
 pub use features::{circle, Circle, Copied, Hole, Merger, Motion, Notch, Pad, Parts, Pocket, Polyhedron, Profile, Renumbered, Ring, Split};
 pub use gwb_sys::Heap;
 pub use history::{Became, Change, Changes, ChangesOf, Heir, Noted, Notes};

@@ -1,5 +1,5 @@
 //! Solids from outside: killed, copied, moved, turned and mirrored.
-use gwb::{ExportError, lone, minus, plus, Error, Face, Merger, Misfit, Motion, Point, Refusal, Session, Solid};
+use gwb::{ExportError, Step, lone, minus, plus, Error, Face, Merger, Misfit, Motion, Point, Refusal, Session, Solid};
 
 type Corners = Vec<Point>;
 
@@ -233,6 +233,11 @@ fn files_of_other_forms() {
         assert!(std::fs::read(file(ending)).unwrap().starts_with(first.as_bytes()));
         std::fs::remove_file(file(ending)).unwrap();
     }
+    let by = |numerator, denominator| session.export_by(file("stl"), None, Some(Step { numerator, denominator }));
+    assert_eq!(by(1, 1000).unwrap(), "");
+    assert!(std::fs::read_to_string(file("stl")).unwrap().contains("vertex 0.004 0.004 0.004\n"));
+    assert!(matches!(by(1, 0), Err(ExportError::Refused(_))));
+    std::fs::remove_file(file("stl")).unwrap();
     assert!(matches!(session.export(&base, None), Err(ExportError::NoForm(_))));
     assert!(matches!(session.export("/none/part.stl", None), Err(ExportError::NoFile(..))));
     std::env::set_var("GWB_COMPANIONS", "/none");

@@ -7,6 +7,8 @@ import sys
 from typing import Callable, Optional, Sequence, Tuple
 
 from ..errors import CompanionError
+from ..formats.exact_numbers import NotANumber, exact_or_ratio
+from ..geometry.plane_figures import Exact
 from ..protocol.listing import Listed
 from ..version import VERSION
 
@@ -55,6 +57,17 @@ def write_bytes(data: bytes) -> None:
     """Writes bytes to standard output, with no change of line ends."""
     sys.stdout.flush()
     sys.stdout.buffer.write(data)
+
+
+def above_zero(word: str) -> Exact:
+    """The number above zero that a word is, 3, 0.5 or 1/2."""
+    try:
+        number = exact_or_ratio(word)
+    except NotANumber as error:
+        raise argparse.ArgumentTypeError(str(error)) from None
+    if number <= 0:
+        raise argparse.ArgumentTypeError(f'{word} is not above zero')
+    return number
 
 
 def add_version(parser: argparse.ArgumentParser) -> None:

@@ -87,7 +87,11 @@ def given(path: Optional[str], names: Optional[str] = None) -> Given:
 
 def wanted(options: argparse.Namespace) -> Given:
     """What the words of listing_parser name, of it one solid alone where they name one; its warnings are said."""
-    found = given(options.listing, getattr(options, 'script_of_names', None))
+    found, unit = given(options.listing, getattr(options, 'script_of_names', None)), getattr(options, 'unit', None)
+    if unit is not None:
+        if found.kind != REPLIES:
+            raise CompanionError(f'--unit goes with replies of gwb, and this is {told_kind(found.kind)}, which says its own')
+        found = found._replace(said=found.said._replace(unit=Fraction(unit)))
     if options.solid is not None:
         if options.solid not in found.model.solids:
             raise CompanionError(f'there is no solid {options.solid}')

@@ -6,26 +6,16 @@ from fractions import Fraction
 from typing import Optional, Sequence
 
 from ..formats.appearance import comments
-from ..formats.exact_numbers import NotANumber, exact_or_ratio, told
+from ..formats.exact_numbers import told
 from ..formats.forms import READ, titles
 from ..formats.importing import read_file
 from ..formats.models_of_parts import Imported
 from ..geometry.plane_figures import Exact
 from ..scripts.inversion import script_of
-from .command_line import FOUND, OK, add_version, run
+from .command_line import FOUND, OK, above_zero, add_version, run
 from .progress import Progress
 
 PROGRAM = 'gwb-import'
-
-
-def _above_zero(word: str) -> Exact:
-    try:
-        number = exact_or_ratio(word)
-    except NotANumber as error:
-        raise argparse.ArgumentTypeError(str(error)) from None
-    if number <= 0:
-        raise argparse.ArgumentTypeError(f'{word} is not above zero')
-    return number
 
 
 def _parser() -> argparse.ArgumentParser:
@@ -36,9 +26,9 @@ def _parser() -> argparse.ArgumentParser:
     parser.add_argument('file', nargs='?', metavar='FILE',
                         help=f'{titles(READ)}; of STEP flat faces (default: standard input)')
     parser.add_argument('--form', choices=READ, help='the form of the file (default: what it looks like)')
-    parser.add_argument('--scale', type=_above_zero, default=1, metavar='K', help='multiply coordinates, by 1000 or 1/2 say')
+    parser.add_argument('--scale', type=above_zero, default=1, metavar='K', help='multiply coordinates, by 1000 or 1/2 say')
     parser.add_argument('--round', action='store_true', help='round coordinates, and say how far a point was moved at most')
-    parser.add_argument('--within', type=_above_zero, default=0, metavar='D',
+    parser.add_argument('--within', type=above_zero, default=0, metavar='D',
                         help='round a point that lies no farther than D, by 0.000001 say, from whole coordinates')
     parser.add_argument('--keep-triangles', action='store_true', help="don't join faces of one plane")
     parser.add_argument('--repair', action='store_true',
