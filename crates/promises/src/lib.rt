@@ -36,7 +36,7 @@ ghost use Rattle.handles.specs.Laws.{HandlesAreTakenBack, HandlesBeginNew, Handl
 ghost use Rattle.pool_rings.specs.Laws.{EachCodeHasItsRing, RingsAreRotations, CodesShareOrHaveTwo, SplicedPoolsCut, SplicedPoolsJoin, SplicedPoolsKeepOthers, SplicedPoolsStay, PoolsLeadBack};
 ghost use Rattle.promises.specs.Splices.{SplicesCut, SplicesJoin, SplicesKeepOthers};
 ghost use Rattle.reached_models.specs.Laws.{BuildersSuffice, SoundIsLinked, SoundIsReached};
-ghost use Rattle.script_laws.specs.Laws.{RunsTell, BrokenRunsTell, FailedRunsTell, AnsweredSo, AnswersStay, OthersCanBeLeftOut, UndoAndRedoCanBeLeftOut, UndoneLinesCanBeLeftOut, UndosLeadBack, SomeUndosLeadBack, EqualListingsGoOnAlike, BlocksMeasure, PartsShareVolumes, BlocksAndSplitsHaveVolume, OthersMayHaveNone, WrittenVolumesArePositive, RepliesTell, RefusalsTell, FaultsTell};
+ghost use Rattle.script_laws.specs.Laws.{RunsTell, BrokenRunsTell, FailedRunsTell, AnsweredSo, AnswersStay, OthersCanBeLeftOut, UndoAndRedoCanBeLeftOut, UndoneLinesCanBeLeftOut, UndosLeadBack, SomeUndosLeadBack, EqualListingsGoOnAlike, BlocksMeasure, PartsShareVolumes, SweepsMeasure, GluesMeasure, BlocksAndSplitsHaveVolume, OthersMayHaveNone, WrittenVolumesArePositive, RepliesTell, RefusalsTell, FaultsTell};
 ghost use Rattle.script_laws.specs.Scripts.{Answered};
 ghost use Rattle.script_running.specs.Histories.{LinesAreCalls, LinesLeadOn, HistoriesMakeConsistent, RunsTellHistories};
 ghost use Rattle.script_running.specs.Laws.{LinesAreTold, OneOutput, HasNoMemory};
@@ -58,8 +58,9 @@ use pool_rings::{codes_have_one_ring, splices_of_pools};
 use reached_models::sound_models_are_reached;
 use script_laws::{
     answer_script, answered_so, answers_stay, blocks_and_splits_have_volume, blocks_measure,
-    equal_listings_go_on_alike, others_can_be_left_out, parts_share_volumes, replies_tell,
-    runs_tell, undo_and_redo_can_be_left_out, undone_lines_can_be_left_out, undos_lead_back,
+    equal_listings_go_on_alike, glues_measure, others_can_be_left_out, parts_share_volumes,
+    replies_tell, runs_tell, sweeps_measure, undo_and_redo_can_be_left_out,
+    undone_lines_can_be_left_out, undos_lead_back,
 };
 use script_running::{
     Inlet, Outlet, RunFault, Summary, laws_below, lines_are_calls, lines_are_told, one_output, run,
@@ -631,13 +632,18 @@ pub fn answers_are_told_of_bytes()
 }
 
 /// More laws in which no model stands. After a block that was answered `ok`, `volume` is answered six times the product of its sizes. After a split
-/// the volumes of both parts are answered, and their sum is what was answered for the solid before.
+/// the volumes of both parts are answered, and their sum is what was answered for the solid before. After a sweep the volume of one solid has grown by
+/// what the plane of the face tells, and after a glue that of the first face's solid is the sum of two. Every other volume is answered as before.
 pub fn volumes_are_told_of_bytes()
     ensures block { BlocksMeasure }
     ensures split { PartsShareVolumes }
+    ensures sweep { SweepsMeasure }
+    ensures glue { GluesMeasure }
 {
     blocks_measure();
     parts_share_volumes();
+    sweeps_measure();
+    glues_measure();
 }
 
 /// If the only changes that a script asks for are blocks and splits, a question for a volume behind it is answered a number greater than 0, or it is

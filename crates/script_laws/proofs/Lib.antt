@@ -14,6 +14,7 @@ mod Numbers
 mod Back
 mod Worked
 mod Written
+mod InListings
 mod Measured
 mod Built
 mod Positive

@@ -1,14 +1,22 @@
 -- What volumes are answered behind larger commands.
-use Rattle.script_laws.proofs.Prelude.{◌≡◌, ℕ, List, [], ◌∷◌, ◌++◌, codes, Option, Some, None, ℤ, pos, ◌+ℤ◌, ◌*ℤ◌, true, false, arith, refl, sym, ap, ◌∙◌, signed_decimal, Plane, Point, Model, Sound, Has, direction, dot, is_number, solid_of, Refusal, NoSolid, normal, Machine, held, block, block_refusal, sweep, sweep_refusal, plane_with, split, split_refusal, answer, face_refusal, solid_refusal, six_volume, Question, Command, Told, asked, value_or_refusal, Request, spaced, reply_text, LinesLeadOn, HistoriesMakeConsistent, asked_for, done, refused, answer_when, answer_text, moved, obeyed, given, answer_of, machine_after, Reply as Says, Answer, EndsLine, ended, Adds, volume_answer, BlocksMeasure, PartsShareVolumes, SweepsMeasure, GluesMeasure}
+use Rattle.script_laws.proofs.Prelude.{◌≡◌, ◌≢◌, ℕ, List, [], ◌∷◌, ◌++◌, codes, Option, Some, None, is_some, ℤ, pos, ◌+ℤ◌, ◌*ℤ◌, true, false, arith, refl, subst, sym, ap, ◌∙◌, signed_decimal, Plane, Point, Model, Sound, Has, direction, dot, is_number, lamina_model, solid_of, Refusal, NoSolid, normal, Machine, held, block, block_refusal, sweep, sweep_refusal, plane_with, split, split_refusal, answer, face_refusal, solid_refusal, six_volume, Question, Command, Told, asked, value_or_refusal, Request, spaced, listing, reply_text, LinesLeadOn, HistoriesMakeConsistent, asked_for, done, refused, answer_when, answer_text, moved, obeyed, given, answer_of, machine_after, Reply as Says, Answer, EndsLine, ended, Adds, volume_answer, BlocksMeasure, PartsShareVolumes, SweepsMeasure, GluesMeasure}
 use Rattle.euler_operators.specs.Table as table
 use Rattle.euler_operators.specs.Refusal as why
-use Rattle.shapes.specs.Common.{is_flat, plane_of}
+use Rattle.euler_operators.proofs.Common.{get-put_other, get-remove_other}
+use Rattle.euler_operators.specs.Common.{part}
+use Rattle.shapes.specs.Common.{base_of, block_model, faces_above, glue_model, is_flat, lamina_face, plane_of, split_model, vector, with_drawings}
+use Rattle.shapes.specs.Common as shapes
+use Rattle.split_laws.proofs.volumes.Split.{solids_stay, split_is}
+use Rattle.split_laws.proofs.drawn.Drawn.{begins, drawn_keeps}
+use Rattle.split_laws.proofs.measures.Splittable.{can_be_split}
+use Rattle.split_drawing_laws.proofs.crossings.Whole.{crossings_keep}
+use Rattle.command_laws.proofs.Kept.{prism_keeps}
 use Rattle.shapes.proofs.glue.Facts.{glue_goes}
 use Rattle.sweeps_laws.proofs.prism.Accepted.{face_there}
-use Rattle.sweeps.specs.Measures.{NewBlock, OthersThanSwept, SweptSolid}
+use Rattle.sweeps.specs.Measures.{NewBlock, OthersThanBlock, OthersThanSwept, SweptSolid}
 use Rattle.gluing.specs.Machine.{glue, glue_refusal}
-use Rattle.gluing.specs.Measures.{GluedSolid}
-use Rattle.plane_split.specs.SplitModels.{PartsAreHeld, HeldShareVolumes}
+use Rattle.gluing.specs.Measures.{GluedSolid, OthersThanGlued}
+use Rattle.plane_split.specs.SplitModels.{HeldKeepOthers, HeldShareVolumes, PartsAreHeld}
 use Rattle.command_laws.specs.Solids.{BlocksAreThere, GluesJoinSolids, SweepsKeepSolids, SweptAreThere}
 use Rattle.call_types.specs.declared.command.Change.TheVariants as change
 use Rattle.call_types.specs.declared.command.Question.TheVariants as question
@@ -16,10 +24,11 @@ use Rattle.call_types.specs.declared.command.Command.TheVariants as command
 use Rattle.commands.specs.declared.told.Told.TheVariants as told
 use Rattle.script_reader.specs.declared.command.Request.TheVariants as request
 use Rattle.solid_listing.specs.declared.reply.Reply.TheVariants as reply
-use Rattle.script_laws.specs.Laws.{Spells}
+use Rattle.script_laws.specs.Laws.{ListsFace, Spells}
 use Rattle.script_laws.proofs.Behind.{reached, from_adds, adds_from, ends_append, ends_line}
 use Rattle.script_laws.proofs.Kept.{one_answer, reached_line}
-use Rattle.script_laws.proofs.Undone.{goes, answer_is, machine_is}
+use Rattle.script_laws.proofs.InListings.{face_listed}
+use Rattle.script_laws.proofs.Undone.{answer_is, goes, list_text, machine_is}
 use Rattle.script_laws.proofs.Alike.{answered_ok}
 use Rattle.script_laws.proofs.Listed.{holds_sound}
 
@@ -108,14 +117,49 @@ module _ (script line : List ℕ) (c : Command) (o : Option Refusal) (next : Mac
   made : reached (script ++ ended line) ≡ next
   made = reached_line script line h spells.0 ∙ leads_so line c spells (reached script) ∙ ap (λ (x : Answer × Machine). x.1) is ∙ (goes o (reached script) next none_refused).1
 
--- ---- models with the same solids
+-- ---- a solid that stays
 
-same_refusal : (M N : Model) (n : ℕ) → N.solids ≡ M.solids → solid_refusal N n ≡ solid_refusal M n
+same_refusal : (M N : Model) (n : ℕ) → table.has N.solids n ≡ table.has M.solids n → solid_refusal N n ≡ solid_refusal M n
 same_refusal M N n e = rw e refl
 
-same_volume : (M N : Model) (n : ℕ) → N.solids ≡ M.solids → six_volume N n ≡ six_volume M n → asked N (question.Volume n) ≡ asked M (question.Volume n)
+same_volume : (M N : Model) (n : ℕ) → table.has N.solids n ≡ table.has M.solids n → six_volume N n ≡ six_volume M n → asked N (question.Volume n) ≡ asked M (question.Volume n)
 same_volume M N n e is = ap (λ (o : Option Refusal). value_or_refusal (answer o (told.Volume (six_volume N n)))) (same_refusal M N n e)
     ∙ ap (λ (v : ℤ). value_or_refusal (answer (solid_refusal M n) (told.Volume v))) is
+
+-- its volume is answered as before
+as_before : (script line ask text : List ℕ) (n : ℕ) → EndsLine script → Spells ask (command.Ask (question.Volume n)) → Adds script (ended ask) text
+    → table.has (held (reached (script ++ ended line))).solids n ≡ table.has (held (reached script)).solids n
+    → six_volume (held (reached (script ++ ended line))) n ≡ six_volume (held (reached script)) n → Adds (script ++ ended line) (ended ask) text
+as_before script line ask text n h asks_so before there volume =
+    let s = reached script in
+    let t = reached (script ++ ended line) in
+    asks (script ++ ended line) ask (question.Volume n) text (ends_append script (ended line) h (ends_line line)) asks_so
+    (ap (λ (a : Told). answer_text t (answer_when a)) (same_volume (held s) (held t) n there volume) ∙ same_text t s (asked (held s) (question.Volume n)) ∙ was_asked script ask (question.Volume n) text h asks_so before)
+
+-- a block, a glue and a split leave the solids other than their own
+lamina_leaves : (M : Model) (n : ℕ) (ps : List Point) (u : ℕ) → u ≢ n → table.has (lamina_model M n ps).solids u ≡ table.has M.solids u
+unfolding lamina_model
+lamina_leaves M n ps u other = ap is_some (get-put_other M.solids n tt u other)
+
+block_leaves : (M : Model) (n : ℕ) (p : Point) (dx dy dz : ℤ) (u : ℕ) → u ≢ n → table.has (block_model M n p dx dy dz).solids u ≡ table.has M.solids u
+unfolding block_model
+block_leaves M n p dx dy dz u other =
+    ap (λ t. table.has t u) (prism_keeps (lamina_model M n (base_of p dx dy)) (lamina_face M) (vector (pos 0) (pos 0) dz)).solids ∙ lamina_leaves M n (base_of p dx dy) u other
+
+glue_leaves : (M : Model) (f g u : ℕ) → u ≢ solid_of M g → table.has (glue_model M f g).solids u ≡ table.has M.solids u
+unfolding glue_model
+glue_leaves M f g u other = ap is_some (get-remove_other M.solids (solid_of M g) u other)
+
+split_solids : (M : Model) (n : ℕ) (p : Plane) (m : ℕ) → Sound M → shapes.split_refusal M n p m ≡ None → (split_model M n p m).solids ≡ table.put M.solids m tt
+unfolding split_model part
+split_solids M n p m sound none =
+    let D = with_drawings M n p in
+    ap (λ (N : Model). N.solids) (split_is D (faces_above D.model p n) n p m (can_be_split M n p m sound none))
+    ∙ ap (λ t. table.put t m tt)
+    (solids_stay D (faces_above D.model p n) n p m (can_be_split M n p m sound none) ∙ (drawn_keeps M n p m sound none).solids ∙ (crossings_keep M n p m sound (begins M n p m sound none)).solids)
+
+split_leaves : (M : Model) (n : ℕ) (p : Plane) (m : ℕ) → Sound M → shapes.split_refusal M n p m ≡ None → (u : ℕ) → u ≢ m → table.has (split_model M n p m).solids u ≡ table.has M.solids u
+split_leaves M n p m sound none u other = ap (λ t. table.has t u) (split_solids M n p m sound none) ∙ ap is_some (get-put_other M.solids m tt u other)
 
 plane_looks : (M : Model) (f : ℕ) → normal M f ≡ direction (plane_of M f)
 unfolding plane_of normal
@@ -130,19 +174,22 @@ gone_told M n fits gone = rw (fits, gone) refl
 -- ---- the laws
 
 module _ (lead : LinesLeadOn) (consistent : HistoriesMakeConsistent) where
-  pub blocks_measure : NewBlock → BlocksAreThere → BlocksMeasure
-  blocks_measure measure there script line ask n p dx dy dz h spells asks_so added =
+  pub blocks_measure : NewBlock → OthersThanBlock → BlocksAreThere → BlocksMeasure
+  blocks_measure measure stay there script line ask n p dx dy dz h spells asks_so added =
       let c = command.Change (change.Block n p dx dy dz) in
       let s = reached script in
       let t = reached (script ++ ended line) in
       let none : block_refusal s n p dx dy dz ≡ None = none_refused script line c (block_refusal s n p dx dy dz) (block s n p dx dy dz) h spells refl added in
       let made : t ≡ block s n p dx dy dz = made script line c (block_refusal s n p dx dy dz) (block s n p dx dy dz) h spells refl added in
-      volume_adds (script ++ ended line) ask n (pos 6 *ℤ dx *ℤ dy *ℤ dz) (ends_append script (ended line) h (ends_line line)) asks_so
-      (solid_told (held t) n (holds_sound lead consistent (script ++ ended line)) (there s t n p dx dy dz (none, made)))
-      (measure s t n p dx dy dz (holds_sound lead consistent script) none made)
+      let sound = holds_sound lead consistent script in (
+        volume_adds (script ++ ended line) ask n (pos 6 *ℤ dx *ℤ dy *ℤ dz) (ends_append script (ended line) h (ends_line line)) asks_so
+            (solid_told (held t) n (holds_sound lead consistent (script ++ ended line)) (there s t n p dx dy dz (none, made))) (measure s t n p dx dy dz sound none made),
+        λ others text u other asks_others before. as_before script line others text u h asks_others before
+            (ap (λ m. table.has (held m).solids u) made ∙ block_leaves (held s) n p dx dy dz u other) (stay s t n p dx dy dz u sound none made other),
+      )
 
-  pub parts_share_volumes : PartsAreHeld → HeldShareVolumes → PartsShareVolumes
-  parts_share_volumes there share script line one other n m a b c d z h spells asks_one asks_other before added =
+  pub parts_share_volumes : PartsAreHeld → HeldShareVolumes → HeldKeepOthers → PartsShareVolumes
+  parts_share_volumes there share stay script line one other n m a b c d z h spells asks_one asks_other before added =
       let p : Plane = plane_with a b c d in
       let cmd = command.Change (change.Split n a b c d m) in
       let s = reached script in
@@ -161,6 +208,8 @@ module _ (lead : LinesLeadOn) (consistent : HistoriesMakeConsistent) where
         volume_adds script one n (u +ℤ v) h asks_one (was_told s (solid_refusal (held s) n) (six_volume (held s) n) z text) (share s t n p m sound (none, made)),
         volume_adds (script ++ ended line) one n u ends asks_one (solid_told (held t) n sound_then parts.0) refl,
         volume_adds (script ++ ended line) other m v ends asks_other (solid_told (held t) m sound_then parts.1) refl,
+        λ ask told u others asks_so was. as_before script line ask told u h asks_so was
+            (ap (λ k. table.has (held k).solids u) made ∙ split_leaves (held s) n p m sound none u others.1) (stay s t n p m u sound (none, made) others.0 others.1),
       )
 
   pub sweeps_measure : SweptSolid → OthersThanSwept → SweptAreThere → SweepsKeepSolids → SweepsMeasure
@@ -188,13 +237,11 @@ module _ (lead : LinesLeadOn) (consistent : HistoriesMakeConsistent) where
           volume_adds script ask n u h asks_so (solid_told (held s) n sound (sound.faces_of_solids f face)) refl,
           volume_adds (script ++ ended line) ask n w ends asks_so (solid_told (held t) n sound_then (there s t f d sound (none, made))) (measure s t f d sound none made ∙ ap (λ (p : Point). u +ℤ pos 3 *ℤ dot p d) (plane_looks (held s) f)),
         );
-        others = λ ask text m other asks_so before. asks (script ++ ended line) ask (question.Volume m) text ends asks_so
-            (ap (λ (a : Told). answer_text t (answer_when a)) (same_volume (held s) (held t) m (keep s t f d (none, made)) (stay s t f d m sound none made other))
-            ∙ same_text t s (asked (held s) (question.Volume m)) ∙ was_asked script ask (question.Volume m) text h asks_so before);
+        others = λ ask text m other asks_so before. as_before script line ask text m h asks_so before (ap (λ r. table.has r m) (keep s t f d (none, made))) (stay s t f d m sound none made other);
       }
 
-  pub glues_measure : GluedSolid → GluesJoinSolids → GluesMeasure
-  glues_measure measure join script line f g h spells added =
+  pub glues_measure : GluedSolid → OthersThanGlued → GluesJoinSolids → GluesMeasure
+  glues_measure measure stay join script line f g h spells added =
       let cmd = command.Change (change.Glue f g) in
       let s = reached script in
       let t = reached (script ++ ended line) in
@@ -212,6 +259,9 @@ module _ (lead : LinesLeadOn) (consistent : HistoriesMakeConsistent) where
       record {
         first = first;
         second = second;
+        listed = λ text lists.
+            let same : listing (held s) ≡ text = sym (list_text s) ∙ from_adds script (codes "list\n") text h lists in
+            (subst (ListsFace f first) same (face_listed (held s) f faces.f_there), subst (ListsFace g second) same (face_listed (held s) g faces.g_there));
         joined = λ one other asks_one asks_other. (
           u,
           v,
@@ -221,4 +271,6 @@ module _ (lead : LinesLeadOn) (consistent : HistoriesMakeConsistent) where
         );
         gone = λ other asks_other. asks (script ++ ended line) other (question.Volume second) (reply_text (reply.Refused (why.code_of NoSolid) second)) ends asks_other
             (ap (λ (o : Option Refusal). answer_text t (answer_when (value_or_refusal (answer o (told.Volume (six_volume (held t) second)))))) (gone_told (held t) second (sound.solids_fit second (sound.faces_of_solids g faces.g_there)) there.1));
+        others = λ ask text u others asks_so before. as_before script line ask text u h asks_so before
+            (ap (λ m. table.has (held m).solids u) made ∙ glue_leaves (held s) f g u others.1) (stay s t f g u sound none made others.0 others.1);
       }

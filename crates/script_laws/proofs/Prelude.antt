@@ -44,7 +44,7 @@ pub use Rattle.solid_listing.specs.Replies.{reply_words}
 unfoldable pub use Rattle.solid_listing.specs.Replies.{reply_text}
 pub use Rattle.solid_measure.specs.Measure.{answer, counts, face_refusal, solid_refusal}
 unfoldable pub use Rattle.solid_measure.specs.Measure.{is_flat, plane_of, six_volume}
-pub use Rattle.std.proofs.Common.{Bool, Err, IfOk, List, None, Ok, Option, Result, Some, [], ap, append-nil, append_assoc, arith, bytes_eq, codes, cond, decimal, false, flat_map, inl, inr, int_lt, length, length-append, map, nat_eq, nat_lt, neg_ℤ, negsuc, pos, refl, subst, suc, sym, take_all, true, true≢false, zero, ℕ, ℤ, ◌%◌, ◌&&◌, ◌*ℤ◌, ◌*◌, ◌++◌, ◌+ℤ◌, ◌+◌, ◌-◌, ◌/◌, ◌<◌, ◌==◌, ◌^◌, ◌↔◌, ◌∙◌, ◌∷◌, ◌≡◌, ◌≢◌, ◌≤◌, ◌⊎◌}
+pub use Rattle.std.proofs.Common.{Bool, Err, IfOk, List, None, Ok, Option, Result, Some, [], ap, append-nil, append_assoc, arith, bytes_eq, codes, cond, decimal, false, flat_map, inl, inr, int_lt, is_some, length, length-append, map, nat_eq, nat_lt, neg_ℤ, negsuc, pos, refl, subst, suc, sym, take_all, true, true≢false, zero, ℕ, ℤ, ◌%◌, ◌&&◌, ◌*ℤ◌, ◌*◌, ◌++◌, ◌+ℤ◌, ◌+◌, ◌-◌, ◌/◌, ◌<◌, ◌==◌, ◌^◌, ◌↔◌, ◌∙◌, ◌∷◌, ◌≡◌, ◌≢◌, ◌≤◌, ◌⊎◌}
 pub use Rattle.std.proofs.lemmas.Bool.{and_from, cases_Bool, false≢true}
 pub use Rattle.std.proofs.lemmas.Bool.Decides.{nat_tests}
 pub use Rattle.std.proofs.lemmas.Fmt.{decimal_is_IsNumeral, decimal_is_IsNumeral_wide, decimal_nonempty, length-decimal-le, length_signed_le}

@@ -85,13 +85,13 @@ other_oks : (l : List (List ℕ)) (rest : List ℕ) → IsOther l → oks (line_
 other_oks ((b ∷ w) ∷ ws) rest h = ap (count_lines (codes "ok")) (other_lines b w ws rest h) ∙ not_ok (nat_eq b 111) (bytes_eq (w ++ spaced ws) (107 ∷ [])) (oks rest) h.0
 other_oks l rest h = absurd h
 
-line_ends : (l : List (List ℕ)) → IsOther l → EndsLine (line_text l)
+pub line_ends : (l : List (List ℕ)) → IsOther l → EndsLine (line_text l)
 line_ends ((b ∷ w) ∷ ws) h = inr ((b ∷ w) ++ spaced ws, sym (append-nil (line_text ((b ∷ w) ∷ ws))) ∙ text_is (b ∷ w) ws [])
 line_ends l h = absurd h
 
 -- ---- many lines
 
-abbrev AreOthers : List (List (List ℕ)) → Type 0
+abbrev pub AreOthers : List (List (List ℕ)) → Type 0
 AreOthers ls = AllByRecursion IsOther ls
 
 no_oks : (ls : List (List (List ℕ))) → AreOthers ls → oks (text_of ls) ≡ 0

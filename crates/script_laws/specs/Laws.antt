@@ -11,7 +11,7 @@ use Rattle.call_types.specs.declared.command.Change.TheVariants as change
 use Rattle.call_types.specs.declared.command.Question.TheVariants as question
 use Rattle.call_types.specs.declared.command.Command.{Command}
 use Rattle.call_types.specs.declared.command.Command.TheVariants.{Ask, Change}
-use Rattle.solid_listing.specs.Lines.{spaced}
+use Rattle.solid_listing.specs.Lines.{line_text, spaced}
 use Rattle.solid_listing.specs.Replies.{reply_text}
 use Rattle.solid_listing.specs.declared.reply.Reply.{Reply}
 use Rattle.solid_listing.specs.declared.reply.Reply.TheVariants as reply
@@ -106,16 +106,23 @@ VolumeLinesSpell = (n : ℕ) → n < 2 ^ 32 → Spells (codes "volume" ++ spaced
 abbrev pub volume_answer : ℤ → List ℕ
 volume_answer z = ended (codes "volume" ++ spaced (signed_decimal z ∷ []))
 
--- after a block that was answered `ok`, its volume is answered: six times the product of its sizes
+-- behind the line a question for the volume of any of these solids is answered as before it
+abbrev pub AnswersAsBefore : (ℕ → Type 0) → List ℕ → List ℕ → Type 0
+AnswersAsBefore These script line = (ask text : List ℕ) (n : ℕ) → These n → Spells ask (Ask (question.Volume n)) → Adds script (ended ask) text → Adds (script ++ ended line) (ended ask) text
+
+-- after a block that was answered `ok`, its volume is answered: six times the product of its sizes; every other volume is answered as before
 abbrev pub BlocksMeasure : Type 0
 BlocksMeasure = (script line ask : List ℕ) (n : ℕ) (p : Point) (dx dy dz : ℤ) → EndsLine script → Spells line (Change (change.Block n p dx dy dz)) → Spells ask (Ask (question.Volume n))
-    → Adds script (ended line) (codes "ok\n") → Adds (script ++ ended line) (ended ask) (volume_answer (pos 6 *ℤ dx *ℤ dy *ℤ dz))
+    → Adds script (ended line) (codes "ok\n")
+    → Adds (script ++ ended line) (ended ask) (volume_answer (pos 6 *ℤ dx *ℤ dy *ℤ dz)) × AnswersAsBefore (λ u. u ≢ n) script line
 
--- after a split that was answered `ok`, the sum of both parts' volumes is what was answered for the solid before
+-- after a split that was answered `ok`, the sum of both parts' volumes is what was answered for the solid before; every other volume is answered as
+-- before
 abbrev pub PartsShareVolumes : Type 0
 PartsShareVolumes = (script line one other : List ℕ) (n m : ℕ) (a b c d z : ℤ) → EndsLine script → Spells line (Change (change.Split n a b c d m)) → Spells one (Ask (question.Volume n)) → Spells other (Ask (question.Volume m))
     → Adds script (ended one) (volume_answer z) → Adds script (ended line) (codes "ok\n")
     → (u : ℤ) × (v : ℤ) × Adds script (ended one) (volume_answer (u +ℤ v)) × Adds (script ++ ended line) (ended one) (volume_answer u) × Adds (script ++ ended line) (ended other) (volume_answer v)
+    × AnswersAsBefore (λ k. (k ≢ n) × (k ≢ m)) script line
 
 -- the volumes after a sweep of face f by d: that of one solid grows by three times the product of d with the first three numbers that the plane of f
 -- was answered; every other one is answered as before
@@ -126,21 +133,28 @@ pub record VolumesGrow (script line : List ℕ) (f : ℕ) (d : Point) : Type 0 w
   pub faced : (ask : List ℕ) → Spells ask (Ask (question.Plane f)) → Adds script (ended ask) (reply_text (reply.Plane plane flat))
   pub grown : (ask : List ℕ) → Spells ask (Ask (question.Volume solid))
       → (u : ℤ) × Adds script (ended ask) (volume_answer u) × Adds (script ++ ended line) (ended ask) (volume_answer (u +ℤ pos 3 *ℤ dot (direction plane) d))
-  pub others : (ask text : List ℕ) (n : ℕ) → n ≢ solid → Spells ask (Ask (question.Volume n)) → Adds script (ended ask) text → Adds (script ++ ended line) (ended ask) text
+  pub others : AnswersAsBefore (λ n. n ≢ solid) script line
 
 abbrev pub SweepsMeasure : Type 0
 SweepsMeasure = (script line : List ℕ) (f : ℕ) (d : Point) → EndsLine script → Spells line (Change (change.Sweep f d)) → Adds script (ended line) (codes "ok\n") → VolumesGrow script line f d
 
--- the volumes after a glue: the volume of one solid is the sum of the two before, and the other solid is gone
-pub record VolumesJoin (script line : List ℕ) : Type 0 where
+-- the listing has a line of face f, which names solid n
+abbrev pub ListsFace : ℕ → ℕ → List ℕ → Type 0
+ListsFace f n text = (front behind loops : List ℕ) × EndsLine front × (text ≡ front ++ (line_text (codes "face" ∷ decimal f ∷ decimal n ∷ map decimal loops) ++ behind))
+
+-- the volumes after a glue of faces f and g, whose solids the listing before it names: the volume of the first is the sum of the two before, the second
+-- solid is gone, and every other volume is answered as before
+pub record VolumesJoin (script line : List ℕ) (f g : ℕ) : Type 0 where
   pub first : ℕ
   pub second : ℕ
+  pub listed : (text : List ℕ) → Adds script (codes "list\n") text → ListsFace f first text × ListsFace g second text
   pub joined : (one other : List ℕ) → Spells one (Ask (question.Volume first)) → Spells other (Ask (question.Volume second))
       → (u : ℤ) × (v : ℤ) × Adds script (ended one) (volume_answer u) × Adds script (ended other) (volume_answer v) × Adds (script ++ ended line) (ended one) (volume_answer (u +ℤ v))
   pub gone : (other : List ℕ) → Spells other (Ask (question.Volume second)) → Adds (script ++ ended line) (ended other) (reply_text (reply.Refused (why.code_of NoSolid) second))
+  pub others : AnswersAsBefore (λ n. (n ≢ first) × (n ≢ second)) script line
 
 abbrev pub GluesMeasure : Type 0
-GluesMeasure = (script line : List ℕ) (f g : ℕ) → EndsLine script → Spells line (Change (change.Glue f g)) → Adds script (ended line) (codes "ok\n") → VolumesJoin script line
+GluesMeasure = (script line : List ℕ) (f g : ℕ) → EndsLine script → Spells line (Change (change.Glue f g)) → Adds script (ended line) (codes "ok\n") → VolumesJoin script line f g
 
 -- after a script of blocks and splits, a question for a volume is answered a number greater than 0, or it is refused
 abbrev pub BlocksAndSplitsHaveVolume : Type 0

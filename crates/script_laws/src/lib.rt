@@ -15,8 +15,9 @@
 //! `list` is answered `empty` (`undos_lead_back`). After two scripts that come to equal listings all lines except undo and redo are answered alike
 //! (`equal_listings_go_on_alike`). After a block that was answered `ok`, `volume` is answered six times the product of its sizes (`blocks_measure`).
 //! After a split the volumes of both parts are answered, and their sum is what was answered before (`parts_share_volumes`). After a sweep one volume
-//! has grown by an amount that the plane of the face tells (`sweeps_measure`). After a glue one volume is the sum of two (`glues_measure`). These
-//! laws speak of any line that spells such a command (`Spells`); `lines_spell` names the plainest. If the only changes that a script asks for are
+//! has grown by an amount that the plane of the face tells (`sweeps_measure`). After a glue the volume of the first face's solid is the sum of two
+//! (`glues_measure`). Behind each of these every other volume is answered as before (`AnswersAsBefore`). These laws speak of any line that spells such a
+//! command (`Spells`); `lines_spell` names the plainest. If the only changes that a script asks for are
 //! blocks and splits, no volume of 0 or less is answered (`blocks_and_splits_have_volume`). A text begins with at most one reply, whose
 //! numbers tell why (`replies_tell`).
 
@@ -105,7 +106,7 @@ pub fn lines_spell()
     ensures volume { VolumeLinesSpell }
 {}
 
-/// After a block that was answered `ok`, its volume is answered: six times the product of its sizes.
+/// After a block that was answered `ok`, its volume is answered: six times the product of its sizes. Every other volume is answered as before.
 pub fn blocks_measure()
     ensures { BlocksMeasure }
 {
@@ -114,7 +115,8 @@ pub fn blocks_measure()
     solids_are_there();
 }
 
-/// After a split that was answered `ok` the volumes of both parts are answered, and their sum is what was answered for the solid before.
+/// After a split that was answered `ok` the volumes of both parts are answered, and their sum is what was answered for the solid before. Every other
+/// volume is answered as before.
 pub fn parts_share_volumes()
     ensures { PartsShareVolumes }
 {
@@ -132,7 +134,8 @@ pub fn sweeps_measure()
     solids_are_there();
 }
 
-/// After a glue that was answered `ok` the volume of one solid is the sum of the two before, and the other solid is gone.
+/// After a glue that was answered `ok` the volume of the first face's solid is the sum of the two before, and the second face's solid is gone. Which
+/// solids these are the listing before it tells. Every other volume is answered as before.
 pub fn glues_measure()
     ensures { GluesMeasure }
 {
