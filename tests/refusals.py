@@ -10,7 +10,7 @@ docs/SCRIPT.md, and the last condition in gwb.hpp. The last line counts.
 """
 import re
 import sys
-from typing import Callable, Dict, Iterator, List, NamedTuple, Tuple
+from typing import Callable, Dict, Iterator, List, NamedTuple, Set, Tuple
 
 from counts import TOP, command_line, told
 
@@ -21,7 +21,7 @@ PAGE = 'docs/REFUSALS.md'
 
 
 class Block(NamedTuple):
-    """What is said of a condition, a fault, a misfit or a cause: texts by their keys."""
+    """What is said of a condition, a fault, a misfit, a cause or an error of Python: texts by their keys."""
 
     kind: str
     number: int
@@ -46,8 +46,8 @@ class Table:
     def __init__(self, text: str) -> None:
         blocks = [block for block in text.split('\n\n') if not block.startswith('#')]
         found = [self._block(*block.strip('\n').split('\n')) for block in blocks]
-        self.kinds = [[block for block in found if block.kind == kind] for kind in ('condition', 'fault', 'misfit', 'cause')]
-        self.conditions, self.faults, self.misfits, self.causes = self.kinds
+        self.kinds = [[block for block in found if block.kind == kind] for kind in ('condition', 'fault', 'misfit', 'cause', 'error')]
+        self.conditions, self.faults, self.misfits, self.causes, self.errors = self.kinds
 
     @property
     def is_whole(self) -> bool:
@@ -193,7 +193,8 @@ enum class Misfit : uint32_t {{
 
 def rust_text(table: Table) -> str:
     """bindings/rust/src/refusal.rs."""
-    conditions, _, misfits, causes = (''.join(f'    {block.name} = {block.number}: "{block.text}",\n' for block in of) for of in table.kinds)
+    conditions, misfits, causes = (''.join(f'    {block.name} = {block.number}: "{block.text}",\n' for block in of)
+                                   for of in (table.conditions, table.misfits, table.causes))
     return f"""//! The names of refusals. {MADE}
 use crate::named::named;
 
@@ -218,11 +219,12 @@ Cause {{
 
 
 def page_text(table: Table) -> str:
-    """docs/REFUSALS.md, with the rows of its tables."""
+    """docs/REFUSALS.md, with the rows of its tables, and the list at its end."""
     parts = re.split(r'(^\|---\|---\|---\|\n)(?:\|.*\n)*', text_of(PAGE), flags=re.MULTILINE)
-    for place, blocks in enumerate(table.kinds[:3]):
+    for place, blocks in enumerate((table.conditions, table.faults, table.misfits)):
         parts[2 * place + 1] += ''.join(f'{block.row}\n' for block in blocks)
-    return ''.join(parts)
+    errors = ''.join(f'- `{block.name}`: {block.said["happened"]}. Try {block.said["try"]}.\n' for block in table.errors)
+    return re.sub(r'(?:^- `\w+`: .*\n)*\Z', lambda _: errors, ''.join(parts), count=1, flags=re.MULTILINE)
 
 
 MAKERS: Dict[str, Callable[[Table], str]] = {
@@ -258,6 +260,14 @@ def header_names() -> List[str]:
     return re.findall(r'<GWB_WHY_(\w+)>\(\)', text_of('bindings/include/gwb.hpp'))
 
 
+def error_names() -> Set[str]:
+    """The errors that gwb has for Python, but those of the other tables, which have a name for each of theirs, and those that stand for several."""
+    sys.path.insert(0, str(TOP / 'companions'))
+    import gwb
+    found = {name for name in gwb.__all__ if not name.startswith('_') and isinstance(getattr(gwb, name), type) and issubclass(getattr(gwb, name), Exception)}
+    return found - {'CompanionError', 'Complaint', 'Refused', 'Faulted', 'Impossible'}
+
+
 def findings(table: Table) -> Iterator[str]:
     """For each place what is wrong with it, or nothing."""
     names, faults = names_of(table.conditions), names_of(table.faults)
@@ -268,6 +278,7 @@ def findings(table: Table) -> Iterator[str]:
     yield '' if help_names('Refusals') == names else 'crates/command_line/src/words.rt: the help text has other names'
     yield '' if help_names('Faults') == faults else 'crates/command_line/src/words.rt: the help text has other faults'
     yield '' if script_names() == names else 'docs/SCRIPT.md: the table of refusals has other names'
+    yield '' if error_names() == {block.name for block in table.errors} else f'{TABLE}: the errors that gwb has for Python are others'
     yield '' if header_names() == [capitals(table.conditions[-1].name)] else 'bindings/include/gwb.hpp: its last condition is another'
 
 

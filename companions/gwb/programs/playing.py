@@ -87,7 +87,7 @@ class LibraryPlayer(Library):
         reply = self.ask(line)
         if reply.word != 'ok':
             return reply, before, before
-        near.faces.update(self.fresh('face') if word in _FRESH else ())
+        near.faces.update(*(self.fresh('face') if word in _FRESH else ()))
         near.edges.update(before.edges if word in _WHOLE else ())
         if word not in _TURNS:
             self._commands[place:] = [near]
