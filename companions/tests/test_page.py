@@ -836,7 +836,7 @@ class Lists(PageCase):
 
 
 class Looks(PageCase):
-    """Solids moved apart and hidden, links, shadows, units, and a page for within others."""
+    """Solids moved apart and hidden, links, shadows, soft occlusion, units, and a page for within others."""
 
     TWO = listing([*box((0, 0, 0), (4, 4, 4))[0], *box((10, 0, 0), (14, 4, 4))[0]], box((0, 0, 0), (4, 4, 4))[1], box((10, 0, 0), (14, 4, 4), 9)[1])
 
@@ -890,6 +890,17 @@ class Looks(PageCase):
         tab.settle()
         self.assertLess(int(dark.split(' < ')[0]), int(dark.split(' < ')[1]) - 20, (x, y))
         self.assertGreater(sum(tab.colours(x, y)[0]), int(dark.split(' < ')[1]) - 20)
+
+    def test_soft_occlusion_comes_where_the_picture_stands_still(self):
+        foot, post = box((0, 0, 0), (10, 10, 2)), box((4, 4, 2), (6, 6, 8), 9)
+        tab = self.opened(page_of(model_in(listing([*foot[0], *post[0]], foot[1], post[1]))), MIDDLE, 'numbers=none', calm=True)
+        light = lambda place: sum(tab.colours(*self.place(tab, place))[0])
+        self.assertTrue(tab.until('View.soft.level === 1', 300))
+        tab.settle()
+        self.assertLess(light((5, 3.6, 2)), light((5, .6, 2)) - 25)
+        still, _ = light((5, .6, 2)), tab.press('ArrowLeft')
+        self.assertTrue(tab.until('View.soft.level === 0', 300))
+        self.assertLess(abs(light((5, .6, 2)) - still), 25)
 
     def test_lengths_are_millimetres(self):
         tab = self.opened(page_of(model_in(listing(*box((0, 0, 0), (4, 5, 6)))), unit=Fraction(1, 4)), MIDDLE)

@@ -12,7 +12,7 @@ from ..geometry.model import Model
 from .page_rows import EMPTY, PageRows, Rows
 
 _FILES = Path(__file__).resolve().parent / 'page'
-_SCRIPTS = ('picture.js', 'section.js', 'measure.js', 'painter.js', 'flat.js', 'panels.js', 'page.js')
+_SCRIPTS = ('picture.js', 'section.js', 'measure.js', 'occlusion.js', 'painter.js', 'flat.js', 'panels.js', 'page.js')
 
 
 class Look(Protocol):

@@ -3,7 +3,7 @@
 const View = (() => {
   const {at, element, say} = Panels;
   const PALETTE = [[.45, .65, .86], [.93, .72, .42], [.55, .77, .53], [.83, .56, .62], [.66, .6, .82], [.5, .76, .76], [.8, .75, .5], [.68, .68, .7]];
-  const LIT = [1, .55, .15], MADE = [1, .8, .3], APART = .6, FILM = 6000, SHOT = 800, CORNER = {turn: Math.atan2(-3, 2), lift: .507};
+  const LIT = [1, .55, .15], MADE = [1, .8, .3], APART = .6, FILM = 6000, SHOT = 800, STILL = 300, FADE = 250, CORNER = {turn: Math.atan2(-3, 2), lift: .507};
   const degrees = angle => Math.cos(angle * Math.PI / 180) + 1e-6;
   // Which edges are drawn: by the least angle of the faces beside them, as its cosine.
   const EDGES = [{name: 'auto', cosine: null}, {name: 'all', cosine: 2}, {name: 'from 5°', cosine: degrees(5)}, {name: 'from 15°', cosine: degrees(15)},
@@ -273,9 +273,30 @@ const View = (() => {
     if (place !== placed || screen.scene !== app.scene) screen = Picture.screenOf(app.scene, view);
     placed = place;
     Panels.showTriad(screen.basis);
-    const how = {isHidden: state.isHidden, isXray: state.isXray, pen: penOf()};
+    if (soft.of !== screen) soft.level = 0;
+    const how = {isHidden: state.isHidden, isXray: state.isXray, pen: penOf(), softness: soft.level};
     if (gl && !isLost) gl.draw(view, screen, how, pace.timer ? pace.level : 0);
+    clearTimeout(soft.timer);
+    if (!soft.level) soft.timer = setTimeout(softenSlowly, STILL);
     if (!gl) Flat.draw(front, view, app.scene, screen, {...look, ...how, ink: theme('--edge'), isLit: look.isEdgeLit});
+  }
+
+  // Soft occlusion comes in by and by where the picture stands still, so it costs a model that turns nothing.
+  const soft = {of: null, level: 0, timer: null};
+
+  function soften(level) {
+    if (!gl || isLost || !screen || state.isXray) return false;
+    if (soft.of !== screen) gl.soften(view, screen);
+    Object.assign(soft, {of: screen, level});
+    drawn = '';
+    ask();
+    return true;
+  }
+
+  function softenSlowly() {
+    const now = screen, begun = performance.now();
+    const step = time => screen === now && soften(Math.max(.01, Math.min(1, isCalm.matches ? 1 : (time - begun) / FADE))) && soft.level < 1 && requestAnimationFrame(step);
+    if (!pace.timer) requestAnimationFrame(step);
   }
 
   function ask() {
@@ -295,6 +316,7 @@ const View = (() => {
       clearTimeout(waiting);
       isLost = false;
       gl = Painter.on(front);
+      soft.of = null;
       if (gl) gl.take(app.scene); else withoutWebGL();
       recolour();
       ask();
@@ -736,6 +758,8 @@ const View = (() => {
 
   function picture() {
     const canvas = ofFront();
+    draw();
+    soften(1);
     drawOn(canvas);
     canvas.toBlob(blob => save(blob, 'png'));
   }
@@ -832,7 +856,7 @@ const View = (() => {
     say(`solid ${solid} hidden; the list of solids shows it again`);
   }
 
-  const app = {cutHandle, data, rows, rowNow, rowFrom, hidePicked, moveApart, addressWords, state, view, EDGES, css, colourOf, choose, unpick, turnOff, isolate, go, play, refit, aim, ask, draw, light,
+  const app = {soft, cutHandle, data, rows, rowNow, rowFrom, hidePicked, moveApart, addressWords, state, view, EDGES, css, colourOf, choose, unpick, turnOff, isolate, go, play, refit, aim, ask, draw, light,
                model: models.get(0), scene: null, solids: [], listed: null,
                place: point => [...Picture.placed(Picture.inBall(point, ball), Picture.axes(view), Picture.middleOf(view))]};
 

@@ -10,6 +10,9 @@ vec4 shown(vec3 spot, float nearer) { return vec4(2. * spot.xy / size.xy, -.7 * 
   const FILL = `attribute vec3 point, normal; attribute vec4 colour; ${PLACE}void main() {
 ink = vec4(colour.rgb * (.58 + .24 * max(0., dot(normal, stand)) + .3 * max(0., dot(normal, light))), colour.a);
 gl_Position = shown(spot(point), 0.); }`;
+  // Which way faces look, as a colour.
+  const NORMAL = `attribute vec3 point, normal; ${PLACE}void main() { ink = vec4(.5 + .5 * vec3(dot(normal, right), dot(normal, up), dot(normal, stand)), 1);
+gl_Position = shown(spot(point), 0.); }`;
   // The shadow that the model throws on the ground, which lies as deep as its lowest point, by a light that stands a little beside the zenith.
   const SHADOW = `attribute vec3 point; uniform vec3 ground; ${PLACE}void main() { ink = vec4(0, 0, 0, 1);
 gl_Position = shown(spot(vec3(point.xy + ground.yz * (point.z - ground.x), ground.x)), 0.); gl_Position.z = 0.; }`;
@@ -31,15 +34,15 @@ gl_Position = seen(point) ? shown(at, 1.5) : vec4(2, 2, 2, 1); }`;
   const INK = `precision mediump float; varying vec4 ink; uniform float alpha, hatch;
 void main() { float dark = ink.a < .1 && mod(gl_FragCoord.x + gl_FragCoord.y, hatch * 7.) < hatch * 1.4 ? .72 : 1.; gl_FragColor = vec4(ink.rgb * dark, alpha); }`;
   const CORNERS = [[0, -1], [1, -1], [0, 1], [1, 1]], QUAD = [0, 1, 2, 2, 1, 3];
-  const UNIFORMS = ['right', 'up', 'stand', 'light', 'size', 'middle', 'inverse', 'halfWidth', 'alpha', 'hatch', 'all', 'ground'];
+  const UNIFORMS = ['right', 'up', 'stand', 'light', 'size', 'middle', 'inverse', 'halfWidth', 'alpha', 'hatch', 'all', 'ground', 'nears', 'normals', 'dark', 'zoom'];
 
   // Four bytes as one number, in the order that the machine has.
   const packed = rgba => new Uint32Array(Uint8Array.from(rgba).buffer)[0];
 
   // A program, and the places of its words.
-  function program(gl, vertex) {
+  function program(gl, vertex, fragment = INK) {
     const made = gl.createProgram(), at = {}, places = {};
-    for (const [type, text] of [[gl.VERTEX_SHADER, vertex], [gl.FRAGMENT_SHADER, INK]]) {
+    for (const [type, text] of [[gl.VERTEX_SHADER, vertex], [gl.FRAGMENT_SHADER, fragment]]) {
       const shader = gl.createShader(type);
       gl.shaderSource(shader, text);
       gl.compileShader(shader);
@@ -104,7 +107,8 @@ void main() { float dark = ink.a < .1 && mod(gl_FragCoord.x + gl_FragCoord.y, ha
   function on(canvas) {
     const gl = canvas.getContext('webgl', {antialias: false, stencil: true});
     if (!gl || gl.isContextLost() || !gl.getExtension('OES_element_index_uint')) return null;
-    const fill = program(gl, FILL), line = program(gl, LINE), thin = program(gl, THIN), shadow = program(gl, SHADOW);
+    const fill = program(gl, FILL), line = program(gl, LINE), thin = program(gl, THIN), shadow = program(gl, SHADOW), normals = program(gl, NORMAL);
+    const occlusion = Occlusion.on(gl, program);
     const [corners, cornerColours, lines, lineSides, lineColours, faceIndex, lineIndex] = Array.from({length: 7}, () => gl.createBuffer());
     let scene = null, held = null, isThin = false, edgeCount = 0, low = 0;
 
@@ -211,6 +215,24 @@ void main() { float dark = ink.a < .1 && mod(gl_FragCoord.x + gl_FragCoord.y, ha
       gl.drawElements(gl.TRIANGLES, held.indices.length, gl.UNSIGNED_INT, 0);
     }
 
+    // Reckons the soft occlusion of what is drawn from here on, at half of the picture's sharpness.
+    function soften(view, screen) {
+      const [width, height] = [canvas.width, canvas.height].map(x => Math.max(1, x >> 1));
+      if (occlusion) occlusion.reckon(width, height, view.zoom * width / view.width, () => {
+        gl.clearColor(.5, .5, 1, 1);
+        gl.depthMask(true);
+        gl.clear(gl.COLOR_BUFFER_BIT | gl.DEPTH_BUFFER_BIT);
+        gl.enable(gl.DEPTH_TEST);
+        gl.enable(gl.CULL_FACE);
+        use(normals, view, screen, 0);
+        attribute(normals, 'point', corners, 3, gl.FLOAT, 24, 0);
+        attribute(normals, 'normal', corners, 3, gl.FLOAT, 24, 12);
+        gl.uniform1f(normals.at.alpha, 1);
+        gl.bindBuffer(gl.ELEMENT_ARRAY_BUFFER, faceIndex);
+        gl.drawElements(gl.TRIANGLES, held.indices.length, gl.UNSIGNED_INT, 0);
+      });
+    }
+
     function useEdges(view, screen, pen, all) {
       const what = isThin ? thin : line, each = isThin ? 12 : 32;
       use(what, view, screen, pen.half);
@@ -243,8 +265,9 @@ void main() { float dark = ink.a < .1 && mod(gl_FragCoord.x + gl_FragCoord.y, ha
       gl.depthMask(true);
     }
 
-    // Draws what was taken: without edges in the greatest haste, if they are many. The pen has half a line's width and how dense it is.
-    function draw(view, screen, {isHidden, isXray, pen}, haste) {
+    // Draws what was taken: without edges in the greatest haste, if they are many. The pen has half a line's width and how dense it is; so much of
+    // the soft occlusion that was reckoned is laid over the faces.
+    function draw(view, screen, {isHidden, isXray, pen, softness}, haste) {
       gl.viewport(0, 0, canvas.width, canvas.height);
       gl.clearColor(0, 0, 0, 0);
       gl.depthMask(true);
@@ -254,10 +277,11 @@ void main() { float dark = ink.a < .1 && mod(gl_FragCoord.x + gl_FragCoord.y, ha
       gl.blendFuncSeparate(gl.SRC_ALPHA, gl.ONE_MINUS_SRC_ALPHA, gl.ONE, gl.ONE_MINUS_SRC_ALPHA);
       if (!isXray && haste < IN_HASTE && screen.basis.stand[2] > .05 && LIGHTS * held.indices.length <= 3 * MOST_SHADED) drawShadow(view, screen);
       drawFaces(view, screen, isXray);
+      if (occlusion && softness > 0 && !isXray) occlusion.lay(softness);
       if (haste < 4 || !isThin) drawEdges(view, screen, pen, isHidden, isXray);
     }
 
-    return {take, dress, draw};
+    return {take, dress, draw, soften};
   }
 
   return {on};
