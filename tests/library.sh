@@ -157,7 +157,7 @@ built 'Booleans are built' library_booleans.cpp "${CXX:-c++}" -std=c++17 -O1 -Wo
 counted 'Booleans beside unit cubes, and each refusal' "$dir/built/library_booleans"
 sed -n 's/^\([^:]*: [0-9]*\)$/  \1/p' "$dir/log"
 built 'refused memory of features is built' library_features_refused.c "${CC:-cc}" -std=gnu11 -O2
-counted 'each allocation of features refused' "$dir/alone/library_features_refused" 7
+counted 'each allocation of features refused' "$dir/alone/library_features_refused" 16
 built 'files of other forms are built' library_export.cpp "${CXX:-c++}" -std=c++17 -Wold-style-cast -Wshadow
 counted 'files of other forms' "$dir/built/library_export"
 if echo '#include <CGAL/version.h>' | "${CXX:-c++}" -E -x c++ - > /dev/null 2>&1; then
@@ -200,10 +200,10 @@ built 'triangles are built' library_triangles.c "${CC:-cc}" -std=gnu11 -O2
 counted 'faces cut into triangles' "$dir/built/library_triangles"
 prints 'the example in Python' bindings/examples/block_python.expected bindings/examples/block.py "$dir/built/libgwb.so"
 if has rustc 'the crate and the example in Rust are built' 'the example in Rust' 'the tests in Rust, session' 'the tests in Rust, features' \
-    'the tests in Rust, machining' 'the tests in Rust, session, with each block alone' 'one program in Rust'; then
+    'the tests in Rust, session, with each block alone' 'one program in Rust'; then
     tried 'the crate and the example in Rust are built' make_here rust
     prints 'the example in Rust' bindings/examples/block_rust.expected "$dir/built/block_rust"
-    for name in session features machining; do
+    for name in session features; do
         tried "the tests in Rust, $name" "$dir/built/${name}_rust"
     done
     tried 'one program in Rust is built' rustc --edition 2021 -O -L "dependency=$dir/built" -o "$dir/built/library_same_rust" \
@@ -261,7 +261,7 @@ if "${CC:-cc}" $sanitizers -o "$dir/empty" "$dir/empty.c" 2> "$dir/err" && "$dir
     wait
     for name in $in_cpp $threads library_worked library_features_refused; do
         cat "$dir/sanitized/$name.log"
-        counted "$name with sanitizers" "$dir/sanitized/$name" 20
+        counted "$name with sanitizers" "$dir/sanitized/$name" "$([ "$name" = library_features_refused ] && echo 80 || echo 20)"
     done
     set -- "$@" "$dir/sanitized/library_same_c" "$dir/sanitized/library_same_cpp"
     echo "sanitizers took $(($(date +%s) - began)) seconds"

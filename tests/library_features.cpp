@@ -423,30 +423,6 @@ static void try_solid(const std::string &name, Solid (*make)(Workbench &))
     }
 }
 
-static void try_refusals()
-{
-    Workbench bench;
-    const Solid block = bench.block({0, 0, 0}, {4, 4, 4});
-    const std::string before = bench.listing();
-    const auto refused = [&](auto call) {
-        try {
-            call();
-            return GWB_WHY_NUMBER_RANGE;
-        } catch (const Refused &why) {
-            return why.why();
-        }
-    };
-    check(refused([&] { kill_solid(bench, Solid(9)); }) == GWB_WHY_NO_SOLID, "no solid is killed");
-    check(refused([&] { copy_solid(bench, Solid(9)); }) == GWB_WHY_NO_SOLID, "no solid is copied");
-    check(refused([&] {
-              move_solid(bench, block, Motion::move({1000000000, 0, 0}));
-          }) == GWB_WHY_POINT_RANGE,
-          "a solid that would lie out of range");
-    check(bench.listing() == before && bench.depth() == 1, "refusals change nothing");
-    Attempts attempt = bench.attempt();
-    check(copy_solid(attempt, Solid(9)).error().is(GWB_WHY_NO_SOLID) && *copy_solid(attempt, block) == Solid(2), "by attempts");
-}
-
 // ---- memory refused in the faces of C++
 
 // A block in a session or a draft of it, and what is held of it.
@@ -599,36 +575,6 @@ static void try_names()
     check(bench.start_of(copy.of(side)) == copy.of(start) && bench.end_of(copy.of(side)) == copy.of(bench.end_of(side)), "and half-edge");
 }
 
-// A row of blocks, glued to one, all of it three times as large.
-static void try_rows()
-{
-    Workbench bench;
-    const Block block = bench.block({0, 0, 0}, {4, 4, 4});
-    const std::vector<Solid> row = pattern(bench, block, 3, {4, 0, 0});
-    check(row == std::vector<Solid>{Solid(2), Solid(3)} && bench.depth() == 2, "a row of three");
-    Attempts attempt = bench.attempt();
-    const Solid apart = bench.block({0, 0, 40}, {4, 4, 4});
-    check(glue_all(attempt, {block, row[1]}).error().is(Misfit::no_match), "solids that don't touch");
-    check(glue_all(attempt, {block, row[0], row[1], apart}).error().value == apart.number() && bench.depth() == 3, "one that touches none");
-    check(glue_all(attempt, {block, block}).error().problem == Problem::no_call && !glue_all(attempt, {}), "one given twice, and none");
-    check(glue_all(attempt, {block, Solid(99)}).error().is(GWB_WHY_NO_SOLID), "one that isn't there");
-    glue_all(bench, {block, row[1], row[0]});
-    check(narrow(bench.six_volumes(block)) == 6 * 3 * 64 && bench.count(block).faces == 14, "one solid of three");
-    scale(bench, 3);
-    check(narrow(bench.six_volumes(block)) == 6 * 27 * 3 * 64 && narrow(bench.six_volumes(apart)) == 6 * 27 * 64, "three times as large");
-    check(scale(attempt, 0).error().is(GWB_WHY_SIZE_RANGE) && scale(attempt, 1'000'000'000'000).error().is(GWB_WHY_POINT_RANGE), "too small, too large");
-    check(pattern(attempt, apart, 0, {1, 0, 0}).error().problem == Problem::no_call && pattern(attempt, apart, 1, {1, 0, 0})->empty(), "no row, and one of one");
-    check(pattern(attempt, apart, 3, {INT64_MAX, 0, 0}).error().is(GWB_WHY_POINT_RANGE), "a step too long");
-    check(copy_solid(attempt, apart, Motion::move({INT64_MIN, 0, 0})).error().is(GWB_WHY_POINT_RANGE) && bench.depth() == 6, "a motion too long");
-
-    Workbench ring;
-    const Solid left = ring.block({0, 0, 0}, {2, 6, 2}), right = ring.block({4, 0, 0}, {2, 6, 2});
-    const Solid below = ring.block({2, 0, 0}, {2, 2, 2}), above = ring.block({2, 4, 0}, {2, 2, 2});
-    Attempts rings = ring.attempt();
-    (void)left, (void)right, (void)below, (void)above;
-    check(glue_all(rings, {left, below}).error().is(Misfit::no_match) && ring.depth() == 4, "faces of unlike outlines");
-}
-
 // ---- faces cut into triangles by operators
 
 // Cuts all in a draft: each face with triangles is one then, no vertex is new, and the volumes are the same.
@@ -695,7 +641,6 @@ static void try_cuts()
 int main()
 {
     try {
-        try_rows();
         try_stops();
         try_names();
         try_refused_memory();
@@ -705,7 +650,6 @@ int main()
         try_solid("a wire", wire);
         try_solid("two parts", parts);
         try_solid("a lone ring", lone_ring);
-        try_refusals();
         try_triangles("a pocket", pocket);
         try_triangles("a hole", hole);
         try_triangles("two holes", two_holes);

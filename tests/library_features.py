@@ -6,9 +6,11 @@ the solid and a sum over its points; or the name of what is refused, its value, 
 by the ends of a side of its outer loop, an edge by its own, in the direction of its first half-edge; a solid that is cut by its listing. `halve` cuts it in
 two, and tells of both; `union` adds a block at a point, `subtract` takes one away, and `intersect` leaves what is in it too; `around` tells of all of a row;
 `chamfers` takes a width and the ends of its edges; `pocket_along` and `boss_along` take a vector in place of a depth. `block`, `profile` and `model` begin a
-part. A row `undo` takes the last feature back. The table was written by features in Python that shared no code with those of the library, a row by turned
-points, chamfers of several edges by cuts, features by vectors by products of areas with these, and 40 parts of Booleans by unit cubes; what is undone was
-compared at random points with what was cut out or put on, and in what is refused as Meets in slanted parts gwb-check found that it would touch itself.
+part. A row `undo` takes the last feature back. A row that begins with `:` is a line of the program as it is, and what it gives to the letter (`measures`
+tells of a solid); one with `!` is given to the other languages alone, as the session in Python refuses such arguments by ValueError. The table, but for
+these, was written by features in Python that shared no code with those of the library, a row by turned points, chamfers of several edges by cuts, features by
+vectors by products of areas with these, and 40 parts of Booleans by unit cubes; what is undone was compared at random points with what was cut out or put on,
+and in what is refused as Meets in slanted parts gwb-check found that it would touch itself.
 """
 import re
 from itertools import takewhile
@@ -86,6 +88,9 @@ class Table:
         if word == 'undo':
             yield Line(word)
             return
+        if word in (':', '!'):
+            yield from self._numbered(rest, stored, word == '!')
+            return
         if word in _BEGINNINGS:
             yield Line('part')
         before = '' if word in _BEGINNINGS else self._session.listing()
@@ -96,6 +101,17 @@ class Table:
         if told != stored and not self._is_refused_too(told, stored):
             self.wrong.append(f'{row}: {told}')
         yield from self._undone(row, before, after, is_made)
+
+    def _numbered(self, line: str, stored: str, is_unasked: bool) -> Iterator[Line]:
+        """A row that is a line of the program, and what it gives; or what is told of a solid."""
+        word, *numbers = line.split(' ')
+        if word == 'measures':
+            told = measures(self._session.bench, int(numbers[0]))
+        else:
+            yield Line(word, list(map(int, numbers)), stored if is_unasked else None)
+            told = self._session.given
+        if told != stored and not is_unasked:
+            self.wrong.append(f': {line}: {told}')
 
     def _is_refused_too(self, told: str, stored: str) -> bool:
         """Whether it is a chamfer that is turned: what is refused of it may be found in its other face first."""

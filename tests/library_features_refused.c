@@ -3,7 +3,8 @@
  * line counts.
  *
  *     library_features_refused [EVERY]     of the allocations each, or each EVERYth where one is said, and a fifth of these with all after it; where EVERY
- *                                          is above 10, a fifth of these of what takes long: Booleans */
+ *                                          is above 20, a fifth of these of what takes long: Booleans. Each of the sixteen ways in which a feature is
+ *                                          made begins with another one, so that by EVERY 16 each is refused once */
 #include "gwb_features.h"
 #include <stdio.h>
 #include <stdlib.h>
@@ -286,9 +287,9 @@ int main(int argc, char **argv)
     const long every = argc > 1 ? strtol(argv[1], NULL, 10) : 1;
     for (size_t at = 0; at < sizeof features / sizeof features[0]; at++)
         for (int way = 0; way < 2 * WAYS; way++) {
-            const long step = features[at].prepare != NULL && every > 10 ? 5 * every : every;
             refuses_on = way >= WAYS;
-            for (long nth = 0; try_refused(&features[at], way % WAYS, nth); nth += refuses_on ? 5 * step : step)
+            const long step = (features[at].prepare != NULL && every > 20 ? 5 : 1) * (refuses_on ? 5 : 1) * every;
+            for (long nth = way % WAYS * step / WAYS; try_refused(&features[at], way % WAYS, nth); nth += step)
                 ;
         }
     printf("%ld passed, %ld failed\n", passed, failed);

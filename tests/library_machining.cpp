@@ -395,57 +395,17 @@ static void try_cubes(std::uint32_t times)
         check(times < 50 || told[name] >= 20, "what is told of tools is told often: " + name);
 }
 
-// ---- what comes back, refusals and drafts
+// ---- what becomes one, refusals and drafts
 
-static void try_what_comes_back()
+// What faces that become one went into: a part that is there, or nothing.
+static void try_merged()
 {
     Workbench bench;
-    const Profile plate = profile(bench, {{0, 0, 0}, {0, 20, 0}, {40, 20, 0}, {40, 0, 0}}, {0, 0, 10});
-    check(narrow(bench.six_volumes(plate.solid)) == 6 * 8000, "a profile of clockwise points isn't inside out");
-    check(bench.plane(plate.sides[1]).b.low == 800 && bench.plane(plate.far).c.high == 0, "its second side lies over the second and third point");
-    const Pocket sunk = pocket(bench, plate.far, {{5, 5, 10}, {15, 5, 10}, {15, 15, 10}, {5, 15, 10}}, 4);
-    check(bench.face_of(sunk.loop) == plate.far && narrowed(bench.plane(sunk.face).d) == -1200, "a pocket has a ring in its face, and a floor");
-    const Pocket raised = boss(bench, sunk.face, {{6, 6, 6}, {8, 6, 6}, {8, 8, 6}}, 9);
-    check(raised.sides.size() == 3 && bench.faces_of(*bench.edges_of(raised.face).begin()).size() == 2, "a boss has sides");
-    const Hole through = hole(bench, plate.far, {{20, 5, 10}, {30, 5, 10}, {20, 15, 10}});
-    check(through.other == plate.base && through.sides.size() == 3, "a hole ends in the base");
-    const Ring drawn = ring(bench, plate.sides[0], {{0, 2, 2}, {0, 4, 2}, {0, 4, 4}});
-    check(bench.face_of(drawn.loop) == plate.sides[0], "a ring of a face");
-    check(are_same(bench.vertex(drawn.vertices[1]), {0, 4, 2}), "its points in their order");
-    const Notch cut = slot(bench, plate.far, {35, 0, 10}, {35, 20, 10}, 4, 2);
-    check(cut.floor.size() == 1 && cut.walls.size() == 2, "a slot across has a floor and two walls");
-    check(notch(bench, plate.far, {{0, 0, 10}, {2, 0, 10}, {2, 2, 10}, {0, 2, 10}}, 10).floor.empty(), "a notch that goes through has no floor");
-    const Face slope = chamfer(bench, half_edge(bench, plate.solid, {40, 20, 0}, {40, 20, 10}).edge(), 1);
-    check(bench.face(slope).solid == plate.solid && bench.depth() == 8, "a chamfer is a face, and each feature one command");
-}
-
-// A solid with a step, which split doesn't cut level with it.
-static void try_cuts()
-{
-    Workbench bench;
-    Attempts attempt = bench.attempt();
     const Solid step = profile(bench, {{0, 0, 0}, {8, 0, 0}, {8, 0, 4}, {4, 0, 4}, {4, 0, 8}, {0, 0, 8}}, {0, 8, 0}).solid;
-    const gwb_cut_plane level = {0, 0, 1, -4};
-    check(split_solid(attempt, step, level).error().is(GWB_WHY_TOUCHED_FACE), "a plane that split refuses");
-    const Split parts = cut(bench, step, level);
-    check(parts.lower_caps.size() == 1 && parts.upper_caps.size() == 1 && narrow(bench.plane(parts.lower_caps[0]).c) > 0, "a cut's caps");
-    check(bench.count(step).faces == 6 && bench.count(parts.above).faces == 6 && bench.depth() == 2, "the step's face is one with the cap");
-    check(cut(attempt, step, level).error().is(GWB_WHY_PLANE_MISSES) && cut(attempt, Solid(9), level).error().is(GWB_WHY_NO_SOLID), "nothing to cut");
-    check(cut(attempt, step, {2, 0, 0, -3}).error().is(GWB_WHY_NOT_LATTICE) && trim(attempt, step, {0, 0, 0, 1}).error().is(GWB_WHY_PLANE_RANGE), "no plane");
-    check(cut(attempt, step, {1, 0, 0, -3}, parts.above).error().is(GWB_WHY_SOLID_TAKEN), "a number in use");
-    const Merged merged = unite(bench, {step, parts.above}).merged;
-    check(!merged.empty() && bench.count(step).faces == 8 && narrow(bench.six_volumes(step)) == 6 * 384, "one solid again");
+    const Merged merged = unite(bench, {step, cut(bench, step, {0, 0, 1, -4}).above}).merged;
+    check(!merged.empty(), "one solid again");
     for (const auto &[face, part] : merged)
         check(bench.face(part).solid == step, "a face that another one went into");
-    check(trim(bench, step, level).size() == 1 && narrow(bench.six_volumes(step)) == 6 * 256 && bench.depth() == 4, "a step that is trimmed");
-    const Solid far = bench.block({40, 0, 0}, {2, 2, 2}), within = bench.block({1, 1, 4}, {2, 2, 1}), across = bench.block({7, 7, 3}, {2, 2, 2});
-    check(unite(attempt, {within, Solid(99)}).error().is(GWB_WHY_NO_SOLID), "none that is there");
-    check(unite(attempt, {step}).error().problem == Problem::no_call && !unite(attempt, {step, step}) && bench.depth() == 7, "no two solids");
-    check(Solid(unite(bench, {step, within})) == step, "the first one stays");
-    check(narrow(bench.six_volumes(step)) == 6 * 260 && bench.count(step).rings == 1, "a block on it");
-    unite(bench, {step, far, across});
-    check(narrow(bench.six_volumes(step)) == 6 * 275, "one that lies apart, and one that crosses it");
-    check(separate(bench, step).size() == 2 && narrow(bench.six_volumes(step)) == 6 * 267 && bench.depth() == 10, "what lies apart becomes a solid");
     Workbench beside;
     const Solid low = beside.block({0, 0, 0}, {4, 4, 4});
     const Merged into = unite(beside, {low, beside.block({4, 0, 0}, {4, 4, 4}), beside.block({0, 0, 4}, {8, 4, 4})}).merged;
@@ -458,25 +418,8 @@ static void try_refusals()
 {
     Workbench bench;
     const Solid block = bench.block({0, 0, 0}, {8, 8, 8});
-    const std::string before = bench.listing();
-    Attempts attempt = bench.attempt();
     const std::vector<Point> square = {{2, 2, 8}, {4, 2, 8}, {4, 4, 8}, {2, 4, 8}};
-    check(pocket(attempt, Face(1), square, 0).error().is(GWB_WHY_SIZE_RANGE), "a pocket that isn't deep");
-    check(pocket(attempt, Face(99), square, 1).error().is(GWB_WHY_NO_FACE), "a pocket in no face");
-    check(pocket(attempt, Face(2), square, 1).error().is(Misfit::not_in_plane), "a pocket in another face");
-    check(pocket(attempt, Face(1), square, 8).error().is(Misfit::meets), "a pocket that comes through");
-    check(pocket(attempt, Face(1), square, 4'000'000'000'000).error().is(Misfit::meets), "one that goes on for ever");
-    check(boss(attempt, Face(1), square, 1'000'000'000).error().is(GWB_WHY_POINT_RANGE), "a boss that is too high");
-    check(ring(attempt, Face(1), {{1, 1, 8}, {2'000'000'000'000'000'000, 1, 8}, {4, 4, 8}}).error().is(GWB_WHY_POINT_RANGE), "a point out of range");
-    check(profile(attempt, square, {1, 1, 0}).error().is(Misfit::along_plane), "a profile along its plane");
-    check(profile(attempt, block, square, {0, 0, 1}).error().is(GWB_WHY_SOLID_TAKEN), "a profile of a number in use");
-    check(shoulder(attempt, Face(1), Edge(1), 1, 1).error().is(Misfit::not_of_face), "a shoulder along another face's edge");
-    check(shoulder(attempt, Face(1), Edge(99), 1, 1).error().is(GWB_WHY_NO_EDGE), "a shoulder along no edge");
-    check(notch(attempt, Face(1), {{0, 0, 8}, {8, 0, 8}, {8, 8, 8}, {0, 8, 8}}, 8).error().is(Misfit::nothing_left), "a notch that leaves nothing");
-    check(off_lattice(attempt, Solid(9), {0, 0, 1, -1}).error().is(GWB_WHY_NO_SOLID), "no solid is cut");
-    check(off_lattice(attempt, block, {0, 0, 2'000'000'000, -1}).error().is(GWB_WHY_PLANE_RANGE), "a plane out of range");
     check(off_lattice(bench, block, {0, 0, 0, 0}).advice(Solid(2)).empty(), "nothing to say of no plane");
-    check(narrow(off_lattice(bench, block, {1, 0, 0, -4}).factor()) == 1, "nothing of a whole cut");
     try {
         (void)pocket(bench, Face(1), square, 8);
         check(false, "a pocket that comes through is refused");
@@ -484,7 +427,6 @@ static void try_refusals()
         const std::string text = why.text();
         check(std::string(why.what()) == "pocket: Meets 1" && why.misfit() == Misfit::meets && why.value() == 1 && !text.empty(), "why, and where");
     }
-    check(bench.listing() == before && bench.depth() == 1, "refusals change nothing");
     Attempts none = Workbench().attempt();
     check(pocket(none, Face(1), square, 1).error().problem == Problem::closed, "a pocket in no workbench");
     check(chamfer(none, Edge(1), 1).error().problem == Problem::closed, "a chamfer in none");
@@ -545,11 +487,6 @@ static void try_drills()
         }
     const Hole through = drill(bench, plate.top, {2000, 2000, 9}, 5, 12);
     check(through.other == plate.bottom && through.points[2].x == 2003 && through.points[1].y == 2003, "halves lie farther out");
-    check(drill(attempt, plate.top, {9, 9, 9}, 0, 4).error().is(GWB_WHY_SIZE_RANGE), "a drill of no radius");
-    check(drill(attempt, plate.top, {9, 9, 9}, 1, 2).error().value == 2 && drill(attempt, plate.top, {9, 9, 9}, 1, 4, -1).error().value == 3, "sizes by place");
-    check(drill(attempt, plate.top, {9, 9, 9}, 1, 9).error().is(GWB_WHY_REPEATED_POINT), "corners that fall on one point");
-    check(drill(attempt, plate.top, {9, 9, 9}, 5'000'000'000, 9).error().is(GWB_WHY_POINT_RANGE), "a drill that is too wide");
-    check(drill(attempt, Face(99), {9, 9, 9}, 1, 4).error().is(GWB_WHY_NO_FACE), "a drill in no face");
 }
 
 // How far the sides of a polygon around the origin, and its corners, lie from it, and its area: the least, the greatest, and twice the area.
@@ -666,17 +603,9 @@ static void try_queries()
     try_faces_sought(bench);
     try_edges_sought(bench);
     const Attempts attempt = bench.attempt();
-    check(find_faces(attempt, {Solid(9), {}, {}, {}, {}}).error().is(GWB_WHY_NO_SOLID), "faces of no solid");
-    check(find_edges(attempt, {Solid(9), {}, {}, {}}).error().is(GWB_WHY_NO_SOLID), "edges of no solid");
     check(find_faces(attempt, {Solid(), {}, {}, {}, {}}).error().is(GWB_WHY_NO_SOLID) && find_edges(attempt, {Solid(), {}, {}, {}}).error().is(GWB_WHY_NO_SOLID),
           "a solid that nothing was given");
     check(find_edges(attempt, {{}, {{Face(), Face()}}, {}, {}}).error().problem == Problem::no_call, "faces that nothing was given");
-    Attempts changing = attempt;
-    check(pattern(changing, wedge.solid, UINT32_MAX, {9, 9, 9}).error().is(GWB_WHY_NUMBERS_SPENT), "more solids than there are numbers");
-    check(find_edges(attempt, {{}, {{Face(1), Face(99)}}, {}, {}}).error().is(GWB_WHY_NO_FACE), "edges of no face");
-    check(find_faces(attempt, {{}, {}, Point{0, 0, 0}, {}, {}}).error().problem == Problem::no_call, "no direction");
-    check(find_faces(attempt, {{}, CutPlane{0, 0, 0, 1}, {}, {}, {}}).error().problem == Problem::no_call, "no plane");
-    check(find_edges(attempt, {{}, {}, {}, Ratio{1, 0}}).error().problem == Problem::no_call, "no ratio");
 }
 
 // What else changes a model than features of outlines is not missed by the next one.
@@ -772,8 +701,7 @@ int main(int count, char **words)
     const std::uint32_t times = count > 1 ? static_cast<std::uint32_t>(std::stoul(words[1])) : 50;
     try {
         try_cubes(times);
-        try_what_comes_back();
-        try_cuts();
+        try_merged();
         try_refusals();
         try_drafts();
         try_drills();

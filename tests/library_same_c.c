@@ -115,6 +115,8 @@ static bool is_well(enum gwb_kind kind)
         printf("%s %u", gwb_why_name(why.number), (unsigned)why.value);
     else if (kind == GWB_IMPOSSIBLE)
         put_misfit();
+    else if (kind == GWB_NO_CALL)
+        printf("NoCall");
     else
         printf("%s", gwb_kind_text(kind));
     return kind == GWB_OK;

@@ -16,7 +16,7 @@ public:
     std::int64_t number()
     {
         std::int64_t value = 0;
-        words_ >> value >> std::ws;
+        words_ >> value;
         return value;
     }
     template <class Kind> Kind name() { return Kind(static_cast<std::uint32_t>(number())); }
@@ -59,7 +59,7 @@ public:
         const auto axis = static_cast<unsigned>(number());
         return way == 1 ? Motion::quarter_turns(axis, static_cast<unsigned>(number())) : Motion::mirror(axis);
     }
-    bool has_more() { return !words_.eof(); }
+    bool has_more() { return !(words_ >> std::ws).eof(); }
     std::string text()
     {
         std::string left;
@@ -106,8 +106,8 @@ private:
     // Whether a line was accepted. If not, its refusal is told.
     template <class T> static bool is_well(const Result<T> &result)
     {
-        if (result)
-            std::cout << "ok";
+        if (result || result.error().problem == Problem::no_call)
+            std::cout << (result ? "ok" : "NoCall");
         else
             put_refusal(result.error());
         return static_cast<bool>(result);

@@ -251,6 +251,7 @@ fn tell(word: &str, given: Result<String, Error>, hit: Option<Hit>) {
     match given {
         Ok(text) if word == "list" || word == "advice" => println!("{text}"),
         Ok(text) => println!("ok{text}"),
+        Err(Error::NoCall) => println!("NoCall"),
         Err(error @ Error::Impossible { .. }) => println!("{error}{}", met(hit.unwrap())),
         Err(error) => println!("{error}"),
     }

@@ -1,108 +1,11 @@
-//! Solids from outside: killed, copied, moved, turned and mirrored.
-use gwb::{ExportError, Step, lone, minus, plus, Error, Face, Merger, Misfit, Motion, Point, Refusal, Session, Solid};
-
-type Corners = Vec<Point>;
-
-/// A solid as its faces, each as its loops, begun so that they come first in their order, where each point lies after a motion.
-fn shape(session: &Session, solid: Solid, motion: Motion) -> Vec<Vec<Corners>> {
-    let mut faces: Vec<_> = session.faces(solid).map(|face| loops_at(session, face, motion)).collect();
-    faces.sort();
-    faces
-}
-
-fn loops_at(session: &Session, face: Face, motion: Motion) -> Vec<Corners> {
-    let mut loops = Vec::new();
-    for of_loop in session.loops_of(face) {
-        let starts = session.around(of_loop).map(|at| session.start_of(at).unwrap());
-        let mut corners: Corners = starts.chain(session.lone_vertex(of_loop)).map(|at| motion.moved(session.vertex(at).unwrap())).collect();
-        if motion.is_mirror() {
-            corners.reverse();
-        }
-        let begun_at = |at| [&corners[at..], &corners[..at]].concat();
-        loops.push((0..corners.len()).map(begun_at).min().unwrap());
-    }
-    loops.sort();
-    loops
-}
-
-/// A block with a pocket in its top, or with a hole.
-fn pocket(session: &mut Session, is_through: bool) -> Solid {
-    let block = session.block(None, [0, 0, 0], [8, 8, 8]).unwrap();
-    let sheet = session.lamina(None, &[[2, 2, 8], [6, 2, 8], [6, 6, 8], [2, 6, 8]]).unwrap();
-    let fresh = session.fresh::<Face>().unwrap();
-    let (front, back) = (Face(*fresh.start()), Face(*fresh.end()));
-    session.merge(block, sheet).unwrap();
-    session.kfmrh(Face(1), back).unwrap();
-    session.sweep(front, [0, 0, if is_through { -8 } else { -3 }]).unwrap();
-    if is_through {
-        session.kfmrh(Face(2), front).unwrap();
-    }
-    block
-}
-
-/// Two of them side by side, glued together.
-fn two_holes(session: &mut Session) -> Solid {
-    let first = pocket(session, true);
-    let second = session.copy_solid(first, Motion::by([8, 0, 0])).unwrap().solid;
-    let at_eight = |solid, sign: i128| {
-        session.faces(solid).find(|&face| session.plane(face).map(|plane| plane.a * sign > 0 && plane.d == -8 * plane.a).unwrap()).unwrap()
-    };
-    let (one, other) = (at_eight(first, 1), at_eight(second, -1));
-    session.glue(one, other).unwrap();
-    first
-}
-
-fn wire(session: &mut Session) -> Solid {
-    let start = session.mvfs(None, None, None, None, [1, 2, 3]).unwrap();
-    let (edge, _) = session.mev(lone(start.of_loop), lone(start.of_loop), None, None, [5, 2, 3]).unwrap();
-    session.mev(plus(edge), plus(edge), None, None, [1, 7, 3]).unwrap();
-    session.mev(minus(edge), minus(edge), None, None, [5, 9, 4]).unwrap();
-    start.solid
-}
-
-/// Two blocks that are one solid, one of them with a lone ring.
-fn parts(session: &mut Session) -> Solid {
-    let one = session.block(None, [0, 0, 0], [2, 2, 2]).unwrap();
-    let (edge, _) = session.mev(plus(gwb::Edge(7)), plus(gwb::Edge(7)), None, None, [1, 1, 2]).unwrap();
-    session.kemr(plus(edge), None).unwrap();
-    let other = session.block(None, [5, 5, 5], [2, 2, 2]).unwrap();
-    session.merge(one, other).unwrap();
-    one
-}
-
-fn motions() -> [Motion; 6] {
-    let turned = Motion::quarter_turns(2, 1);
-    [Motion::default(), Motion::by([20, -3, 5]), Motion::quarter_turns(1, 2), turned, Motion::mirror(0), turned.then(Motion::mirror(1))]
-}
-
-fn try_solid(make: impl Fn(&mut Session) -> Solid) {
-    for motion in motions() {
-        let mut session = Session::new().unwrap();
-        let solid = make(&mut session);
-        let (depth, before, wanted) = (session.depth(), session.listing().unwrap(), shape(&session, solid, motion));
-        let copy = session.copy_solid(solid, motion).unwrap().solid;
-        assert_eq!((shape(&session, copy, Motion::default()), session.depth()), (wanted.clone(), depth + 1));
-        assert_eq!(session.count(copy), session.count(solid));
-        session.kill_solid(copy).unwrap();
-        assert_eq!(session.listing().unwrap(), before);
-        session.move_solid(solid, motion).unwrap();
-        assert_eq!((shape(&session, solid, Motion::default()), session.depth()), (wanted, depth + 3));
-        session.undo().unwrap();
-        assert_eq!(session.listing().unwrap(), before);
-    }
-}
+//! Drafts of features, listings and scripts, triangles, circles, and files of other forms. What features give says tests/library_features.table.
+use gwb::{circle, Circle, Error, ExportError, Face, Motion, Point, Refusal, Session, Solid, Step};
 
 #[test]
-fn pockets_and_holes_are_copied_and_moved() {
-    try_solid(|session| pocket(session, false));
-    try_solid(|session| pocket(session, true));
-    try_solid(two_holes);
-}
-
-#[test]
-fn wires_and_parts_are_copied_and_moved() {
-    try_solid(wire);
-    try_solid(parts);
+fn motions() {
+    let turned = Motion::quarter_turns(2, 1).then(Motion::mirror(1)).then(Motion::by([20, -3, 5]));
+    assert_eq!((turned.moved(Point::from([1, 2, 3])), turned.is_mirror()), (Point::from([18, -4, 8]), true));
+    assert_eq!((Motion::default().moved(Point::from([1, 2, 3])), Motion::quarter_turns(1, 2).is_mirror()), (Point::from([1, 2, 3]), false));
 }
 
 #[test]
@@ -119,36 +22,44 @@ fn in_a_draft_they_are_steps() {
     assert!(draft.move_solid(copy, Motion::by([1_000_000_000, 0, 0])).is_err());
     assert_eq!((draft.steps(), draft.faces(block).count()), (steps, 6));
     draft.commit().unwrap();
-    let moved = shape(&session, block, Motion::by([9, 0, 0]));
-    assert_eq!((session.depth(), shape(&session, copy, Motion::default())), (2, moved));
+    assert_eq!((session.depth(), session.six_volumes(copy), session.count(copy)), (2, Ok(6 * 64), session.count(block)));
 }
 
 #[test]
-fn what_is_refused_changes_nothing() {
+fn in_a_draft() {
     let mut session = Session::new().unwrap();
-    let block = session.block(None, [0, 0, 0], [4, 4, 4]).unwrap();
-    let before = session.listing().unwrap();
-    let none = Err(Error::Refused { refusal: Refusal::NoSolid, value: 9 });
-    assert_eq!((session.kill_solid(Solid(9)), session.copy_solid(Solid(9), Motion::default()).map(drop)), (none, none));
-    let far = session.move_solid(block, Motion::by([1_000_000_000, 0, 0]));
-    assert!(matches!(far, Err(Error::Refused { refusal: Refusal::PointRange, .. })));
-    assert_eq!((session.listing().unwrap(), session.depth()), (before, 1));
+    let block = session.block(None, [0, 0, 0], [8, 8, 8]).unwrap();
+    let mut draft = session.draft().unwrap();
+    draft.pocket(Face(1), &[[2, 2, 8], [4, 2, 8], [4, 4, 8]], 3).unwrap();
+    let (mark, pocketed) = (draft.mark(), draft.listing().unwrap());
+    draft.slot(Face(1), [6, 0, 8], [6, 8, 8], 2, 1).unwrap();
+    assert_eq!(draft.six_volumes(block), Ok(6 * (512 - 16) - 36));
+    draft.back(mark).unwrap();
+    assert!(draft.slot(Face(1), [9, 0, 8], [9, 8, 8], 2, 4).is_err());
+    assert_eq!(draft.listing().unwrap(), pocketed);
+    draft.commit().unwrap();
+    assert_eq!((session.depth(), session.listing().unwrap()), (2, pocketed));
+}
+
+/// A block with a hole.
+fn holed() -> Session {
+    let mut session = Session::new().unwrap();
+    session.block(Solid(1), [0, 0, 0], [8, 8, 8]).unwrap();
+    session.hole(Face(1), &[[2, 2, 8], [6, 2, 8], [6, 6, 8], [2, 6, 8]]).unwrap();
+    session
 }
 
 /// Models are made of their listings, beside others, as one command.
 #[test]
 fn loaded() {
-    for make in [|session: &mut Session| pocket(session, false), |session: &mut Session| pocket(session, true), two_holes, wire] {
-        let mut session = Session::new().unwrap();
-        make(&mut session);
-        let listing = session.listing().unwrap();
-        let mut other = Session::new().unwrap();
-        other.load(&listing).unwrap();
-        assert_eq!((other.listing().unwrap(), other.depth()), (listing.clone(), 1));
-        assert_eq!(other.fresh::<Face>(), session.greatest::<Face>().map(|last| 1..=last.0));
-        assert_eq!(other.load(&listing), Err(Error::Refused { refusal: Refusal::SolidTaken, value: 1 }));
-        assert_eq!((other.load("solid 1\n"), other.depth()), (Err(Error::NoCall), 1));
-    }
+    let session = holed();
+    let listing = session.listing().unwrap();
+    let mut other = Session::new().unwrap();
+    other.load(&listing).unwrap();
+    assert_eq!((other.listing().unwrap(), other.depth()), (listing.clone(), 1));
+    assert_eq!(other.fresh::<Face>(), session.greatest::<Face>().map(|last| 1..=last.0));
+    assert_eq!(other.load(&listing), Err(Error::Refused { refusal: Refusal::SolidTaken, value: 1 }));
+    assert_eq!((other.load("solid 1\n"), other.depth()), (Err(Error::NoCall), 1));
 }
 
 #[test]
@@ -176,8 +87,7 @@ fn scripts() {
 /// The triangles of a face go round what it does: their vectors, as long as twice their areas, add up to that of its plane.
 #[test]
 fn triangles() {
-    let mut session = Session::new().unwrap();
-    let solid = two_holes(&mut session);
+    let (session, solid) = (holed(), Solid(1));
     for face in session.faces(solid) {
         let mut sum = [0; 3];
         for corners in session.triangles(face).unwrap() {
@@ -194,25 +104,21 @@ fn triangles() {
     assert_eq!(session.triangles(Face(999)), Ok(Vec::new()));
 }
 
-/// A row of blocks, glued to one, all of it three times as large.
+/// Corners for circles are those of a drill, alike in all quarters, with their flats outside the circle where that is asked for.
 #[test]
-fn a_row_is_glued_and_scaled() {
+fn circles() {
     let mut session = Session::new().unwrap();
-    let block = session.block(None, [0, 0, 0], [4, 4, 4]).unwrap();
-    assert_eq!(session.pattern(block, 3, [4, 0, 0]), Ok(vec![Solid(2), Solid(3)]));
-    assert_eq!(session.glue_all(&[block, Solid(3)]), Err(Error::Impossible { misfit: Misfit::NoMatch, value: 3 }));
-    assert_eq!((session.glue_all(&[]), session.pattern(block, 0, [1, 0, 0])), (Err(Error::NoCall), Err(Error::NoCall)));
-    assert_eq!(session.pattern_around(block, 5, 2, 1, [0, 0, 0]), Err(Error::NoCall));
-    assert_eq!((session.pattern_around(block, 2, 3, 1, [0, 0, 0]), session.chamfer_edges(&[], 1)), (Err(Error::NoCall), Err(Error::NoCall)));
-    let (points, corners) = ([[0, 0, 50], [6, 0, 50], [0, 6, 50], [0, 0, 56]], [0, 2, 1, 0, 1, 3, 1, 2, 3, 0, 3, 2]);
-    let made = session.polyhedron(Solid(9), &points, &corners, &[3; 4]).unwrap();
-    assert_eq!((session.six_volumes(Solid(9)), session.vertex(made.first_vertex)), (Ok(216), Some(Point { x: 0, y: 0, z: 50 })));
-    assert_eq!(session.polyhedron(None, &points, &corners, &[3; 3]), Err(Error::NoCall));
-    assert_eq!(session.polyhedron(None, &points, &corners[..9], &[3; 3]), Err(Error::Impossible { misfit: Misfit::NotClosed, value: 1 }));
-    session.undo().unwrap();
-    session.glue_all(&[block, Solid(2), Solid(3)]).unwrap();
-    session.scale(3).unwrap();
-    assert_eq!((session.six_volumes(block), session.depth()), (Ok(6 * 27 * 3 * 64), 4));
+    session.block(None, [0, 0, 0], [100, 100, 9]).unwrap();
+    let drilled = session.drill(Face(1), [50, 50, 9], 9, 12, 0).unwrap();
+    let corners = circle(18, 12, Circle::Corners, 1).unwrap();
+    let moved: Vec<Point> = corners.iter().map(|&[x, y]| Point { x: x + 50, y: y + 50, z: 9 }).collect();
+    assert_eq!(drilled.points, moved);
+    assert!(corners.iter().all(|&[x, y]| corners.contains(&[-y, x]) && corners.contains(&[x, -y])));
+    let flats = circle(18, 12, Circle::Flats, 1).unwrap();
+    let sides = flats.iter().zip(flats.iter().cycle().skip(1));
+    assert!(sides.clone().all(|(a, b)| (a[0] * b[1] - a[1] * b[0]).pow(2) >= 81 * ((b[0] - a[0]).pow(2) + (b[1] - a[1]).pow(2))));
+    assert!(circle(1001, 8, Circle::Area, 5).unwrap().iter().flatten().all(|part| part % 5 == 0));
+    assert_eq!([circle(0, 8, Circle::Area, 1), circle(9, 2, Circle::Area, 1), circle(9, 8, Circle::Area, 0)], [None, None, None]);
 }
 
 /// The companions of this repository, from where tests are run.
@@ -244,31 +150,14 @@ fn files_of_other_forms() {
     assert!(matches!(session.export(file("stl"), None), Err(ExportError::NoProgram(..))));
 }
 
-/// A stepped solid is cut level with its step, trimmed, and made one again.
+/// What faces that become one went into: a part that is there, or nothing.
 #[test]
-fn a_step_is_cut_and_united() {
+fn merged() {
     let mut session = Session::new().unwrap();
     let outline = [[0, 0, 0], [8, 0, 0], [8, 0, 4], [4, 0, 4], [4, 0, 8], [0, 0, 8]];
     let step = session.profile(None, &outline, [0, 8, 0]).unwrap().solid;
-    let refused = session.split_solid(step, [0, 0, 1, -4], None);
-    assert!(matches!(refused, Err(Error::Refused { refusal: Refusal::TouchedFace, .. })), "{refused:?}");
     let parts = session.cut(step, [0, 0, 1, -4], None).unwrap();
-    assert_eq!((session.six_volumes(step), session.six_volumes(parts.above)), (Ok(6 * 256), Ok(6 * 128)));
-    assert_eq!((parts.lower_caps.len(), parts.upper_caps.len(), session.depth()), (1, 1, 2));
-    let merged = session.union(&[step, parts.above]).unwrap().merged;
-    assert!(!merged.is_empty() && merged.iter().all(|&(face, part)| session.face(part).is_some() || face == part));
-    assert_eq!((session.six_volumes(step), session.count(step).map(|count| count.faces)), (Ok(6 * 384), Ok(8)));
-    assert_eq!(session.trim(step, [0, 0, 1, -4]).map(|caps| caps.len()), Ok(1));
-    assert_eq!((session.six_volumes(step), session.depth()), (Ok(6 * 256), 4));
-    let far = session.block(None, [50, 0, 0], [1, 1, 1]).unwrap();
-    assert_eq!(session.union(&[step, far]), Ok(Merger { solid: step, merged: vec![] }));
-    assert_eq!(session.separate(step).map(|solids| (solids.len(), solids[0])), Ok((2, step)));
-    let tool = session.block(None, [1, 1, -1], [2, 2, 9]).unwrap();
-    assert_eq!(session.subtract(step, &[tool]).map(|made| made.solid), Ok(step));
-    assert_eq!(session.six_volumes(step), Ok(6 * (256 - 16)));
-    let across = session.block(None, [0, 0, 0], [4, 4, 9]).unwrap();
-    assert_eq!(session.intersect(&[step, across]).map(|made| made.solid), Ok(step));
-    assert_eq!((session.six_volumes(step), session.join_faces(step).map(|made| made.merged)), (Ok(6 * 48), Ok(vec![])));
-    assert_eq!(session.subtract(step, &[]), Err(Error::NoCall));
-    assert_eq!((session.union(&[step]), session.union(&[step, step])), (Err(Error::NoCall), Err(Error::NoCall)));
+    let made = session.union(&[step, parts.above]).unwrap();
+    assert!(made.solid == step && !made.merged.is_empty());
+    assert!(made.merged.iter().all(|&(face, part)| session.face(part).is_some() || face == part));
 }
