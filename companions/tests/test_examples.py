@@ -1,6 +1,6 @@
-"""Every example through every companion, compared with what is stored: the outputs of two in full, of the others their sums.
+"""Every example through every companion, compared with what is stored: the outputs of one in full, of the others their sums.
 
-The two show faces with rings, holes, and several solids. What the others have beside that: a wire and a lamina, which most forms refuse, a model
+The one shows faces with rings and a hole. What the others have beside that: several solids, a wire and a lamina, which most forms refuse, a model
 without a solid, and the words of refusals.
 
     python3 companions/tests/test_examples.py --store
@@ -16,7 +16,7 @@ from typing import Dict, List
 
 from support import OUTPUTS, REPOSITORY, examples, run
 
-IN_FULL = ('block_with_hole', 'split_block')
+IN_FULL = 'block_with_hole'
 # SHA-256 of the other outputs, by their names.
 SUMS = OUTPUTS / 'sums'
 MOST_TOLD = 1000
@@ -76,7 +76,7 @@ class Examples(unittest.TestCase):
         for script in examples():
             for end, told in outcomes(script).items():
                 with self.subTest(f'{script.stem}.{end}'):
-                    if script.stem in IN_FULL:
+                    if script.stem == IN_FULL:
                         self.assertEqual(told, file_of(script, end).read_text())
                     else:
                         self.assertEqual(sum_of(told), known[f'{script.stem}.{end}'], f'it is now:\n{told[:MOST_TOLD]}')
@@ -84,7 +84,7 @@ class Examples(unittest.TestCase):
         self.assertEqual(compared, len(examples()) * len((*LISTING_RUNS, *SCRIPT_RUNS)))
 
     def test_nothing_else_is_stored(self):
-        held = {f'{script.stem}.{end}': script.stem in IN_FULL for script in examples() for end in (*LISTING_RUNS, *SCRIPT_RUNS)}
+        held = {f'{script.stem}.{end}': script.stem == IN_FULL for script in examples() for end in (*LISTING_RUNS, *SCRIPT_RUNS)}
         self.assertEqual({path.name for path in OUTPUTS.iterdir()},
                          {SUMS.name, 'MANIFEST.md', 'files.tar.xz', *(name for name, is_full in held.items() if is_full)})
         self.assertEqual(set(sums()), {name for name, is_full in held.items() if not is_full})
@@ -95,7 +95,7 @@ def store() -> None:
     lines = []
     for script in examples():
         for end, told in outcomes(script).items():
-            if script.stem in IN_FULL:
+            if script.stem == IN_FULL:
                 file_of(script, end).write_text(told)
             else:
                 lines.append(f'{script.stem}.{end} {sum_of(told)}\n')
