@@ -227,7 +227,7 @@ class Things(unittest.TestCase):
         self.assertEqual(moved.of(bench.solid(first)), bench.solid(moved.solid))
         self.assertRaisesRegex(TypeError, '^part: a thing of the model is wanted', moved.of, first)
         for part in (bench.solid(second), bench.face(second.top), bench.edge(second.edges[0]), bench.vertex(second.vertices[0])):
-            self.assertRaisesRegex(LookupError, f'^the original, solid {first.solid}, has no {part.kind} {part.number}$', moved.of, part)
+            self.assertRaisesRegex(LookupError, f'^No{part.kind.capitalize()}: the original, solid {first.solid}, has no {part.kind} {part.number}$', moved.of, part)
         self.assertRaisesRegex(TypeError, '^part: a thing of the model is wanted, not the int 3$', moved.of, 3)
         with Workbench(library(), step=STEP) as other:
             other.block((0, 0, 0), (1, 1, 1))

@@ -272,6 +272,8 @@ class Interrupted(unittest.TestCase):
 
     def test_no_signal_is_lost_where_nothing_refers_to_a_draft_or_a_session(self):
         line, seen = 1, set()
+        # (a process in the background may ignore it)
+        self.addCleanup(signal.signal, signal.SIGINT, signal.signal(signal.SIGINT, signal.default_int_handler))
         with mock.patch.object(sys, 'unraisablehook') as lost:
             while copy_context().run(self.drop_all, line, seen):
                 line += 1

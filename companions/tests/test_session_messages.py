@@ -41,6 +41,20 @@ class Messages(unittest.TestCase):
         self.assertEqual(self.said(Impossible, lambda: bench.polyhedron(points, [*faces[:1], faces[1][::-1], faces[2]])),
                          'NotClosed: a side of faces[0] has no face beyond it')
 
+    def test_what_is_not_there_is_said_alike(self):
+        """A command, a feature, a search, a measure and a thing say it with the name first; a copy says whose thing is wanted."""
+        bench = self.bench
+        block, copy = bench.block((0, 0, 0), (9, 9, 9)), bench.copy(1, move=(20, 0, 0))
+        for give in (lambda: bench.volume(7), lambda: bench.kvfs(7), lambda: bench.delete(7), lambda: bench.centroid(7), lambda: bench.faces(solid=7),
+                     lambda: bench.off_lattice(7, (1, 0, 0, -1)), lambda: bench.solid(7).faces, lambda: bench.triangles_array(7)):
+            self.assertEqual(self.said(Refused, give), 'NoSolid: there is no solid 7')
+        for give in (lambda: bench.sweep(77, (0, 0, 1)), lambda: bench.sketch(77), lambda: bench.notch(77, [], 1), lambda: bench.area(77),
+                     lambda: bench.edges(between=(1, 77)), lambda: bench.face(77).normal, lambda: bench.label(bench.face(77), 'lid')):
+            self.assertEqual(self.said(Refused, give), 'NoFace: there is no face 77')
+        self.assertEqual(self.said(Refused, lambda: bench.chamfer(77, 1)), 'NoEdge: there is no edge 77')
+        self.assertEqual(self.said(LookupError, lambda: bench.vertex(77).point), 'NoVertex: there is no vertex 77')
+        self.assertEqual(self.said(LookupError, lambda: copy.of(bench.face(copy.face(block.top)))), 'NoFace: the original, solid 1, has no face 7')
+
     def test_a_made_thing_in_the_place_of_a_face(self):
         block = self.bench.block((0, 0, 0), (9, 9, 9))
         self.assertEqual(self.said(TypeError, lambda: self.bench.hole(block, [])), 'face: a face is wanted, not a block; its .top is one')

@@ -25,6 +25,7 @@ CutPlane, Ratio = _struct(a=LENGTH, b=LENGTH, c=LENGTH, d=LENGTH), _struct(numer
 
 _WORDS, _ROWS, _POINT, _PLANE, _RATIO, _MOTION, _PAIR = map(ctypes.POINTER, (WORD, LENGTH, Point, CutPlane, Ratio, Motion, Pair))
 HitRow = _struct(cause=WORD, kind=WORD, number=WORD, point=Wide * 3, scale=Wide)
+EdgeCut, NearPlane = _struct(edge=WORD, numerators=Wide * 3, denominators=Wide * 3), _struct(plane=CutPlane, is_parallel=ctypes.c_bool, moved=ctypes.c_double)
 FaceQuery = _struct(solid=WORD, plane=_PLANE, normal=_POINT, containing=_POINT, area=_RATIO)
 EdgeQuery = _struct(solid=WORD, between=WORD * 2, along=_POINT, length=_RATIO)
 _TEXT, _HANDLE, _REFUSAL, _SIZES = ctypes.c_char_p, *map(ctypes.POINTER, (Handle, Refusal, SIZE))
@@ -66,7 +67,8 @@ PROTOTYPES: Dict[str, Tuple[Any, List[Any]]] = {
     **{f'gwb_{name}': (result, [_HANDLE, *taken]) for name, (result, taken) in _CALLS.items()},
     **{f'gwb_{name}': (WORD, [_HANDLE, *taken]) for name, taken in _COMMANDS.items()},
     **{f'gwb_{name}': (WORD, [_HANDLE, *taken, _REFUSAL]) for name, taken in _FEATURES.items()},
-    'gwb_advice_factor': (Wide, [ADDRESS]), 'gwb_advice_free': (None, [ADDRESS]), 'gwb_misfit_name': (ctypes.c_char_p, [WORD]),
+    'gwb_advice_factor': (Wide, [ADDRESS]), 'gwb_advice_fits': (ctypes.c_bool, [ADDRESS]), 'gwb_advice_free': (None, [ADDRESS]),
+    **{f'gwb_advice_{name}': (SIZE, [ADDRESS, ctypes.POINTER(row), SIZE]) for name, row in (('cuts', EdgeCut), ('planes', NearPlane))}, 'gwb_misfit_name': (ctypes.c_char_p, [WORD]),
     'gwb_circle': (ctypes.c_bool, [LENGTH, LENGTH, WORD, WORD, _ROWS])}
 _MOST_TERM = 2 ** 64 - 1
 

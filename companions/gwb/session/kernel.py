@@ -4,7 +4,7 @@ import os
 import re
 from fractions import Fraction
 from threading import Condition, RLock
-from typing import Any, Callable, Dict, Iterable, Iterator, List, Optional, Sequence, Tuple, TypeVar, Union
+from typing import Any, Callable, Dict, Iterable, Iterator, List, NamedTuple, Optional, Sequence, Tuple, TypeVar, Union
 from weakref import WeakSet
 
 from ..errors import CompanionError, Complaint, InDraft, InGroup, OutOfStep, Refused
@@ -20,7 +20,8 @@ from ..protocol.language import NUMBERS, first_word, refusal, with_value
 from ..protocol.listing import listing_lines
 from ..protocol.refusals import ADVICE, CAUSES, MISFITS
 from ..protocol.replies import Reply
-from .c_calls import ADDRESS, IMPOSSIBLE, MEMORY, NO_CALL, OK, REFUSED, SIZE, WORD, CutPlane, HitRow, Pair, Refusal, rows, whole
+from .c_calls import (ADDRESS, IMPOSSIBLE, MEMORY, NO_CALL, OK, REFUSED, SIZE, WORD, CutPlane, EdgeCut, HitRow, NearPlane, Pair, Refusal, rows,
+                      whole)
 from .lengths import Lengths
 from .library import Library, filled
 from .notes import Notes
@@ -40,6 +41,16 @@ _CUTS = ('cut', 'trim')
 _WAYS, _LONE, _NO_CODE = ('in', 'out'), 2 ** 31, -2 ** 64
 # What may have been met, by the numbers of their kinds.
 THINGS = ('solid', 'face', 'loop', 'edge', 'vertex')
+
+
+class OffLattice(NamedTuple):
+    """What the library says of a cut whose points aren't whole: all edges that it cuts, the least number by which the model must be multiplied for all
+    points to be whole, whether it would be in range, and planes beside it that would do, as its structs."""
+
+    cuts: List[Any]
+    factor: int
+    fits: bool
+    planes: List[Any]
 
 
 # The sessions of this process.
@@ -281,16 +292,17 @@ class Kernel:
         text = ''.join(f'{line}\n' for line in listing_lines(model)).encode()
         self.give('load', text, len(text))
 
-    def whole_factor(self, solid: int, plane: Sequence[int]) -> int:
-        """The least number by which the model must be multiplied for all points of a cut to be whole."""
-        advice = ADDRESS()
-        self._ask('off_lattice', solid, CutPlane(*plane), 0, advice)
+    def off_lattice(self, solid: int, plane: Sequence[int], most: int = 0) -> OffLattice:
+        """What is said of a cut whose points aren't whole, with at most so many tilted planes."""
+        library, advice = self.lines.library, ADDRESS()
+        self._ask('off_lattice', solid, CutPlane(*plane), most, advice)
         try:
-            factor = self.lines.library.advice_factor(advice)
+            cuts, planes = (filled(row, lambda found, room: int(read(advice, found, room)))
+                            for row, read in ((EdgeCut, library.advice_cuts), (NearPlane, library.advice_planes)))
+            # (the factor is 0 where it is too great to be said: out of range in any case)
+            return OffLattice(cuts, whole(library.advice_factor(advice)) or 2 ** 62, bool(library.advice_fits(advice)), planes)
         finally:
-            self.lines.library.advice_free(advice)
-        # (0 where it is too great to be said: out of range in any case)
-        return whole(factor) or 2 ** 62
+            library.advice_free(advice)
 
     def made(self, which: int) -> Numbers:
         """A list of what the last feature made."""

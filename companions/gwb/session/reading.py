@@ -47,7 +47,7 @@ class Part(TakesTurns):
         """What was read of it. Refused where there is no such thing."""
         if not found:
             name = f'No{self.kind.capitalize()}'
-            raise (Refused if name in NUMBERS else NotThere)(name, self.number, NUMBERS.get(name, 0), f'there is no {self.kind} {self.number}')
+            raise (Refused if name in NUMBERS else NotThere)(name, self.number, NUMBERS.get(name, 0), f'{name}: there is no {self.kind} {self.number}')
         return found
 
 

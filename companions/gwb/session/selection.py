@@ -1,19 +1,23 @@
-"""What a workbench holds, read: things by where they lie, exactly, measures (solid_measures.py), sections (sections.py), cuts off the lattice
-(lattice_cuts.py), and arrays."""
+"""What a workbench holds, read: things by where they lie, exactly, measures (solid_measures.py), sections (sections.py), cuts off the lattice, and
+arrays."""
 
 from ctypes import pointer, sizeof
 from dataclasses import dataclass
 from fractions import Fraction
 from typing import Any, Iterable, List, Optional, Sequence, Tuple, Type
 
-from ..geometry import lattice_cuts, sections, solid_measures
+from ..geometry import sections, solid_measures
 from ..geometry.plane_figures import Exact
 from . import arguments
 from .bench import Methods
-from .c_calls import LENGTH, WORD, CutPlane, EdgeQuery, FaceQuery, Point, ratio
+from .c_calls import LENGTH, WORD, CutPlane, EdgeQuery, FaceQuery, Point, ratio, whole
+from .kernel import OffLattice
 from .lengths import ExactPlace, Lengths, direction, place, plain
 from .reading import EdgePart, FacePart, Found, LoopPart, Selection, SolidPart, VertexPart
 from .results import Plane
+
+# How many tilted planes are named beside a cut off the lattice.
+_MOST_TILTED = 3
 
 
 @dataclass(frozen=True)
@@ -40,16 +44,22 @@ class OffLatticeCut:
     """Other planes that do, the nearest first."""
 
     @classmethod
-    def of(cls, found: lattice_cuts.OffLatticeCut, lengths: Lengths) -> 'OffLatticeCut':
+    def of(cls, found: OffLattice, lengths: Lengths) -> 'OffLatticeCut':
         """What was found in steps."""
-        crossings = tuple(Crossing(at.edge, lengths.place(at.point), at.is_whole) for at in found.crossings)
-        parallel, *tilted = (near and Plane(*lengths.plane_out(near.plane)) for near in (found.parallel, *found.tilted))
-        return cls(crossings, found.factor, found.fits, parallel, tuple(plane for plane in tilted if plane))
+        parallel, tilted = ([Plane(*lengths.plane_out((near.plane.a, near.plane.b, near.plane.c, near.plane.d))) for near in found.planes
+                             if near.is_parallel == wanted] for wanted in (True, False))
+        return cls(tuple(_crossing(cut, lengths) for cut in found.cuts), found.factor, found.fits, next(iter(parallel), None), tuple(tilted))
 
     @property
     def off_lattice(self) -> Tuple[Crossing, ...]:
         """The cut edges whose points aren't multiples of the step, rising."""
         return tuple(crossing for crossing in self.crossings if not crossing.is_whole)
+
+
+def _crossing(cut: Any, lengths: Lengths) -> Crossing:
+    """Where an edge is cut, of a row of the library."""
+    x, y, z = (Fraction(whole(above), whole(below)) for above, below in zip(cut.numerators, cut.denominators))
+    return Crossing(cut.edge, lengths.place((x, y, z)), x.denominator == y.denominator == z.denominator == 1)
 
 
 class Reading(Methods):
@@ -258,10 +268,8 @@ class Reading(Methods):
         >>> bench.off_lattice(block, (7, 0, 0, -1)).factor
         7
         """
-        coefficients = self._kernel.lengths.plane('plane', plane)
-        found, number = self._alone(solid)
-        self._kernel.whole_factor(number, coefficients)    # (refused where one is out of range)
-        return OffLatticeCut.of(lattice_cuts.off_lattice_cut(found, number, coefficients), self._kernel.lengths)
+        number, lengths = self._number('solid', solid), self._kernel.lengths
+        return OffLatticeCut.of(self._kernel.off_lattice(number, lengths.plane_across('plane', plane), _MOST_TILTED), lengths)
 
     def vertices_array(self) -> memoryview:
         """A row for each vertex, rising: its number, and x, y and z in steps, in 64 bits each.

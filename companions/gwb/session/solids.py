@@ -108,7 +108,8 @@ class Copy:
         """The copy of a thing, by its number. Raises NotThere."""
         numbers = dict(zip(KINDS, ({self.original: self.solid}, self.faces, self.loops, self.edges, self.vertices)))[kind]
         if number not in numbers:
-            raise NotThere(f'No{kind.capitalize()}', number, 0, f'the original, solid {self.original}, has no {kind} {number}')
+            name = f'No{kind.capitalize()}'
+            raise NotThere(name, number, 0, f'{name}: the original, solid {self.original}, has no {kind} {number}')
         return numbers[number]
 
 
@@ -461,7 +462,7 @@ class SolidMethods(Methods):
                 self._kernel.advised(refused, line, reply)
             if refused.name != 'NotLattice':
                 raise
-            factor = self._kernel.whole_factor(solid, plane)
+            factor = self._kernel.off_lattice(solid, plane).factor
             if not may_refine:
                 refused.args = (f'{refused.args[0]}; in a step {factor} times finer all its points are multiples of it, as refine=True makes it; '
                                 'off_lattice() names planes near by',)
