@@ -286,7 +286,7 @@ class Refusals(unittest.TestCase):
         self.assertEqual(bench.edge(spur).faces, (bench.face(self.block.top),) * 2)
         bench.kemr(spur)
         for kind, what, name in (('face', 'area', 'NoFace'), ('edge', 'length', 'NoEdge'), ('edge', 'faces', 'NoEdge'), ('edge', 'solid', 'NoEdge')):
-            with self.assertRaisesRegex(Refused, f'^there is no {kind} 99$') as caught:
+            with self.assertRaisesRegex(Refused, f'^No{kind.capitalize()}: there is no {kind} 99$') as caught:
                 getattr(getattr(bench, kind)(99), what)
             self.assertEqual((caught.exception.name, caught.exception.value), (name, 99))
         with self.assertRaisesRegex(Unfit, 'lone loop'):

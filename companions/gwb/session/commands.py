@@ -23,6 +23,8 @@ class Commands(Methods):
 
         >>> bench.mvfs((50, 0, 0))
         NewSolid(solid=2, face=7, loop=7, vertex=9)
+        >>> bench.vertex(9).point
+        (50, 0, 0)
         """
         place = self._kernel.lengths.point('point', point)
         made = NewSolid(self._new('solid', solid), self._new('face', face), self._new('loop', loop), self._new('vertex', vertex))
@@ -46,6 +48,8 @@ class Commands(Methods):
         >>> half = bench.face(block.top).outer.half_edges[0]
         >>> bench.mev(half, half, (5, 5, 10))
         NewEdge(edge=13, vertex=9)
+        >>> bench.edge(13).points
+        ((0, 0, 10), (5, 5, 10))
         """
         corners = self._corner('first', first), self._corner('second', second)
         place = self._kernel.lengths.point('point', point)
@@ -71,6 +75,8 @@ class Commands(Methods):
         >>> first, _, third, _ = bench.face(block.top).outer.half_edges
         >>> bench.mef(first, third)
         NewFace(edge=13, face=7, loop=7)
+        >>> len(bench.face(7).edges)
+        3
         """
         halves = self._half('first', first), self._half('second', second)
         made = NewFace(self._new('edge', edge), self._new('face', face), self._new('loop', loop))
@@ -94,6 +100,8 @@ class Commands(Methods):
         >>> spur = bench.mev(half, half, (5, 5, 10))
         >>> bench.kemr(spur.edge)
         7
+        >>> bench.face(block.top).rings
+        (<loop 7>,)
         """
         word, made = self._half('half', half), self._new('loop', loop)
         self._kernel.do('kemr', word, made)
@@ -106,6 +114,8 @@ class Commands(Methods):
         >>> spur = bench.mev(half, half, (5, 5, 10))
         >>> bench.mekr(half, Lone(bench.kemr(spur.edge)))
         14
+        >>> bench.face(block.top).rings
+        ()
         """
         corners, made = (self._corner('first', first), self._corner('second', second)), self._new('edge', edge)
         self._kernel.do('mekr', *corners, made)
@@ -128,6 +138,8 @@ class Commands(Methods):
         >>> ring = bench.ring(block.top, [(10, 5, 10), (15, 5, 10), (10, 10, 10)])
         >>> bench.mfkrh(ring.loop)
         8
+        >>> bench.loop(ring.loop).face
+        <face 8>
         """
         loop, made = self._number('ring', ring, 'loop'), self._new('face', face)
         self._kernel.do('mfkrh', loop, made)
@@ -148,6 +160,8 @@ class Commands(Methods):
 
         >>> bench.lamina([(0, 0, 30), (5, 0, 30), (0, 5, 30)])
         Lamina(solid=2, front=7, back=8, edges=(13, 14, 15), vertices=(9, 10, 11))
+        >>> bench.area(7)
+        12.5
         """
         places = self._kernel.lengths.points('points', points, arguments.MOST_LAMINA_POINTS)
         number = self._new('solid', solid)

@@ -147,6 +147,8 @@ class Exporting(Methods):
         >>> made = bench.import_file(folder / 'part.step')
         >>> made, made.moved
         (<solids 2>, 0.0)
+        >>> bench.volume(2)
+        Fraction(8000, 1)
         """
         from ..formats.forms import READ
         from ..formats.importing import read_file

@@ -12,7 +12,8 @@ from ..geometry.outlines import Impossible
 from ..geometry.plane_figures import Exact
 from ..geometry.vectors import ZERO, Vector, add, cross, dot, reduced, subtract, total
 from ..protocol.complaints import refused
-from ..protocol.language import NUMBERS
+from ..protocol.language import NUMBERS, with_value
+from ..protocol.refusals import MISFITS
 from . import arguments
 from .bench import Methods
 from .c_calls import FLOOR, WALLS, WORD, Pair, Point, rows, words
@@ -183,7 +184,7 @@ class FeatureMethods(Methods):
         if along_way(across, start) != along_way(across, points[0]):
             raise Impossible('NotInPlane', part.number, f'the origin {_told(start)} lies off the plane of face {part.number}')
         if axis is not None:
-            return Sketch(start, *_seenalong_way(axis, across, part.number), self._kernel)
+            return Sketch(start, *_seen_along(axis, across, part.number), self._kernel)
         return Sketch(start, *_steps(across, ways, part.number), self._kernel)
 
     def ring(self, face: arguments.Face, points: arguments.Points) -> Ring:
@@ -195,6 +196,8 @@ class FeatureMethods(Methods):
 
         >>> bench.ring(block.top, [(10, 5, 10), (15, 5, 10), (10, 10, 10)])
         Ring(face=7, loop=7, edges=(15, 14, 13), vertices=(9, 11, 10))
+        >>> bench.face(block.top).rings
+        (<loop 7>,)
         """
         number, outline = self._number('face', face), self._kernel.lengths.points('points', points)
         vertices = (WORD * len(outline))()
@@ -256,8 +259,8 @@ class FeatureMethods(Methods):
         or with a depth come through it.
 
         >>> hole = bench.drill(block.top, (20, 10, 10), diameter=6, circle='flats')
-        >>> len(hole.sides), round(hole.reach[0], 3)
-        (20, 3.0)
+        >>> len(hole.sides), round(hole.reach[0], 3), bench.count(block).rings
+        (20, 3.0, 2)
         """
         number, lengths = self._number('face', face), self._kernel.lengths
         middle = lengths.point('center', center)
@@ -278,7 +281,7 @@ class FeatureMethods(Methods):
         across = FacePart(self._kernel, face).normal
         axis = next((place for place, part in enumerate(across) if part), 0)
         if [part != 0 for part in across].count(True) != 1:
-            raise Impossible('NotAcross', face, f"face {face} doesn't lie across an axis")
+            raise Impossible('NotAcross', face, with_value(MISFITS['NotAcross'], face))
         corners = [dict(zip(((axis + 1) % 3, (axis + 2) % 3), corner)) for corner in circle.corners(self._kernel.lines)]
         return [(center[0] + at.get(0, 0), center[1] + at.get(1, 0), center[2] + at.get(2, 0)) for at in corners]
 
@@ -439,7 +442,7 @@ def _told(point: Sequence[Exact]) -> str:
     return f'({", ".join(map(str, point))})'
 
 
-def _seenalong_way(axis: int, across: Vector, face: int) -> Tuple[ExactPlace, ExactPlace]:
+def _seen_along(axis: int, across: Vector, face: int) -> Tuple[ExactPlace, ExactPlace]:
     """The vectors in a face that are 1 long along the two other axes as one looks against this one. Not possible: NotInPlane."""
     if across[axis] == 0:
         raise Impossible('NotInPlane', face, f"face {face} isn't seen along {'xyz'[axis]}, which lies in its plane")

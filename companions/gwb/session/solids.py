@@ -145,6 +145,8 @@ class SolidMethods(Methods):
 
         >>> bench.pattern(block, 3, (50, 0, 0))[-1].solid
         3
+        >>> bench.bounding_box(3).low
+        (100, 0, 0)
         """
         number, many, way = self._number('solid', solid), arguments.positive('count', count), self._kernel.lengths.vector('step', step)
         if many < 2:
@@ -260,6 +262,8 @@ class SolidMethods(Methods):
         >>> _ = bench.block((50, 0, 0), (1, 1, 1), solid=9)
         >>> bench.renumber().solids
         {1: 1, 9: 2}
+        >>> bench.solids()
+        <solids 1, 2>
         """
         with Block(self._kernel, False):
             self._kernel.give('renumber')
@@ -379,6 +383,8 @@ class SolidMethods(Methods):
         >>> _ = bench.union([block, other])
         >>> bench.separate(block)
         (1, 2)
+        >>> bench.solids()
+        <solids 1, 2>
         """
         number = self._number('solid', solid)
         with Block(self._kernel, False):
