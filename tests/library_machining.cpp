@@ -1,6 +1,6 @@
 // Tries gwb_features.hpp: random parts beside models of unit cubes, refusals, drafts and marks. The last line counts.
 //
-//     library_machining [TIMES]     so many random parts: 50 where none is said
+//     library_machining [TIMES]     so many random parts: 100 where none is said
 #include "gwb_features.hpp"
 #include <cmath>
 #include <iostream>
@@ -70,7 +70,7 @@ struct Rectangle {
 
 class Cubes {
 public:
-    std::map<std::string, int> told; // of features by tools
+    std::map<std::string, int> told;
 
     explicit Cubes(std::uint32_t seed) : state_(seed)
     {
@@ -131,20 +131,21 @@ private:
     bool made(Face face, const Rectangle &rectangle, std::int64_t depth)
     {
         const bool is_inside = are(rectangle.layers(1, 1, 1), true) && are(rectangle.layers(0, 0, 1), false);
-        switch (random(13)) {
+        const std::size_t kind = random(16);
+        switch (kind % 13) { // (pockets, bosses and holes twice as often)
         case 5: return made_cut();
         case 6: return made_trim();
         case 7: return made_union();
         case 0: {
-            const bool is_made = static_cast<bool>(pocket(attempt_, face, rectangle.outline(), depth));
-            check(is_made || !is_inside || !are(rectangle.layers(1, depth + 1, 1), true) || !lies_in(face, rectangle), "there is room for a pocket");
+            const bool has_room = is_inside && are(rectangle.layers(1, depth + 1, 1), true) && lies_in(face, rectangle);
+            const bool is_made = is_as_room("a pocket", static_cast<bool>(pocket(attempt_, face, rectangle.outline(), depth)), has_room);
             if (is_made)
                 put(rectangle.layers(1, depth), false, "a pocket");
             return is_made;
         }
         case 1: {
-            const bool is_made = static_cast<bool>(boss(attempt_, face, rectangle.outline(), depth));
-            check(is_made || !is_inside || !are(rectangle.layers(-depth, 0, 1), false) || !lies_in(face, rectangle), "there is room for a boss");
+            const bool has_room = is_inside && are(rectangle.layers(-depth, 0, 1), false) && lies_in(face, rectangle);
+            const bool is_made = is_as_room("a boss", static_cast<bool>(boss(attempt_, face, rectangle.outline(), depth)), has_room);
             if (is_made)
                 put(rectangle.layers(1 - depth, 0), true, "a boss");
             return is_made;
@@ -153,6 +154,13 @@ private:
         case 3: return made_shoulder(face, rectangle, depth);
         default: return made_by_tool(face, rectangle, depth);
         }
+    }
+
+    bool is_as_room(const std::string &what, bool is_made, bool has_room)
+    {
+        check(is_made == has_room, what + " where there is room");
+        told[is_made ? "room" : "no room"]++;
+        return is_made;
     }
 
     // ---- tools
@@ -301,10 +309,11 @@ private:
 
     bool made_hole(Face face, const Rectangle &rectangle)
     {
-        const bool is_made = static_cast<bool>(hole(attempt_, face, rectangle.outline()));
-        std::int64_t last = 1;
-        while (are(rectangle.layers(last + 1, last + 1), true))
+        std::int64_t last = 0;
+        while (are(rectangle.layers(last + 1, last + 1, 1), true))
             last++;
+        const bool has_room = last > 0 && are(rectangle.layers(0, 0, 1), false) && are(rectangle.layers(last + 1, last + 1, 1), false) && lies_in(face, rectangle);
+        const bool is_made = is_as_room("a hole", static_cast<bool>(hole(attempt_, face, rectangle.outline())), has_room);
         if (is_made)
             put(rectangle.layers(1, last), false, "a hole");
         return is_made;
@@ -387,12 +396,12 @@ static void try_cubes(std::uint32_t times)
         for (const auto &[name, count] : cubes.told)
             told[name] += count;
     }
-    std::cout << "tools beside unit cubes:";
+    std::cout << "beside unit cubes:";
     for (const auto &[name, count] : told)
         std::cout << ' ' << name << ' ' << count;
     std::cout << '\n';
-    for (const std::string name : {"ok", "Meets", "OutlineOutside"})
-        check(times < 50 || told[name] >= 20, "what is told of tools is told often: " + name);
+    for (const std::string name : {"ok", "Meets", "OutlineOutside", "room", "no room"})
+        check(times < 50 || told[name] >= 20, "what is told is told often: " + name);
 }
 
 // ---- what becomes one, refusals and drafts
@@ -698,7 +707,7 @@ static void try_far()
 
 int main(int count, char **words)
 {
-    const std::uint32_t times = count > 1 ? static_cast<std::uint32_t>(std::stoul(words[1])) : 50;
+    const std::uint32_t times = count > 1 ? static_cast<std::uint32_t>(std::stoul(words[1])) : 100;
     try {
         try_cubes(times);
         try_merged();
