@@ -1,5 +1,6 @@
 """DXF: drawings, sections and faces, read back by their codes."""
 
+import io
 import math
 import unittest
 from collections import Counter
@@ -110,6 +111,25 @@ class Outlines(unittest.TestCase):
         points[6] = (4, 4, 5)
         with self.assertRaisesRegex(Unfit, "face 2 isn't flat"):
             face_dxf(model_in(listing(points, faces)), 2, Said())
+
+
+class ByEzdxf(unittest.TestCase):
+    """What ezdxf reads."""
+
+    def test_it_finds_no_error_and_the_same_outlines(self):
+        try:
+            import ezdxf
+        except ImportError:
+            raise unittest.SkipTest('needs ezdxf, which is not installed') from None
+        model, looks = model_in(TWO), Said({('solid', 1): Appearance('Deckel \u00fc.1')}, Fraction(1, 3))
+        for text in (drawing_dxf(model, (2, -3, 2)), section_dxf(model, (0, 0, 2, -1), looks), section_dxf(model, (1, 1, 1, -4), looks), face_dxf(model, 3, looks)):
+            read = ezdxf.read(io.StringIO(text))
+            self.assertEqual(read.audit().errors, [])
+            found = [(line.dxf.layer, [(x, y) for x, y, _ in line.points()]) for line in read.modelspace().query('POLYLINE')]
+            self.assertEqual(found, outlines(text))
+            self.assertTrue(all(line.is_closed for line in read.modelspace().query('POLYLINE')))
+            self.assertEqual(len(read.modelspace().query('LINE')), sum(kind == 'LINE' for kind, _ in entities(text)))
+            self.assertLessEqual(set(layers(text)), {layer.dxf.name for layer in read.layers})
 
 
 class Program(InFiles):

@@ -802,6 +802,8 @@ class Lists(PageCase):
         self.assertFalse(self.shown(phone, '#steps'))
         phone.tap(*phone.middle('#steps-button'))
         self.assertTrue(phone.until('document.getElementById("steps").offsetWidth > 0'))
+        below = 'Math.min(...Object.values(View.model.vertices).map(point => View.place(point)[1])) - document.getElementById("steps").getBoundingClientRect().bottom'
+        self.assertGreater(phone.value(below), 0)
         inside = phone.until('(([row, list]) => row.top >= list.top && row.bottom <= list.bottom + 1)'
                              '(["#steps .now", "#steps"].map(one => document.querySelector(one).getBoundingClientRect()))')
         self.assertTrue(inside)

@@ -52,7 +52,7 @@ _OWN = [
     Usage(['explain'], 'what the last complaint means, and what would do'),
     Usage(['explain', 'REFUSAL'], 'what a refusal means, by its name or number'),
     Usage(['quit'], 'the end; so are exit and Ctrl-D'),
-    Usage(['exit'], 'the same'),
+    Usage(['exit'], 'the end, as quit'),
 ]
 
 

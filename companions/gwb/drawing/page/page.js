@@ -364,6 +364,10 @@ const View = (() => {
     app.solids = [...new Set(Object.values(app.model.faces).map(row => row[0]))].sort((a, b) => a - b);
     isSceneStale = false;
     whole = Picture.sceneOf(app.model, ball, state.off, shifts());
+    if (state.apart) {
+      spots = whole.spots;
+      refit();
+    }
     if (state.picked && !isThere(state.picked)) state.picked = null;
     if (state.measured) state.measured = state.measured.filter(isThere);
     state.lit = Picture.wantedIn(state.wanted, app.model);
@@ -562,8 +566,8 @@ const View = (() => {
   // How the model fits into the room beside the panels, seen from somewhere.
   function fitFrom(looking) {
     const isNarrow = view.width <= 760, list = isNarrow ? 0 : Math.max(...['list', 'steps'].map(name => at(name).hidden ? 0 : at(name).offsetWidth + 14));
-    const top = document.querySelector('header').offsetHeight + 8, cut = at('cut').offsetHeight;
-    const info = isNarrow && view.height > 420 ? at('info').offsetHeight : 0;
+    const [lists, info] = ['left', 'info'].map(name => isNarrow && view.height > 420 ? at(name).offsetHeight : 0);
+    const top = document.querySelector('header').offsetHeight + 8 + lists, cut = at('cut').offsetHeight;
     const bottom = document.querySelector('footer').offsetHeight + 12 + (cut ? cut + 30 : 0) + info;
     const [wide, high] = Picture.extent(spots, {...view, ...looking});
     const zoom = .5 * Math.max(20, Math.min((view.width - list - 60) / wide, (view.height - top - bottom - 50) / high));

@@ -184,6 +184,7 @@ const Panels = (() => {
       at('facts').hidden = !at('facts').hidden;
       at('info-fold').textContent = at('facts').hidden ? 'unfold' : 'fold';
       at('info-fold').setAttribute('aria-expanded', !at('facts').hidden);
+      app.refit();
     };
   }
 
