@@ -56,11 +56,51 @@ Part part_near(const Bench &bench, const Surface &surface, Solid solid, const Bo
 
 // ---- what is made
 
+Box common_to(const Box &one, const Box &other)
+{
+    Box found = one;
+    for (std::size_t axis = 0; axis < 3; axis++) {
+        found.low[axis] = std::max(one.low[axis], other.low[axis]);
+        found.high[axis] = std::min(one.high[axis], other.high[axis]);
+    }
+    return found;
+}
+
+/// Around all points of a solid.
+Box box_around(const Model &solid)
+{
+    Box found = box_of(solid.vertices.begin()->second);
+    for (const auto &[vertex, point] : solid.vertices)
+        found.take(box_of(point));
+    return found;
+}
+
+/// Where what is made may meet itself anew, within a box: where two of the solids may lie at once; all of it where what is added is of no solid.
+std::optional<Box> shared_by(const std::vector<Sheet> &part, const std::vector<Model> &others, const Box &box)
+{
+    if (others.empty())
+        return box;
+    std::vector<Box> boxes;
+    if (!part.empty())
+        boxes.push_back(box_of(part));
+    for (const Model &other : others)
+        boxes.push_back(box_around(other));
+    std::optional<Box> found;
+    for (auto one = boxes.begin(); one != boxes.end(); ++one)
+        for (auto other = one + 1; other != boxes.end(); ++other)
+            if (one->meets(*other)) {
+                const Box both = common_to(*one, *other);
+                found = found.value_or(both);
+                found->take(both);
+            }
+    return found;
+}
+
 /// A part of a solid with what is laid on its faces, which may be the faces of other solids. Not possible: NothingLeft; what `lay` says; what the
 /// caller says where what comes of them meets or touches itself near a box as nothing did before.
 Combined combined(const Bench &bench, const Model &part, const Box &box, const std::vector<Model> &others, AllNames &names, const Failure &why, const Lay &lay)
 {
-    const std::vector<Sheet> regions = lay(sheets_of(part));
+    const std::vector<Sheet> sheets = sheets_of(part), regions = lay(sheets);
     if (regions.empty() && all(bench.faces(part.solid), [&](Face face) { return part.faces.count(face) != 0; }))
         throw impossible(Misfit::nothing_left, part.solid.number());
     Model all = part;
@@ -71,7 +111,8 @@ Combined combined(const Bench &bench, const Model &part, const Box &box, const s
     }
     const Held held(bench, std::move(all));
     Combined found = assembled(held, regions, names, part.solid, why);
-    require(!touch_anew(before, {&found.model}, box), why);
+    const std::optional<Box> shared = shared_by(sheets, others, box);
+    require(!shared || !touch_anew(before, {&found.model}, *shared), why);
     return found;
 }
 

@@ -27,23 +27,35 @@ void BoxIndex::take_away(const Box &box, std::size_t number)
     held.erase(std::find_if(held.begin(), held.end(), [&](const auto &entry) { return entry.second == number; }));
 }
 
+/// Where a cell, which isn't beyond the last one along x, lies outside a range: the first that may lie within after it.
+static std::optional<Vector> later_cell(const Vector &at, const Vector &first, const Vector &last)
+{
+    if (at[1] < first[1])
+        return Vector{at[0], first[1], first[2]};
+    if (at[1] > last[1])
+        return Vector{at[0] + 1, first[1], first[2]};
+    if (at[2] < first[2])
+        return Vector{at[0], at[1], first[2]};
+    if (at[2] > last[2])
+        return Vector{at[0], at[1] + 1, first[2]};
+    return std::nullopt;
+}
+
 std::vector<std::size_t> BoxIndex::meeting(const Box &box) const
 {
     std::vector<std::size_t> found;
-    const auto take = [&](Grid::const_iterator at, Grid::const_iterator end) {
-        for (; at != end; ++at)
+    for (const auto &[size, grid] : grids_) {
+        const Vector first = subtract(cell(box.low, size), {1, 1, 1}), last = cell(box.high, size);
+        for (auto at = grid.lower_bound(first); at != grid.end() && at->first[0] <= last[0];) {
+            if (const std::optional<Vector> later = later_cell(at->first, first, last)) {
+                at = grid.lower_bound(*later);
+                continue;
+            }
             for (const auto &[other, number] : at->second)
                 if (other.meets(box))
                     found.push_back(number);
-    };
-    for (const auto &[size, grid] : grids_) {
-        const Vector first = subtract(cell(box.low, size), {1, 1, 1}), last = cell(box.high, size);
-        if ((last[0] - first[0] + 1) * (last[1] - first[1] + 1) > static_cast<Wide>(grid.size()))
-            take(grid.begin(), grid.end());
-        else
-            for (Wide x = first[0]; x <= last[0]; x++)
-                for (Wide y = first[1]; y <= last[1]; y++)
-                    take(grid.lower_bound({x, y, first[2]}), grid.upper_bound({x, y, last[2]}));
+            ++at;
+        }
     }
     std::sort(found.begin(), found.end());
     return found;

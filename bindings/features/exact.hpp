@@ -182,7 +182,7 @@ public:
     /// A number that was put with this box goes.
     void take_away(const Box &box, std::size_t number);
 
-    /// The numbers of the boxes that meet one, rising. Looked at are the cells beside it; all cells where that are fewer.
+    /// The numbers of the boxes that meet one, rising. Looked at are the cells beside it that hold any.
     [[nodiscard]] std::vector<std::size_t> meeting(const Box &box) const;
 
 private:

@@ -46,8 +46,8 @@ bool Shape::has_part(const Side &side) const
 {
     Vector up{};
     up[widest(plane.across)] = 1;
-    const auto whole = std::minmax({ScaledPoint{side.start}, ScaledPoint{side.end}});
-    return overlap(cut_by(Plane::through(side.start, cross(up, side.way()))), [&] { return std::vector{Span(whole)}; });
+    const Span whole = std::minmax({ScaledPoint{side.start}, ScaledPoint{side.end}});
+    return !cut_by(Plane::through(side.start, cross(up, side.way())), whole).empty();
 }
 
 Place Shape::hit(const ScaledPoint &start, const Vector &ray) const
@@ -58,7 +58,7 @@ Place Shape::hit(const ScaledPoint &start, const Vector &ray) const
     return locate({add(times(start.at, magnitude(slope)), times(ray, magnitude(below))), start.scale * magnitude(slope)});
 }
 
-std::vector<Shape::Span> Shape::cut_by(const Plane &other) const
+std::vector<Shape::Span> Shape::cut_by(const Plane &other, const std::optional<Span> &part) const
 {
     const std::vector<Side> near = beside(other);
     const auto lies = [&](int where) { return any(near, [&](const Side &side) { return sign(other.height(side.start)) == where; }); };
@@ -66,9 +66,11 @@ std::vector<Shape::Span> Shape::cut_by(const Plane &other) const
         return {};
     const std::vector<ScaledPoint> stops = stops_on(other);
     std::vector<Span> found;
-    for (std::size_t at = 1; at < stops.size(); at++)
-        if (is_within(stops[at - 1], stops[at]))
+    for (std::size_t at = 1; at < stops.size(); at++) {
+        const bool is_wanted = !part || (stops[at - 1] < part->second && part->first < stops[at]);
+        if (is_wanted && is_within(stops[at - 1], stops[at]))
             found.emplace_back(stops[at - 1], stops[at]);
+    }
     return found;
 }
 

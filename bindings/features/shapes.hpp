@@ -67,8 +67,8 @@ public:
     [[nodiscard]] Place hit(const ScaledPoint &start, const Vector &ray) const;
 
     using Span = std::pair<ScaledPoint, ScaledPoint>;
-    /// The parts of a line within, along which a plane runs on both of whose sides it lies.
-    [[nodiscard]] std::vector<Span> cut_by(const Plane &other) const;
+    /// The parts of a line within, along which a plane runs on both of whose sides it lies: those that have some of a part in common, where one is given.
+    [[nodiscard]] std::vector<Span> cut_by(const Plane &other, const std::optional<Span> &part = {}) const;
 
 private:
     /// Its sides, and of runs what tells how they lie to a plane.
@@ -78,15 +78,6 @@ private:
     [[nodiscard]] bool is_within(const ScaledPoint &one, const ScaledPoint &next) const { return one < next && locate(one.between(next)) == Place::inside; }
     /// The first part between stops that lies within.
     [[nodiscard]] std::optional<Span> first_within(const std::vector<ScaledPoint> &stops) const;
-    /// Whether parts of a line have some of it in common with others.
-    template <class Others> static bool overlap(const std::vector<Span> &parts, Others others)
-    {
-        const std::vector<Span> beyond = parts.empty() ? parts : others();
-        return any(parts, [&](const Span &one) {
-            return any(beyond, [&](const Span &two) { return one.first < two.second && two.first < one.second; });
-        });
-    }
-
     Axes axes_;
 };
 
