@@ -167,7 +167,7 @@ if echo '#include <CGAL/version.h>' | "${CXX:-c++}" -E -x c++ - > /dev/null 2>&1
     tried 'Booleans beside Nef polyhedra are built' "${CXX:-c++}" -std=c++17 -O1 -Wall -Wextra -Werror -Wold-style-cast -Wshadow -Ibindings/include \
         -o "$dir/built/library_booleans_nef" tests/library_booleans_nef.cpp "$dir/built/libgwb.a" -lgmp -lmpfr
     counted 'Booleans beside Nef polyhedra' "$dir/built/library_booleans_nef"
-    grep ' operations:' "$dir/log"
+    grep ' operations, ' "$dir/log"
 else
     for name in 'the graph of CGAL' 'Booleans beside Nef polyhedra'; do
         echo "skipped: $name: there is no CGAL"

@@ -1,10 +1,14 @@
-// Tries the Booleans of gwb_features.h beside CGAL's Nef polyhedra, on random solids in chains: blocks, L, U and T shapes, convex prisms, upright and slanted, with
-// holes and pockets, pyramids and tetrahedra, whose planes and edges often coincide; a step takes two solids, or up to seven at once, these in several orders.
-// In some chains tetrahedra of any corners cross each other in a block, so that inner points have scales of up to 180 bits. Of what is made the volume,
-// vertices, edges, faces, rings, shells and each point are compared; of what isn't whether it would be off the lattice, with which least factor, touch itself,
-// or be nothing. The last line counts; the one before it counts the outcomes, each of which has to be seen 20 times where no seeds are given.
+// Tries the Booleans of gwb_features.h beside CGAL's Nef polyhedra, on random solids: blocks, L, U and T shapes, convex prisms, upright and slanted, with
+// holes and pockets, pyramids and tetrahedra, whose planes and edges often coincide; an operation takes two solids, or up to seven at once, these in several
+// orders. A seed gives a chain of three to ten operations, or a tree. For some, tetrahedra of any corners cross each other in a block, so that inner points
+// have scales of up to 180 bits; for some, faces of three solids or more cross in one point or line, once more times the factor where that is told. Of what
+// is made the volume, vertices, edges, faces, rings, shells and each point are compared; of what isn't whether it would be off the lattice, with which least
+// factor, touch itself, or be nothing. The last line counts; the one before it counts the outcomes, each of which has to be seen 20 times where no seeds are
+// given, and those before it operations without their orders.
 //
-//     library_booleans_nef [FIRST COUNT]     so many chains of three operations from this seed on: 170 from 1 on where none are given
+//     library_booleans_nef [FIRST COUNT]     so many seeds from this one on: 170 from 1 on where none are given
+//     library_booleans_nef --volume          six times the volume of what standard input tells: `solid V F` with lines of points and of faces, each after how many
+//                                            corners it has, and `union N`, `difference N`, `intersection N` of the N solids before it, in the place of these
 extern "C" {
 #include "gwb.h"
 #include "gwb_features.h"
@@ -376,9 +380,16 @@ static gwb_kind combined(gwb *g, Operation operation, const std::vector<std::uin
     }
 }
 
+// How often each outcome was seen.
+struct Counts {
+    std::map<std::string, int> operations = {}, calls = {}; ///< calls: with the other orders of several solids
+    int in_point = 0;
+};
+
+// What one seed gives.
 class Chain {
 public:
-    Chain(std::uint64_t seed, std::map<std::string, int> &outcomes) : seed_(seed), random_(seed), outcomes_(outcomes)
+    Chain(std::uint64_t seed, Counts &counts) : seed_(seed), random_(seed), counts_(counts)
     {
         if (!gwb_open(&g_))
             std::abort();
@@ -389,14 +400,17 @@ public:
 
     void run()
     {
-        if (seed_ % 10 == 0)
-            cross_in_block();
-        else
-            cross_in_turn();
+        switch (seed_ % 10) {
+        case 0: return cross_in_block();
+        case 3: return cross_in_tree();
+        case 6:
+        case 9: return cross_in_point();
+        default: return cross_in_turn();
+        }
     }
 
 private:
-    void cross_in_turn()
+    Maker maker()
     {
         constexpr std::array<std::int64_t, 8> factors = {1, 1, 2, 12, 60, 2'520, 27'720, 10'000'000};
         const std::int64_t n = random_.to(2, 6), factor = factors[static_cast<std::size_t>(random_.to(0, 7))];
@@ -404,17 +418,83 @@ private:
         if (random_.one_in(3))
             for (std::int64_t &part : base)
                 part = random_.to(-100'000'000, 100'000'000);
-        Maker maker(&g_, random_, n, factor, base);
+        return {&g_, random_, n, factor, base};
+    }
+    Operation operation() { return static_cast<Operation>(random_.to(0, 2)); }
+
+    void cross_in_turn()
+    {
+        Maker maker = this->maker();
         maker.make(1);
-        held_ = nef_of(&g_, 1);
-        for (int step = 0; step < 3; step++) {
+        for (std::int64_t steps = random_.one_in(4) ? random_.to(4, 10) : 3; steps > 0; steps--) {
             solids_ = {1};
             for (std::int64_t more = random_.one_in(3) ? random_.to(2, 6) : 1; more > 0; more--) {
                 solids_.push_back(solids_.back() + 1);
                 maker.make(solids_.back());
             }
-            take(static_cast<Operation>(random_.to(0, 2)));
+            take(operation());
+            leave(1);
         }
+    }
+
+    // Two, three or four pairs or threes, and then what has become of them.
+    void cross_in_tree()
+    {
+        Maker maker = this->maker();
+        std::vector<std::uint32_t> roots;
+        const std::int64_t branches = random_.to(2, 4);
+        for (std::uint32_t solid = 1; roots.size() < static_cast<std::size_t>(branches);) {
+            roots.push_back(solid);
+            solids_.clear();
+            for (std::int64_t more = random_.to(2, 3); more > 0; more--) {
+                solids_.push_back(solid);
+                maker.make(solid++);
+            }
+            take(operation());
+            leave(1);
+        }
+        solids_ = roots;
+        take(operation());
+    }
+
+    // Tetrahedra that all have a face with the middle inside it, or with a part of one line, so that their planes cross there; in some a block with a corner or an
+    // edge there. What is off the lattice is tried again times the factor.
+    void cross_in_point()
+    {
+        in_point_ = true;
+        for (int step = 0; step < 3; step++) {
+            solids_.clear();
+            const bool in_line = random_.one_in(2);
+            const std::int64_t half = random_.to(1, 6);
+            if (random_.one_in(2)) {
+                solids_.push_back(1);
+                check(gwb_block(&g_, 1, 0, 0, in_line ? -half : 0, random_.to(1, 9), random_.to(1, 9), half + random_.to(1, 9)) == GWB_OK, "a block");
+            }
+            for (std::int64_t more = random_.to(3, 4); more > 0; more--) {
+                solids_.push_back(static_cast<std::uint32_t>(solids_.size() + 1));
+                while (!tetrahedron(solids_.back(), in_line ? on_line(half) : round_middle()))
+                    continue;
+            }
+            const Operation which = operation();
+            const std::uint32_t factor = take(which);
+            gwb_refusal why{};
+            if (factor > 1 && factor < 50'000'000 && gwb_scale(&g_, factor, &why) == GWB_OK)
+                take(which);
+            leave(0);
+        }
+    }
+
+    std::int64_t near() { return random_.to(-6, 6); }
+    std::array<gwb_point, 4> round_middle()
+    {
+        const gwb_point a = {near(), near(), near()}, b = {near(), near(), near()};
+        return {a, b, {-a.x - b.x, -a.y - b.y, -a.z - b.z}, {near(), near(), near()}};
+    }
+    std::array<gwb_point, 4> on_line(std::int64_t half)
+    {
+        const std::int64_t x = near(), y = near(), once = random_.to(1, 2), twice = random_.to(1, 2);
+        return {gwb_point{once * x, once * y, random_.to(-3 * half, half)}, {-twice * x, -twice * y, -half - random_.to(0, 4)}, {-x, -y, half + random_.to(0, 4)},
+                {near(), near(), near()}};
     }
 
     // Tetrahedra of any corners, three to five of them, and a block, in which all or parts of them lie.
@@ -422,25 +502,22 @@ private:
     {
         for (int step = 0; step < 3; step++) {
             const std::int64_t size = random_.to(500'000'000, 1'100'000'000);
-            gwb_refusal why{};
+            const auto any = [&] { return random_.to(-500'000'000, 500'000'000); };
             solids_ = {1};
             check(gwb_block(&g_, 1, -size / 2, -size / 2, -size / 2, size, size, size) == GWB_OK, "a block");
             for (std::int64_t more = random_.to(2, 5); more > 0; more--) {
                 solids_.push_back(solids_.back() + 1);
-                while (!tetrahedron(solids_.back()))
+                const auto corner = [&] { return gwb_point{any(), any(), any()}; };
+                while (!tetrahedron(solids_.back(), {corner(), corner(), corner(), corner()}))
                     continue;
             }
-            held_ = nef_of(&g_, 1);
-            take(static_cast<Operation>(random_.to(0, 2)));
-            gwb_kill_solid(&g_, 1, &why);
+            take(operation());
+            leave(0);
         }
     }
 
-    bool tetrahedron(std::uint32_t solid)
+    bool tetrahedron(std::uint32_t solid, const std::array<gwb_point, 4> &points)
     {
-        std::array<gwb_point, 4> points{};
-        for (gwb_point &point : points)
-            point = {random_.to(-500'000'000, 500'000'000), random_.to(-500'000'000, 500'000'000), random_.to(-500'000'000, 500'000'000)};
         const std::array<std::uint32_t, 12> corners = {0, 1, 2, 0, 3, 1, 1, 3, 2, 2, 3, 0};
         const std::array<std::uint32_t, 4> sizes = {3, 3, 3, 3};
         gwb_polyhedron_made made;
@@ -449,30 +526,41 @@ private:
         if (gwb_polyhedron(&g_, solid, points.data(), 4, corners.data(), sizes.data(), 4, &made, &why) != GWB_OK)
             return false;
         gwb_read_volume(&g_, solid, &six, &why);
-        if (six.high >= 0)
+        if (six.high >= 0 && (six.high != 0 || six.low != 0))
             return true;
-        gwb_kill_solid(&g_, solid, &why); // inside out
+        gwb_kill_solid(&g_, solid, &why); // inside out or flat
         return false;
     }
 
-    void take(Operation operation)
+    // The operation, in other orders first; what is made is undone and redone. The factor by which all would have to be scaled: 0 where it isn't that.
+    std::uint32_t take(Operation operation)
     {
         const std::string before = listing(&g_);
-        std::vector<Nef> nefs = {held_};
-        for (std::size_t at = 1; at < solids_.size(); at++)
-            nefs.push_back(nef_of(&g_, solids_[at]));
+        std::vector<Nef> nefs;
+        for (std::uint32_t solid : solids_)
+            nefs.push_back(nefs_.count(solid) != 0 ? nefs_.at(solid) : nef_of(&g_, solid));
         const Nef made = combined(nefs, operation);
         const Told wanted = told(made);
         if (solids_.size() > 2)
             take_in_other_orders(operation, made, wanted, before);
-        if (called(operation, solids_, made, wanted, before) == GWB_OK) {
-            undo_and_redo(before);
-            held_ = made;
-            return;
-        }
+        const Answer answer = called(operation, solids_, made, wanted, before);
+        counts_.operations[answer.name]++;
+        counts_.in_point += in_point_ ? 1 : 0;
+        if (answer.kind != GWB_OK)
+            return answer.why.number == GWB_MISFIT_OFF_LATTICE ? answer.why.value : 0;
+        undo_and_redo(before);
+        nefs_[solids_[0]] = made;
+        return 0;
+    }
+
+    // Kills the solids of the operation, from a place on, that are still there.
+    void leave(std::size_t from)
+    {
         gwb_refusal why{};
-        for (std::size_t at = 1; at < solids_.size(); at++)
+        for (std::size_t at = from; at < solids_.size(); at++) {
             gwb_kill_solid(&g_, solids_[at], &why);
+            nefs_.erase(solids_[at]);
+        }
     }
 
     // All orders of three, some of more: what is subtracted from stays the first.
@@ -485,23 +573,28 @@ private:
                 std::shuffle(first, order.end(), random_.engine());
             else if (!std::next_permutation(first, order.end()))
                 return;
-            if (called(operation, order, made, wanted, before) == GWB_OK)
+            if (called(operation, order, made, wanted, before).kind == GWB_OK)
                 gwb_undo(&g_);
             check(listing(&g_) == before, "it is as it was");
         }
     }
 
-    gwb_kind called(Operation operation, const std::vector<std::uint32_t> &solids, const Nef &made, const Told &wanted, const std::string &before)
-    {
+    struct Answer {
+        gwb_kind kind = GWB_IMPOSSIBLE;
         gwb_refusal why{};
-        const gwb_kind kind = combined(&g_, operation, solids, &why);
-        const std::string name = kind == GWB_OK ? "made" : kind == GWB_IMPOSSIBLE ? gwb_misfit_name(why.number) : gwb_kind_text(kind);
-        outcomes_[solids.size() > 2 ? name + " of several" : name]++;
-        check(is_right(kind, why, made, wanted, solids[0]),
-              "seed " + std::to_string(seed_) + ": " + name + " " + std::to_string(why.value) + " in place of " + text(wanted) + "; of\n" + before);
-        if (kind != GWB_OK)
+        std::string name = {};
+    };
+    Answer called(Operation operation, const std::vector<std::uint32_t> &solids, const Nef &made, const Told &wanted, const std::string &before)
+    {
+        Answer found;
+        found.kind = combined(&g_, operation, solids, &found.why);
+        found.name = found.kind == GWB_OK ? "made" : found.kind == GWB_IMPOSSIBLE ? gwb_misfit_name(found.why.number) : gwb_kind_text(found.kind);
+        counts_.calls[solids.size() > 2 ? found.name + " of several" : found.name]++;
+        check(is_right(found.kind, found.why, made, wanted, solids[0]),
+              "seed " + std::to_string(seed_) + ": " + found.name + " " + std::to_string(found.why.value) + " in place of " + text(wanted) + "; of\n" + before);
+        if (found.kind != GWB_OK)
             check(listing(&g_) == before, "what is refused changes nothing");
-        return kind;
+        return found;
     }
 
     [[nodiscard]] bool is_right(gwb_kind kind, const gwb_refusal &why, const Nef &made, const Told &wanted, std::uint32_t first) const
@@ -530,25 +623,84 @@ private:
 
     std::uint64_t seed_;
     Random random_;
-    std::map<std::string, int> &outcomes_;
+    Counts &counts_;
     gwb g_ = {};
-    Nef held_;
-    std::vector<std::uint32_t> solids_; ///< of one step
+    std::map<std::uint32_t, Nef> nefs_;  ///< of solids that operations have made
+    std::vector<std::uint32_t> solids_; ///< of one operation
+    bool in_point_ = false;
 };
+
+// ---- a tree of solids that is told
+
+static Nef read_solid(std::istream &in)
+{
+    std::size_t points = 0, faces = 0;
+    in >> points >> faces;
+    Mesh mesh;
+    std::vector<Mesh::Vertex_index> vertices;
+    for (; points > 0; points--) {
+        double x = 0, y = 0, z = 0;
+        in >> x >> y >> z;
+        vertices.push_back(mesh.add_vertex({x, y, z}));
+    }
+    for (; faces > 0; faces--) {
+        std::size_t corners = 0, place = 0;
+        std::vector<Mesh::Vertex_index> face;
+        for (in >> corners; corners > 0; corners--) {
+            in >> place;
+            face.push_back(vertices.at(place));
+        }
+        mesh.add_face(face);
+    }
+    return Nef(mesh);
+}
+
+static Exact six_volume_of(std::istream &in)
+{
+    std::vector<Nef> held;
+    for (std::string word; in >> word;) {
+        if (word == "solid") {
+            held.push_back(read_solid(in));
+            continue;
+        }
+        std::size_t count = 0;
+        in >> count;
+        const auto first = held.end() - static_cast<std::ptrdiff_t>(count);
+        const Nef made = combined({first, held.end()}, word == "union" ? Operation::unite : word == "difference" ? Operation::subtract : Operation::intersect);
+        held.erase(first, held.end());
+        held.push_back(made);
+    }
+    return told(held.at(0)).six_volume;
+}
+
+static void print(const std::map<std::string, int> &counts)
+{
+    for (const auto &[name, times] : counts)
+        std::cout << ' ' << name << ' ' << times << ',';
+    std::cout << '\n';
+}
 
 int main(int argc, char **argv)
 {
+    if (argc == 2 && argv[1] == std::string("--volume")) {
+        std::cout << six_volume_of(std::cin) << '\n';
+        return 0;
+    }
     const bool has_seeds = argc == 3;
     const std::uint64_t first = has_seeds ? std::stoull(argv[1]) : 1, count = has_seeds ? std::stoull(argv[2]) : 170;
-    std::map<std::string, int> outcomes;
+    Counts counts;
     for (std::uint64_t seed = first; seed < first + count; seed++)
-        Chain(seed, outcomes).run();
+        Chain(seed, counts).run();
     for (const char *name : {"made", "OffLattice", "Meets", "NothingLeft"})
         for (const char *of : {"", " of several"})
-            check(has_seeds || outcomes[std::string(name) + of] >= 20, std::string(name) + of + " is seen too seldom");
-    std::cout << 3 * count << " operations, those of several solids in up to six orders:";
-    for (const auto &[name, times] : outcomes)
-        std::cout << ' ' << name << ' ' << times << ',';
-    std::cout << '\n' << passed << " passed, " << failed << " failed\n";
+            check(has_seeds || counts.calls[std::string(name) + of] >= 20, std::string(name) + of + " is seen too seldom");
+    int operations = 0;
+    for (const auto &[name, times] : counts.operations)
+        operations += times;
+    std::cout << operations << " operations, " << counts.in_point << " of solids that cross in a point or line:";
+    print(counts.operations);
+    std::cout << "calls, those of several solids in up to six orders:";
+    print(counts.calls);
+    std::cout << passed << " passed, " << failed << " failed\n";
     return failed != 0;
 }

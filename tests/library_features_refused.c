@@ -154,8 +154,14 @@ static enum gwb_kind corner_at(gwb *g, uint32_t solid, int64_t at, int64_t size)
     gwb_polyhedron_made made;
     return gwb_polyhedron(g, solid, points, 4, corners, sizes, 4, &made, &why);
 }
-static const uint32_t crossing[] = {21, 22}, beside[] = {1, 3};
+static const uint32_t crossing[] = {21, 22, 23}, beside[] = {1, 3};
 static enum gwb_kind two_that_cross(gwb *g) { return corner_at(g, 21, 30, 6) == GWB_OK ? corner_at(g, 22, 31, 6) : GWB_NO_CALL; }
+/* (faces of all three cross in (33, 35, 36), a corner of the union) */
+static enum gwb_kind three_that_cross(gwb *g)
+{
+    const bool are_made = gwb_block(g, 21, 30, 30, 30, 6, 6, 6) == GWB_OK && gwb_block(g, 22, 33, 32, 31, 6, 6, 6) == GWB_OK;
+    return are_made ? gwb_block(g, 23, 32, 29, 34, 6, 6, 6) : GWB_NO_CALL;
+}
 static enum gwb_kind two_apart(gwb *g)
 {
     const bool are_made = corner_at(g, 21, 30, 6) == GWB_OK && corner_at(g, 22, 40, 6) == GWB_OK;
@@ -165,6 +171,9 @@ static enum gwb_kind two_glued(gwb *g) { return gwb_glue_all(g, beside, 2, &why)
 static enum gwb_kind unite_crossing(gwb *g) { return gwb_union(g, crossing, 2, &why); }
 static enum gwb_kind subtract(gwb *g) { return gwb_subtract(g, crossing[0], &crossing[1], 1, &why); }
 static enum gwb_kind intersect(gwb *g) { return gwb_intersect(g, crossing, 2, &why); }
+static enum gwb_kind unite_three(gwb *g) { return gwb_union(g, crossing, 3, &why); }
+static enum gwb_kind subtract_two(gwb *g) { return gwb_subtract(g, crossing[0], &crossing[1], 2, &why); }
+static enum gwb_kind intersect_three(gwb *g) { return gwb_intersect(g, crossing, 3, &why); }
 static enum gwb_kind separate(gwb *g) { return gwb_separate(g, crossing[0], &why); }
 static enum gwb_kind join_faces(gwb *g) { return gwb_join_faces(g, beside[0], &why); }
 static enum gwb_kind advice(gwb *g)
@@ -196,6 +205,8 @@ static const struct feature {
     {"glue_all", glue_all, NULL}, {"drill", drill, NULL}, {"find_faces", find_faces, NULL}, {"find_edges", find_edges, NULL}, {"cut", cut, NULL},
     {"trim", trim, NULL}, {"trim by split", trim_by_split, NULL}, {"union", unite, NULL},
     {"union of two that cross", unite_crossing, two_that_cross}, {"subtract", subtract, two_that_cross}, {"intersect", intersect, two_that_cross},
+    {"union of three", unite_three, three_that_cross}, {"subtract two", subtract_two, three_that_cross},
+    {"intersect three", intersect_three, three_that_cross},
     {"separate", separate, two_apart}, {"join_faces", join_faces, two_glued}, {"renumber", renumber, NULL}, {"undo", undo, NULL},
     {"redo", redo, NULL}, {"line", line, NULL}, {"compare", compare, NULL}
 };
