@@ -18,3 +18,4 @@ pub mod OptionLaws
 pub mod PartLaws
 pub mod PlaceLaws
 pub mod SayingLaws
+pub mod QuickLaws

@@ -76,7 +76,7 @@ is_below limit v (c ∷ cs) some e lt all = grind (arith, common_steps, nat_test
 
 -- ---- a line that begins with a digit, and one that doesn't
 
-digits_are : (c : ℕ) (cs : List ℕ) → is_ascii_digit c ≡ true → digits_after (2 ^ 64) 0 (c ∷ cs) ≡ first_by magnitude (c ∷ cs)
+pub digits_are : (c : ℕ) (cs : List ℕ) → is_ascii_digit c ≡ true → digits_after (2 ^ 64) 0 (c ∷ cs) ≡ first_by magnitude (c ∷ cs)
 digits_are c cs digit =
     let no_gap = no_space c digit in
     first_digits (2 ^ 64) 0 (c ∷ cs) (omega arith) ∙ first_longer (small_after (2 ^ 64) 0) c cs no_gap ∙ sym (first_longer magnitude c cs no_gap)

@@ -14,3 +14,4 @@ pub mod Words
 pub mod Ends
 pub mod Lined
 pub mod Spelling
+pub mod Quick

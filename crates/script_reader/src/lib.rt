@@ -19,6 +19,7 @@ mod numbers;
 mod operators;
 mod places;
 mod polygon;
+mod quick;
 mod reading;
 mod streams;
 mod words;

@@ -9,7 +9,7 @@ use super::command::{Fault, Request};
 use super::name::{Name, name_of};
 use super::places::Words;
 use super::reading::arguments;
-use super::words::next_word;
+use super::words::{next_word, past_space};
 
 fn is_comment(word: &[u8]) -> bool
     ensures { result ≡ is_comment word.now }
@@ -56,7 +56,7 @@ pub fn opening_of(line: &[u8]) -> Opening<'_>
         return Opening::Nothing;
     }
     match name_of(word) {
-        Some(name) => Opening::Command(name, Words::of(rest)),
+        Some(name) => Opening::Command(name, Words::of(past_space(rest))),
         None => Opening::BadWord,
     }
 }

@@ -55,7 +55,7 @@ pub fn number_of(line: &[u8]) -> Option<(u32, &[u8])>
 }
 
 /// Below zero, or zero.
-fn negative(value: u64) -> Option<i64>
+pub fn negative(value: u64) -> Option<i64>
     ensures { result ≡ negative value }
 {
     if value > 1 << 63 {

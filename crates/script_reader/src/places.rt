@@ -6,6 +6,7 @@ ghost use Rattle.script_reader.specs.Places.{Agrees, half_of, lone_of, corner_of
 use super::command::Fault;
 use super::numbers::{integer_of, number_of};
 use super::polygon::Corners;
+use super::quick::{quick_corner, quick_half, quick_integer, quick_number};
 use super::words::{at_word, next_word};
 use euler_operators::{Corner, HalfEdge, Point};
 use std::marker::Model;
@@ -125,7 +126,21 @@ impl<'a> Words<'a> {
     }
 
     /// A number.
+    #[inline(never)]
+    #[tactic(auto, using(crate::proofs::QuickLaws::number_told))]
     pub fn number(&mut self) -> Result<u32, Fault>
+        ensures { Takes (next_of BadNumber number_of self.old) result self.new }
+    {
+        if let Some((value, rest)) = quick_number(self.rest) {
+            self.rest = rest;
+            return Ok(value);
+        }
+        self.any_number()
+    }
+
+    /// The same, at any line.
+    #[inline(never)]
+    fn any_number(&mut self) -> Result<u32, Fault>
         ensures { Takes (next_of BadNumber number_of self.old) result self.new }
     {
         let Some(line) = at_word(self.rest) else {
@@ -139,7 +154,20 @@ impl<'a> Words<'a> {
     }
 
     /// A coordinate, a size or a coefficient.
+    #[inline(never)]
     pub fn integer(&mut self) -> Result<i64, Fault>
+        ensures { Takes (next_of BadNumber integer_of self.old) result self.new }
+    {
+        if let Some((value, rest)) = quick_integer(self.rest) {
+            self.rest = rest;
+            return Ok(value);
+        }
+        self.any_integer()
+    }
+
+    /// The same, at any line.
+    #[inline(never)]
+    fn any_integer(&mut self) -> Result<i64, Fault>
         ensures { Takes (next_of BadNumber integer_of self.old) result self.new }
     {
         let Some(line) = at_word(self.rest) else {
@@ -153,7 +181,20 @@ impl<'a> Words<'a> {
     }
 
     /// A half-edge.
+    #[inline(never)]
     pub fn half(&mut self) -> Result<HalfEdge, Fault>
+        ensures { Takes (next_of BadNumber half_of self.old) result self.new }
+    {
+        if let Some((value, rest)) = quick_half(self.rest) {
+            self.rest = rest;
+            return Ok(value);
+        }
+        self.any_half()
+    }
+
+    /// The same, at any line.
+    #[inline(never)]
+    fn any_half(&mut self) -> Result<HalfEdge, Fault>
         ensures { Takes (next_of BadNumber half_of self.old) result self.new }
     {
         let Some(line) = at_word(self.rest) else {
@@ -167,7 +208,20 @@ impl<'a> Words<'a> {
     }
 
     /// A corner.
+    #[inline(never)]
     pub fn corner(&mut self) -> Result<Corner, Fault>
+        ensures { Takes (next_of BadNumber corner_of self.old) result self.new }
+    {
+        if let Some((value, rest)) = quick_corner(self.rest) {
+            self.rest = rest;
+            return Ok(value);
+        }
+        self.any_corner()
+    }
+
+    /// The same, at any line.
+    #[inline(never)]
+    fn any_corner(&mut self) -> Result<Corner, Fault>
         ensures { Takes (next_of BadNumber corner_of self.old) result self.new }
     {
         let Some(line) = at_word(self.rest) else {

@@ -64,3 +64,13 @@ pub fn next_word(line: &[u8]) -> Option<(&[u8], &[u8])>
 {
     Some(split_word(at_word(line)?))
 }
+
+/// The line without a space at its front.
+pub fn past_space(line: &[u8]) -> &[u8]
+    ensures { words result.now ≡ words line.now }
+{
+    match line {
+        [b' ', rest @ ..] => rest,
+        _ => line,
+    }
+}

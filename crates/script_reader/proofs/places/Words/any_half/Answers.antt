@@ -1,6 +1,6 @@
 use Rattle.script_reader.proofs.Prelude.{sym, ◌∙◌, half_of, BadNumber}
 use Rattle.script_reader.proofs.FirstLaws.{first_said, first_unsaid}
-use Rattle.script_reader.proofs.places.Words.half.Goals as goal
+use Rattle.script_reader.proofs.places.Words.any_half.Goals as goal
 
 pub returns-in_default-half_of : goal.returns-in_default-half_of
 returns-in_default-half_of c = first_unsaid BadNumber half_of c.args.self.now c.in-Some.line.now (sym c.self.view_is ∙ c.in-Some.ensures.0) c.in-Some.ensures.1 c.in-Some.ensures.2 c.in_default-half_of.ensures
