@@ -28,6 +28,18 @@ pub enum Opening<'a> {
     Command(Name, Words<'a>),
 }
 
+/// If a line begins with `kvfs` and a space: the name, and what follows it.
+#[inline(always)]
+#[tactic(auto, using(crate::proofs::NameLaws::begins_kvfs))]
+fn quick_kvfs(line: &[u8]) -> Option<(Name, &[u8])>
+    ensures { MatchOption result ⊤ (λ r. opening_of (words line.now) ≡ opening.Command r.0 (words r.1.now)) }
+{
+    match line {
+        [b'k', b'v', b'f', b's', b' ', rest @ ..] => Some((Name::Kvfs, rest)),
+        _ => None,
+    }
+}
+
 /// If a line begins with the name of an operator that is given often, and a space: the name, known by its letters, and what follows it.
 fn quick_name(line: &[u8]) -> Option<(Name, &[u8])>
     ensures { MatchOption result ⊤ (λ r. opening_of (words line.now) ≡ opening.Command r.0 (words r.1.now)) }
@@ -37,7 +49,7 @@ fn quick_name(line: &[u8]) -> Option<(Name, &[u8])>
         [b'm', b'e', b'f', b' ', rest @ ..] => Some((Name::Mef, rest)),
         [b'k', b'e', b'v', b' ', rest @ ..] => Some((Name::Kev, rest)),
         [b'k', b'e', b'f', b' ', rest @ ..] => Some((Name::Kef, rest)),
-        _ => None,
+        _ => quick_kvfs(line),
     }
 }
 
