@@ -3,6 +3,7 @@
 // beside what the whole model says, pair by pair; and requests for memory refused in turn. The last line counts.
 //
 //     library_births [RUNS]     so many runs of 300 calls: 150 where none is said
+#include "checks.h"
 #include "gwb_features.h"
 #include <cstdio>
 #include <cstdlib>
@@ -14,15 +15,6 @@
 #include <vector>
 
 namespace {
-
-long passed = 0, failed = 0;
-bool check(bool is_so, const char *what)
-{
-    is_so ? passed++ : failed++;
-    if (!is_so && failed < 20)
-        std::printf("%s\n", what);
-    return is_so;
-}
 
 // What is in use, by kinds and numbers, and which thing each is.
 using Key = std::pair<std::uint32_t, std::uint32_t>;
@@ -647,6 +639,5 @@ int main(int count, char **arguments)
     for (const auto &[what, times] : Run::counts)
         std::printf("%s: %ld\n", what.c_str(), times);
     check(runs < 40 || Run::counts.size() == 16, "something never came");
-    std::printf("%ld passed, %ld failed\n", passed, failed);
-    return failed == 0 ? 0 : 1;
+    return counted();
 }

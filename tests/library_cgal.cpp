@@ -1,4 +1,5 @@
 // Tries gwb_cgal.hpp: what CGAL finds of a workbench in place, beside what the workbench measures. The last line counts.
+#include "checks.h"
 #include "gwb_cgal.hpp"
 #include "gwb_features.hpp"
 #include <CGAL/Polygon_mesh_processing/connected_components.h>
@@ -15,15 +16,6 @@
 
 namespace PMP = CGAL::Polygon_mesh_processing;
 using namespace gwb_session;
-
-static int passed = 0, failed = 0;
-
-static void check(bool holds, const std::string &what)
-{
-    (holds ? passed : failed)++;
-    if (!holds)
-        std::cout << what << '\n';
-}
 
 static double volume_of(const Workbench &bench)
 {
@@ -125,6 +117,5 @@ int main()
     (void)hole(wedge, slope.far, {{10, 7, 15}, {14, 7, 15}, {12, 10, 15}});
     try_in_place(wedge, "a wedge", 1);
     try_graph();
-    std::cout << passed << " passed, " << failed << " failed\n";
-    return failed != 0;
+    return counted();
 }

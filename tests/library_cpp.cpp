@@ -1,4 +1,5 @@
 // Tries gwb.hpp: exceptions by name, numbers as types, ranges, drafts and workbenches that move or are closed. The last line counts.
+#include "checks.h"
 #include "gwb.h"
 #include <cstdint>
 // The version that gwb.hpp finds linked, so that it can be another one; that of the library is (gwb_version)().
@@ -14,15 +15,6 @@ static std::uint32_t linked_version = GWB_VERSION;
 #include <unordered_set>
 
 using namespace gwb_session;
-
-static int passed = 0, failed = 0;
-
-static void check(bool holds, const char *what)
-{
-    (holds ? passed : failed)++;
-    if (!holds)
-        std::cout << what << '\n';
-}
 
 // Whether a call throws just this.
 template <class Thrown> static bool throws(const std::function<void()> &call)
@@ -955,6 +947,5 @@ int main()
             check(false, thrown.what());
         }
     }
-    std::cout << passed << " passed, " << failed << " failed\n";
-    return failed == 0 ? 0 : 1;
+    return counted();
 }

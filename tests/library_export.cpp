@@ -1,4 +1,5 @@
 // Tries gwb_export.hpp: each form of file, by the companions in this repository, and what is said where there is none. The last line counts.
+#include "checks.h"
 #include "gwb_export.hpp"
 #include <cstdlib>
 #include <fstream>
@@ -6,15 +7,6 @@
 #include <sstream>
 
 using namespace gwb_session;
-
-static int passed = 0, failed = 0;
-
-static void check(bool holds, const std::string &what)
-{
-    (holds ? passed : failed)++;
-    if (!holds)
-        std::cout << what << '\n';
-}
 
 static std::string text_of(const std::string &path)
 {
@@ -64,6 +56,5 @@ int main()
     for (const char *ending : {"step", "STP", "3mf", "stl", "obj", "off", "glb", "script"})
         std::remove((base + ending).c_str());
     std::remove(folder);
-    std::cout << passed << " passed, " << failed << " failed\n";
-    return failed != 0;
+    return counted();
 }

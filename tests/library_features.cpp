@@ -1,5 +1,6 @@
 // Tries gwb_features.hpp: solids that are killed, copied, moved, turned and mirrored; gwb_triangles.hpp; and listings and scripts that are
 // loaded. The last line counts.
+#include "checks.h"
 #include "gwb_features.hpp"
 #include "gwb_history.hpp"
 #include "gwb_triangles.hpp"
@@ -12,8 +13,6 @@
 #include <set>
 
 using namespace gwb_session;
-
-static int passed = 0, failed = 0;
 
 // ---- memory of this program, of which one request is refused: what the library takes is of the session's heap
 
@@ -28,13 +27,6 @@ __attribute__((noinline)) void *operator new(std::size_t size)
 }
 __attribute__((noinline)) void operator delete(void *block) noexcept { std::free(block); }
 __attribute__((noinline)) void operator delete(void *block, std::size_t) noexcept { std::free(block); }
-
-static void check(bool holds, const std::string &what)
-{
-    (holds ? passed : failed)++;
-    if (!holds)
-        std::cout << what << '\n';
-}
 
 using Corners = std::vector<std::array<std::int64_t, 3>>;
 
@@ -673,6 +665,5 @@ int main()
     } catch (const std::exception &thrown) {
         check(false, thrown.what());
     }
-    std::cout << passed << " passed, " << failed << " failed\n";
-    return failed == 0 ? 0 : 1;
+    return counted();
 }

@@ -1,21 +1,13 @@
 /* Heaps of a session's own (gwb_use_heap, gwb_open_in): a pool for each of two sessions. All blocks of a session lie in its pool and are
  * given back to it, also by calls that come while another heap is used, or from another thread; where a pool is full, memory is refused and
  * the session goes on, and a part is told its first false condition before. The last line is 'N passed, M failed'. */
+#include "checks.h"
 #include "gwb.h"
 #include "gwb_names.h"
 #include <pthread.h>
 #include <stdio.h>
 #include <stdlib.h>
 #include <string.h>
-
-static int passed, failed;
-
-static void check(bool holds, const char *what)
-{
-    holds ? passed++ : failed++;
-    if (!holds)
-        printf("%s\n", what);
-}
 
 /* A heap over that of the C library that counts, and refuses from some request on. */
 struct pool {
@@ -173,6 +165,5 @@ int main(void)
     try_own();
     try_full();
     try_part();
-    printf("%d passed, %d failed\n", passed, failed);
-    return failed != 0;
+    return counted();
 }

@@ -1,4 +1,5 @@
 // Tries gwb_history.hpp: what commands made, removed and split, and values on faces and edges that follow it. The last line counts.
+#include "checks.h"
 #include "gwb_features.hpp"
 #include "gwb_history.hpp"
 #include <array>
@@ -9,15 +10,6 @@
 #include <string>
 
 using namespace gwb_session;
-
-static int passed = 0, failed = 0;
-
-static void check(bool holds, const char *what)
-{
-    (holds ? passed : failed)++;
-    if (!holds)
-        std::cout << what << '\n';
-}
 
 template <class Kind> static std::vector<std::array<std::uint32_t, 2>> told(const std::vector<Change<Kind>> &changes)
 {
@@ -529,6 +521,5 @@ int main()
             check(false, thrown.what());
         }
     }
-    std::cout << passed << " passed, " << failed << " failed\n";
-    return failed == 0 ? 0 : 1;
+    return counted();
 }

@@ -1,6 +1,7 @@
 /* Loads listings (gwb_load) with one thing or another changed in them: what is accepted has just this listing, and what isn't leaves the
  * session as it was. Then each request for memory is refused in turn. Random maps of many handles are loaded too. The last line is 'N passed, M
  * failed'. */
+#include "checks.h"
 #include "gwb.h"
 #include <stdio.h>
 #include <stdlib.h>
@@ -8,15 +9,7 @@
 
 enum { ROOM = 1 << 16 };
 
-static int passed, failed;
 static long changes = 4000;
-
-static void check(bool holds, const char *what)
-{
-    holds ? passed++ : failed++;
-    if (!holds)
-        printf("%s\n", what);
-}
 
 static uint32_t random_below(uint32_t most)
 {
@@ -276,6 +269,5 @@ int main(int count, char **words)
     try_maps();
     for (size_t model = 0; model < sizeof scripts / sizeof *scripts; model++)
         try_model(model);
-    printf("%d passed, %d failed\n", passed, failed);
-    return failed != 0;
+    return counted();
 }

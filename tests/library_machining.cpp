@@ -1,6 +1,7 @@
 // Tries gwb_features.hpp: random parts beside models of unit cubes, refusals, drafts and marks. The last line counts.
 //
 //     library_machining [TIMES]     so many random parts: 100 where none is said
+#include "checks.h"
 #include "gwb_features.hpp"
 #include <cmath>
 #include <iostream>
@@ -8,15 +9,6 @@
 #include <set>
 
 using namespace gwb_session;
-
-static int passed = 0, failed = 0;
-
-static void check(bool holds, const std::string &what)
-{
-    (holds ? passed : failed)++;
-    if (!holds)
-        std::cout << what << '\n';
-}
 
 static bool are_same(Point a, Point b) { return a.x == b.x && a.y == b.y && a.z == b.z; }
 
@@ -723,6 +715,5 @@ int main(int count, char **words)
         std::cout << error.what() << '\n';
         failed++;
     }
-    std::cout << passed << " passed, " << failed << " failed\n";
-    return failed != 0;
+    return counted();
 }

@@ -2,6 +2,7 @@
 // it gives in a session that knows nothing of the part. Undone, redone, in drafts. The last line counts; those before it what was tried.
 //
 //     library_near [TIMES]     so many features: 600 where none is said
+#include "checks.h"
 #include "gwb_features.hpp"
 #include <algorithm>
 #include <iostream>
@@ -11,15 +12,7 @@
 
 using namespace gwb_session;
 
-static int passed = 0, failed = 0;
 static std::map<std::string, int> outcomes;
-
-static void check(bool holds, const std::string &what)
-{
-    (holds ? passed : failed)++;
-    if (!holds)
-        std::cout << what << '\n';
-}
 
 // Six times the volume, the vertices, edges, faces and rings of a solid.
 using Measures = std::array<std::int64_t, 5>;
@@ -259,6 +252,5 @@ int main(int argc, char **argv)
     if (argc <= 1)
         for (const char *name : names)
             check(outcomes[std::string(name) + " made"] >= 5, std::string(name) + " is made too seldom");
-    std::cout << passed << " passed, " << failed << " failed\n";
-    return failed != 0;
+    return counted();
 }

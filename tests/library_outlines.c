@@ -3,6 +3,7 @@
  * is. A number that no thing can have is NumberRange, whatever it is of. The last line counts.
  *
  *     library_outlines [ROUNDS]     so many hundreds of random outlines: 30 where none is said */
+#include "checks.h"
 #include "gwb_features.h"
 #include "gwb_names.h"
 #include <stdio.h>
@@ -16,15 +17,6 @@ static int64_t below(int64_t n)
 {
     seed = seed * UINT64_C(6364136223846793005) + UINT64_C(1442695040888963407);
     return (int64_t)(seed >> 33) % n;
-}
-
-static long passed, failed;
-static void check(bool is_so, const char *what)
-{
-    passed += is_so;
-    failed += !is_so;
-    if (!is_so)
-        printf("%s\n", what);
 }
 
 /* ---- all pairs of sides compared */
@@ -291,6 +283,5 @@ int main(int argc, char **argv)
     try_sizes();
     try_numbers();
     try_spent();
-    printf("%ld passed, %ld failed\n", passed, failed);
-    return failed != 0;
+    return counted();
 }

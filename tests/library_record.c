@@ -2,6 +2,7 @@
  * session, makes the same model, by as many commands; a record for which memory is refused leaves all as it was. The last line counts.
  *
  *     library_record [ROUNDS]     so many sessions: 200 where none is said */
+#include "checks.h"
 #include "gwb.h"
 #include <stdio.h>
 #include <stdlib.h>
@@ -118,16 +119,6 @@ static enum gwb_kind give(gwb *g)
 }
 
 /* ---- what is compared */
-
-static long passed, failed;
-
-static void check(bool is_so, const char *what)
-{
-    passed += is_so;
-    failed += !is_so;
-    if (!is_so)
-        printf("%s\n", what);
-}
 
 static char script[ROOM], listing[ROOM], other_listing[ROOM];
 
@@ -246,6 +237,5 @@ int main(int argc, char **argv)
         check(live == 0, "leaks");
         live = 0;
     }
-    printf("%ld passed, %ld failed\n", passed, failed);
-    return failed != 0;
+    return counted();
 }

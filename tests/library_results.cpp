@@ -1,4 +1,5 @@
 // Tries gwb.hpp in a program without exceptions (-fno-exceptions): a Session, whose calls give Results. The last line counts.
+#include "checks.h"
 #include "gwb_features.hpp"
 #include "gwb_history.hpp"
 #include <cstdio>
@@ -10,15 +11,6 @@
 #endif
 
 using namespace gwb_session;
-
-static int passed = 0, failed = 0;
-
-static void check(bool holds, const char *what)
-{
-    (holds ? passed : failed)++;
-    if (!holds)
-        std::printf("%s\n", what);
-}
 
 // Whether a call ends the program.
 static bool terminates(void (*call)())
@@ -126,6 +118,5 @@ int main()
     try_layers(*session);
     try_features();
     try_ends(std::move(*session));
-    std::printf("%d passed, %d failed\n", passed, failed);
-    return failed == 0 ? 0 : 1;
+    return counted();
 }

@@ -2,6 +2,7 @@
  * triangles of one run as it does, are as long as it together, and meet along whole edges, so that they cover it once. Random loops, most of
  * which cross or touch; stars with rings, spurs and bridges; corridors, combs, spirals and plates with holes; points at the limits of
  * coordinates, in several planes; memory refused at each request. The last line is 'N passed, M failed'. */
+#include "checks.h"
 #include "gwb.h"
 #include <stdio.h>
 #include <stdlib.h>
@@ -10,16 +11,8 @@
 enum { MOST = 40000 };
 typedef __int128 wide;
 
-static int passed, failed;
 static long rounds = 4000, cut_faces, uncut_faces;
 static uint64_t state = 88172645463325252u;
-
-static void check(bool holds, const char *what)
-{
-    holds ? passed++ : failed++;
-    if (!holds)
-        printf("%s\n", what);
-}
 
 static uint64_t random_below(uint64_t most)
 {
@@ -634,6 +627,6 @@ int main(int count, char **words)
     try_pinched();
     try_refused();
     check(cut_faces > 0 && uncut_faces > 0, "faces that can be cut, and others");
-    printf("%ld faces were cut, %ld can't be\n%d passed, %d failed\n", cut_faces, uncut_faces, passed, failed);
-    return failed != 0;
+    printf("%ld faces were cut, %ld can't be\n", cut_faces, uncut_faces);
+    return counted();
 }

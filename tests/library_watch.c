@@ -2,6 +2,7 @@
  * its blocks and refuses requests. The watch decides no answer, and tells each face that is made or gone, or that it lost what was. The last line counts.
  *
  *     library_watch [ROUNDS]     so many sessions: 200 where none is said */
+#include "checks.h"
 #include "gwb.h"
 #include <limits.h>
 #include <stdio.h>
@@ -15,15 +16,6 @@ static uint32_t below(uint32_t n)
 {
     seed = seed * UINT64_C(6364136223846793005) + UINT64_C(1442695040888963407);
     return (uint32_t)(seed >> 33) % n;
-}
-
-static long passed, failed;
-static void check(bool is_so, const char *what)
-{
-    passed += is_so;
-    failed += !is_so;
-    if (!is_so)
-        printf("%s\n", what);
 }
 
 /* ---- a heap whose blocks hold no zeros, and that refuses each request from one on, so many of them */
@@ -392,6 +384,5 @@ int main(int argc, char **argv)
     try_words();
     try_each_request();
     try_random(argc > 1 ? strtol(argv[1], NULL, 10) : 200);
-    printf("%ld passed, %ld failed\n", passed, failed);
-    return failed != 0;
+    return counted();
 }
