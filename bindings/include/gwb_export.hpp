@@ -2,7 +2,7 @@
 /// sought in the folder that the environment variable GWB_COMPANIONS names, else as any program is.
 ///
 ///     export_to(bench, "part.step");                         // or .stp .3mf .stl .obj .off .glb
-///     export_to(bench, "part.stl", "", {1, 1000});           // of a session whose coordinates are 1/1000 mm, as lengths of gwb_lengths.hpp are
+///     export_to(bench, "part.stl", "", Step{1, 1000});           // of a session whose coordinates are 1/1000 mm, as lengths of gwb_lengths.hpp are
 ///     export_to(bench, "part.3mf", "part.script");           // with the names, colours and unit that comments of this file say
 #ifndef GWB_EXPORT_HPP
 #define GWB_EXPORT_HPP
