@@ -8,6 +8,7 @@ import signal
 import sys
 import threading
 import unittest
+import weakref
 from contextvars import copy_context
 from pathlib import Path
 from unittest import mock
@@ -284,6 +285,9 @@ class Interrupted(unittest.TestCase):
         """Whether the line is come to where drafts that nothing refers to any more are ended by the next call, and a session after them. A signal
         comes there."""
         class Signalling(Interrupter):
+            def frame(self, frame, event, _):
+                return self.line if frame.f_code.co_filename in TRACED | {weakref.__file__, weakref.WeakSet.__init__.__code__.co_filename} else None
+
             def line(self, frame, event, _):
                 try:
                     return super().line(frame, event, _)

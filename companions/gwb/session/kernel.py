@@ -4,8 +4,8 @@ import os
 import re
 from fractions import Fraction
 from threading import Condition, RLock
-from typing import Any, Callable, Dict, Iterable, Iterator, List, NamedTuple, Optional, Sequence, Tuple, TypeVar, Union
-from weakref import WeakSet
+from typing import Any, Callable, Dict, Iterable, Iterator, List, NamedTuple, Optional, Sequence, Set, Tuple, TypeVar, Union
+from weakref import ReferenceType, ref
 
 from ..errors import CompanionError, Complaint, InDraft, InGroup, OutOfStep, Refused
 from ..formats.appearance import Appearance, Thing
@@ -53,8 +53,8 @@ class OffLattice(NamedTuple):
     planes: List[Any]
 
 
-# The sessions of this process.
-_KERNELS: 'WeakSet[Kernel]' = WeakSet()
+# The sessions of this process that are there, and some that were.
+_KERNELS: 'Set[ReferenceType[Kernel]]' = set()
 
 
 class Kernel:
@@ -77,7 +77,8 @@ class Kernel:
         self._lengths = Lengths(unit)
         # The commands that were held when the session ended, and the labels.
         self._ended: Optional[Tuple[List[str], Dict[Thing, Appearance]]] = None
-        _KERNELS.add(self)
+        _KERNELS.difference_update([held for held in tuple(_KERNELS) if held() is None])
+        _KERNELS.add(ref(self))
 
     @property
     def lengths(self) -> Lengths:
@@ -349,8 +350,9 @@ class Kernel:
 
 
 def _leave_threads() -> None:
-    for kernel in list(_KERNELS):
-        kernel.leave_threads()
+    for kernel in [held() for held in tuple(_KERNELS)]:
+        if kernel:
+            kernel.leave_threads()
 
 
 os.register_at_fork(after_in_child=_leave_threads)

@@ -99,7 +99,7 @@ class Library:
 
     def __init__(self, path: str) -> None:
         self.handle, self.library = Handle(), load(path)
-        _CLOSING.difference_update([closing for closing in _CLOSING if closing() is None])
+        _CLOSING.difference_update([closing for closing in tuple(_CLOSING) if closing() is None])
         _CLOSING.add(_Closing(self, partial(self.library.close, self.handle)))
         # How often something was undone, redone, or taken back in a draft.
         self._taken_back = 0
