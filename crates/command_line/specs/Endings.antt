@@ -6,7 +6,8 @@ use Rattle.clap.specs.declared.error.Error.{Error}
 use Rattle.clap.specs.declared.error.kind.ErrorKind.{ErrorKind}
 use Rattle.clap.specs.declared.error.kind.ErrorKind.TheVariants as kind
 use Rattle.script_running.specs.Outs.{is_clean}
-use Rattle.script_running.specs.Runs.{Runs}
+use Rattle.script_running.specs.Leaving.{RunsTo}
+use Rattle.script_running.specs.declared.script_judging.calls.Console.{Console}
 use Rattle.script_running.specs.declared.script_judging.judging.Summary.{Summary}
 use Rattle.script_running.specs.declared.running.RunFault.{RunFault}
 use Rattle.script_running.specs.declared.running.RunFault.TheVariants as fault
@@ -84,6 +85,6 @@ abbrev pub ending_of : Result Summary RunFault → Result Summary Trouble
 ending_of (Ok s) = Ok s
 ending_of (Err f) = Err (trouble.Run f)
 
--- the script was run from what the reader gives to what the writer takes
-abbrev pub Answered : Option (List ℕ) → Option (List ℕ) → Option (List ℕ) → Bool → Result Summary Trouble → Type 0
-Answered reader old new stop ended = (ran : Result Summary RunFault) × Runs reader old new stop ran × (ended ≡ ending_of ran)
+-- the script was run from what the reader gives to what the writer takes, and its session is left in the console
+abbrev pub Answered : Option (List ℕ) → Option (List ℕ) → Option (List ℕ) → Bool → Result Summary Trouble → Console → Type 0
+Answered reader old new stop ended console = (ran : Result Summary RunFault) × RunsTo reader old new stop ran console.stage × (ended ≡ ending_of ran)

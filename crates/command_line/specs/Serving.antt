@@ -3,6 +3,8 @@ use Rattle.std.specs.Prelude.{◌≡◌, ℕ, ◌⊎◌, Bool, List, [], Option,
 use Rattle.clap.specs.Words.{Text, matches_of}
 use Rattle.clap.specs.Faults.{fault_of}
 use Rattle.script_running.specs.Reaching.{HandsOn}
+use Rattle.script_running.specs.script_judging.Consoles.{IsNew}
+use Rattle.script_running.specs.declared.script_judging.calls.Console.{Console}
 use Rattle.script_running.specs.declared.script_judging.judging.Summary.{Summary}
 use Rattle.command_line.specs.Words.{command_line, Chosen, IsCaused}
 use Rattle.command_line.specs.Endings.{trouble_of, Answered}
@@ -12,30 +14,30 @@ use Rattle.command_line.specs.declared.words.WordsFault.{WordsFault}
 use Rattle.command_line.specs.declared.ending.Trouble.{Trouble}
 use Rattle.command_line.specs.declared.ending.Trouble.TheVariants as trouble
 
--- what was opened is run; if nothing could be opened, nothing is written
-abbrev pub RunsOpened : {F : Type 0} → (F → Option (List ℕ)) → Option (List ℕ) → Option (List ℕ) → Bool → Result Summary Trouble → Option F → Type 0
-RunsOpened {F} remaining old new stop ended None = (ended ≡ Err trouble.Open) × (new ≡ old)
-RunsOpened {F} remaining old new stop ended (Some script) = Answered (remaining script) old new stop ended
+-- what was opened is run; if nothing could be opened, nothing is written, and the console keeps its new session
+abbrev pub RunsOpened : {F : Type 0} → (F → Option (List ℕ)) → Option (List ℕ) → Option (List ℕ) → Bool → Result Summary Trouble → Console → Option F → Type 0
+RunsOpened {F} remaining old new stop ended console None = (ended ≡ Err trouble.Open) × (new ≡ old) × IsNew console
+RunsOpened {F} remaining old new stop ended console (Some script) = Answered (remaining script) old new stop ended console
 
 -- If no file is named, standard input is run and no file is opened; else the file that opening this name gave is run, and standard input is handed back.
 -- opens name r: opening name may give r; remaining: what is left to read of a file that was opened; has: what standard input has.
-abbrev pub RunsFile : {R O F : Type 0} → R → O → (Text → Option F → Type 0) → (F → Option (List ℕ)) → (has old new : Option (List ℕ)) → Bool → Outcome R O → Option Text → Type 0
-RunsFile {R} {O} {F} input opening opens remaining has old new stop r None = Answered has old new stop r.ended × (r.opening ≡ Some opening)
-RunsFile {R} {O} {F} input opening opens remaining has old new stop r (Some name) = (opened : Option F) × opens name opened × RunsOpened remaining old new stop r.ended opened
+abbrev pub RunsFile : {R O F : Type 0} → R → O → (Text → Option F → Type 0) → (F → Option (List ℕ)) → (has old new : Option (List ℕ)) → Bool → Outcome R O → Console → Option Text → Type 0
+RunsFile {R} {O} {F} input opening opens remaining has old new stop r console None = Answered has old new stop r.ended console × (r.opening ≡ Some opening)
+RunsFile {R} {O} {F} input opening opens remaining has old new stop r console (Some name) = (opened : Option F) × opens name opened × RunsOpened remaining old new stop r.ended console opened
     × (r.input ≡ Some input)
 
--- the words gave no choice, no file is opened, nothing is written, and standard input is handed back
-abbrev pub Refuses : {R O : Type 0} → R → O → List Text → (old new : Option (List ℕ)) → Outcome R O → Type 0
-Refuses {R} {O} input opening words old new r = (fault : WordsFault) × IsCaused command_line words fault × (r.ended ≡ Err (trouble_of fault)) × (r.opening ≡ Some opening)
-    × (r.input ≡ Some input) × (new ≡ old)
+-- the words gave no choice, no file is opened, nothing is written, standard input is handed back, and the console keeps its new session
+abbrev pub Refuses : {R O : Type 0} → R → O → List Text → (old new : Option (List ℕ)) → Outcome R O → Console → Type 0
+Refuses {R} {O} input opening words old new r console = (fault : WordsFault) × IsCaused command_line words fault × (r.ended ≡ Err (trouble_of fault)) × (r.opening ≡ Some opening)
+    × (r.input ≡ Some input) × (new ≡ old) × IsNew console
 
 -- clap has no cause to refuse the words, and the script that they choose is run
-abbrev pub Follows : {R O F : Type 0} → R → O → (Text → Option F → Type 0) → (F → Option (List ℕ)) → (has old new : Option (List ℕ)) → List Text → Outcome R O → Type 0
-Follows {R} {O} {F} input opening opens remaining has old new words r = (c : Choice) × (fault_of command_line words ≡ []) × Chosen (matches_of command_line words) c
-    × RunsFile input opening opens remaining has old new c.stop r (option_map string_bytes c.file)
+abbrev pub Follows : {R O F : Type 0} → R → O → (Text → Option F → Type 0) → (F → Option (List ℕ)) → (has old new : Option (List ℕ)) → List Text → Outcome R O → Console → Type 0
+Follows {R} {O} {F} input opening opens remaining has old new words r console = (c : Choice) × (fault_of command_line words ≡ []) × Chosen (matches_of command_line words) c
+    × RunsFile input opening opens remaining has old new c.stop r console (option_map string_bytes c.file)
 
-abbrev pub Serves : {R O F : Type 0} → R → O → (Text → Option F → Type 0) → (F → Option (List ℕ)) → (has old new : Option (List ℕ)) → List Text → Outcome R O → Type 0
-Serves {R} {O} {F} input opening opens remaining has old new words r = Refuses input opening words old new r ⊎ Follows input opening opens remaining has old new words r
+abbrev pub Serves : {R O F : Type 0} → R → O → (Text → Option F → Type 0) → (F → Option (List ℕ)) → (has old new : Option (List ℕ)) → List Text → Outcome R O → Console → Type 0
+Serves {R} {O} {F} input opening opens remaining has old new words r console = Refuses input opening words old new r console ⊎ Follows input opening opens remaining has old new words r console
 
 -- the answers of a run are handed on
 abbrev pub AllHandedOn : Option (List ℕ) → Option (List ℕ) → Result Summary Trouble → Type 0

@@ -7,7 +7,7 @@
 //! is set as the words set it. What is read and written is as `run` promises. Nothing is written if the words are refused, if FILE can't be opened,
 //! or if memory is refused while the words are read, and the trouble says which it was (`Serves`). No file but FILE is opened, and it is opened once,
 //! after the words were judged: what opens a file can be called once, and is handed back if it was not called. Standard input is handed back as it
-//! was given if it isn't the script.
+//! was given if it isn't the script. The console is left with the session to which the script leads, or with its new one.
 //!
 //! `end` prints clap's text if the words were refused or ask for one, tells standard error the line of the trouble if there is one, and gives the
 //! exit code of the ending (`Ends`). Help that can't be written is a write fault. After a whole run standard error is told nothing, and nothing is

@@ -19,7 +19,7 @@ fn answer<R: Inlet<W> + Drop, W: Outlet>(
     stop: bool,
 ) -> Result<Summary, Trouble>
     requires { IsNew console.old }
-    ensures runs { Answered (R.remaining script) (W.contents writer.old) (W.contents writer.new) stop result }
+    ensures runs { Answered (R.remaining script) (W.contents writer.old) (W.contents writer.new) stop result console.new }
     ensures reached { AllHandedOn (W.reached writer.new) (W.contents writer.new) result }
 {
     run_in(alloc, script, console, writer, stop).map_err(Trouble::Run)
@@ -34,7 +34,7 @@ fn run_opened<F: Inlet<W> + Drop, W: Outlet>(
     stop: bool,
 ) -> Result<Summary, Trouble>
     requires { IsNew console.old }
-    ensures runs { RunsOpened F.remaining (W.contents writer.old) (W.contents writer.new) stop result opened }
+    ensures runs { RunsOpened F.remaining (W.contents writer.old) (W.contents writer.new) stop result console.new opened }
     ensures reached { AllHandedOn (W.reached writer.new) (W.contents writer.new) result }
 {
     match opened {
@@ -65,7 +65,7 @@ fn follow<R: Inlet<W> + Drop, F: Inlet<W> + Drop, O: FnOnce(&str) -> Option<F> +
 ) -> Outcome<R, O>
     requires callable { O.IsAlwaysCallable opening }
     requires start { IsNew console.old }
-    ensures runs { RunsFile input opening (FnOnceReturnsAt O.FnOnce opening) F.remaining (R.remaining input) (W.contents writer.old) (W.contents writer.new) choice.now.stop result (option_map string_bytes choice.now.file) }
+    ensures runs { RunsFile input opening (FnOnceReturnsAt O.FnOnce opening) F.remaining (R.remaining input) (W.contents writer.old) (W.contents writer.new) choice.now.stop result console.new (option_map string_bytes choice.now.file) }
     ensures reached { AllHandedOn (W.reached writer.new) (W.contents writer.new) result.ended }
 {
     match &choice.file {
@@ -92,8 +92,8 @@ fn follow<R: Inlet<W> + Drop, F: Inlet<W> + Drop, O: FnOnce(&str) -> Option<F> +
 /// Runs the script that the words of a command line choose; the first word is the program's name. If the words name FILE, the script is that file,
 /// opened by `opening`; else it is `input`. With `--stop` the run ends after the first reply that begins with `refused`, `fault` or `memory`.
 /// `opening` can be called once. It is handed back if it was not called: if the words name no FILE, and if they give no choice. `input` is handed
-/// back as it was given if it isn't the script. The script is answered in the console given, whose new session is then the caller's to keep or to
-/// free.
+/// back as it was given if it isn't the script. The script is answered in the console given, which is left with its session, or with the new one if
+/// no script was run: it is the caller's to keep or to free.
 ///
 /// `Trouble::Words` comes if the words are refused or ask for help or the version, `Trouble::Open` if `opening` gives nothing; then nothing is read
 /// or written. `Trouble::Run` is the run's, or says that memory was refused while the words were read. Unless a write failed, all that was written
@@ -113,7 +113,7 @@ pub fn serve<
 ) -> Outcome<R, O>
     requires callable { O.IsAlwaysCallable opening }
     requires start { IsNew console.old }
-    ensures serves { Serves input opening (FnOnceReturnsAt O.FnOnce opening) F.remaining (R.remaining input) (W.contents writer.old) (W.contents writer.new) (map string_bytes words.now) result }
+    ensures serves { Serves input opening (FnOnceReturnsAt O.FnOnce opening) F.remaining (R.remaining input) (W.contents writer.old) (W.contents writer.new) (map string_bytes words.now) result console.new }
     ensures reached { AllHandedOn (W.reached writer.new) (W.contents writer.new) result.ended }
 {
     match read_words(alloc, words) {

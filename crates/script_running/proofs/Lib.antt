@@ -3,6 +3,7 @@ pub mod Acting
 pub mod Hearing
 pub mod Judged
 pub mod Counting
+pub mod Leaving
 pub mod RunLaws
 pub mod Reaching
 pub mod Outputs

@@ -17,8 +17,9 @@ unfoldable pub use Rattle.script_running.specs.script_judging.Hearing.{Says}
 pub use Rattle.script_running.specs.script_judging.Judging.{Answers, Gives, Judges, Obeys, answer_text, answer_when, counted, done, no_lines, one_line}
 pub use Rattle.solid_listing.proofs.TellingLaws.{Breaks, Breaks-after, Gathers-nil, Gathers-trans, all_out, released, went_out}
 pub use Rattle.solid_measure.specs.Measure.{answer, counts, face_refusal, is_flat, plane_of, six_volume, solid_refusal}
-pub use Rattle.std.proofs.Common.{Bool, Err, IfErr, IfOk, List, None, Ok, OnOk, Option, Result, Some, [], ap, append-nil, append_assoc, arith, codes, false, if◌then◌else◌, inl, inr, length, nat_lt, refl, rules, subst, suc, sym, true, ℕ, ◌&&◌, ◌++◌, ◌+◌, ◌<◌, ◌==◌, ◌∙◌, ◌∷◌, ◌≡◌, ◌≤◌, ◌⊎◌}
+pub use Rattle.std.proofs.Common.{Bool, Err, IfErr, IfOk, List, None, Ok, OnOk, Option, Result, Some, [], ap, append-nil, append_assoc, arith, codes, false, if◌then◌else◌, inl, inr, length, length-append, nat_lt, refl, subst, suc, sym, true, ℕ, ◌&&◌, ◌++◌, ◌+◌, ◌<◌, ◌==◌, ◌∙◌, ◌∷◌, ◌≡◌, ◌≤◌, ◌⊎◌}
 pub use Rattle.std.proofs.KnownBytes.{Appends-kept, Appends-nil, Consumes-nil}
 pub use Rattle.std.proofs.lemmas.Bool.{and_from, and_parts, both_ways, cases_Bool, false_from_ne_true, false≢true, not-false, not-true, not_from_false, not_from_true}
 pub use Rattle.std.proofs.lemmas.Bool.Decides.{nat_tests}
+pub use Rattle.std.proofs.lemmas.Result.{err_from_is_err_and}
 pub use Rattle.undo_journal.proofs.Journals.{same_machine}

@@ -1,6 +1,8 @@
 -- One line after another.
-use Rattle.script_running.proofs.Prelude.{◌≡◌, inl, inr, ℕ, ◌<◌, Bool, true, false, List, [], ◌∷◌, ◌++◌, length, refl, sym, ap, subst, ◌∙◌, arith, append_assoc, Option, Some, Ok, Err, append-nil, ◌⊎◌, nat_lt, IfOk, IfErr, Result, if◌then◌else◌, false≢true, nat_tests, Appends-nil, Appends-kept, Answer, EndsEarly, Fault, Found, Gathers, HasRead, IsFresh, Journal, Lines, LongLine, NotAscii, Outgoing, Puts, Session, Request, RunFault, Stops, Summary, request_of, request_of_words, is_ascii, line_of, lines_of, new_journal, outgoing, reader_of, taken_of, to_come, unread_of, within_limit, words, Breaks, Gathers-nil, Gathers-trans, Breaks-after, all_out, went_out, UnlessLacking, Hears as ConsoleHears, lacks_said, spoken, Judges, Answers, answer_text, no_lines, one_line, counted, stops, was_stopped, Outs, output_of, output_from, summary_of, summary_from, Moves, Served, BreaksOff, WriteFails, IsTooLong, Runs, Console}
+use Rattle.script_running.proofs.Prelude.{◌≡◌, inl, inr, ℕ, ◌<◌, Bool, true, false, List, [], ◌∷◌, ◌++◌, length, refl, sym, ap, subst, ◌∙◌, arith, append_assoc, Option, Some, Ok, Err, append-nil, ◌⊎◌, nat_lt, IfOk, IfErr, Result, if◌then◌else◌, false≢true, nat_tests, Appends-nil, Appends-kept, Answer, EndsEarly, Fault, Found, Gathers, HasRead, IsFresh, Journal, Lines, LongLine, NotAscii, Outgoing, Puts, Session, Request, RunFault, Stops, Summary, request_of, request_of_words, is_ascii, line_of, lines_of, new_journal, outgoing, reader_of, taken_of, to_come, unread_of, within_limit, words, Breaks, Gathers-nil, Gathers-trans, Breaks-after, all_out, went_out, UnlessLacking, Hears as ConsoleHears, lacks_said, spoken, Judges, Answers, answer_text, no_lines, one_line, counted, stops, was_stopped, Outs, output_of, output_from, summary_of, summary_from, Moves, Served, BreaksOff, WriteFails, IsTooLong, Runs, Console, Stage}
 use Rattle.std.specs.Io.KnownBytes.{Appends, Keeps, Consumes, IsAtEnd}
+use Rattle.script_running.specs.Leaving.{LeadOn, Leaves, RunsTo}
+use Rattle.script_running.proofs.Leaving.{lead_more, left_so, left_whole, one_heard, read_so, whole_so}
 use Rattle.script_running.specs.Common.{Says}
 use Rattle.script_reader.specs.Next.{Went}
 use Rattle.script_reader.specs.declared.lines.Found.TheVariants as found
@@ -23,6 +25,8 @@ pub record Progress {R : Type 0} (remaining : R → Option (List ℕ)) (first : 
   pub gathered : Gathers (outgoing old []) new out
   pub runs : Continues stop heard out s n
   pub unstopped : was_stopped stop n ≡ false
+  pub leads : LeadOn new_journal heard out s
+  pub each : length heard ≡ n.lines
 
 -- the next line was read, and judged
 pub record Turn {R : Type 0} (remaining : R → Option (List ℕ)) (first : Option (List ℕ)) (lines : Lines R) (old : Option (List ℕ)) (new : Outgoing) (stop : Bool) (s : Journal) (n : Summary) (a : Answer) (t : Journal) : Type 0 where
@@ -41,6 +45,8 @@ begins remaining given lines old pending stop s fresh at_start none = record {
   gathered = subst (λ (t : List ℕ). Gathers (outgoing old []) (outgoing old t) []) (sym none) (Gathers-nil (outgoing old []));
   runs = λ ls rest k h. subst (λ (j : Summary). Outs stop new_journal ls rest j) (sym (none_counted k)) (subst (λ (q : Journal). Outs stop q ls rest k) at_start h);
   unstopped = none_calm stop;
+  leads = (refl, at_start);
+  each = refl;
 }
 
 -- what is pending may go out
@@ -53,6 +59,8 @@ flushed remaining first lines old mid new stop s n p k = record {
   gathered = subst (Gathers (outgoing old []) new) (append-nil p.out) (Gathers-trans (outgoing old []) mid new p.out [] p.gathered k);
   runs = p.runs;
   unstopped = p.unstopped;
+  leads = p.leads;
+  each = p.each;
 }
 
 long_told : (line : List ℕ) → 65536 < length line → request_of line ≡ Err LongLine
@@ -111,6 +119,8 @@ goes_on remaining first lines old mid new stop s n a t w calm h = record {
       let e3 : counted n (counted (one_line a) k) ≡ counted (counted n (one_line a)) k = counted_assoc n (one_line a) k in
       rw (← e1, ← e2, ← e3) one;
   unstopped = calm_counted stop n a w.so_far.unstopped calm;
+  leads = lead_more new_journal s t w.so_far.heard w.line w.so_far.out a w.so_far.leads w.judges;
+  each = one_heard n (counted n (one_line a)) a w.so_far.heard w.line w.so_far.each refl;
 }
 
 outs_same : (stop : Bool) (s : Journal) (ls ms : List (List ℕ)) (x y : List ℕ) (n m : Summary) → ls ≡ ms → x ≡ y → n ≡ m → Outs stop s ls x n → Outs stop s ms y m
@@ -123,20 +133,23 @@ is_output stop given out n o none = outs_so stop new_journal (lines_of (within_l
     (outs_same stop new_journal (lines_of (within_limit 0 given ++ [])) (lines_of (within_limit 0 given)) out out n n (ap lines_of (append-nil (within_limit 0 given))) refl refl o) none
 
 -- the answer stops the run
-stopped : {R : Type 0} (remaining : R → Option (List ℕ)) (first : Option (List ℕ)) (lines : Lines R) (old : Option (List ℕ)) (mid : Outgoing) (new : Option (List ℕ)) (stop : Bool) (s : Journal) (n m : Summary) (a : Answer) (t : Journal)
-    → (w : Turn remaining first lines old mid stop s n a t) → stops stop a ≡ true → Appends old new (w.so_far.out ++ answer_text t.machine a) → m ≡ counted n (one_line a) → Served first old new stop m
-stopped remaining first lines old mid new stop s n m a t w bad h count =
+stopped : {R : Type 0} (remaining : R → Option (List ℕ)) (first : Option (List ℕ)) (lines : Lines R) (old : Option (List ℕ)) (mid : Outgoing) (new : Option (List ℕ)) (stop : Bool) (s : Journal) (n m : Summary) (a : Answer) (t : Journal) (left : Option Stage)
+    → left ≡ Some (Session t) → (w : Turn remaining first lines old mid stop s n a t) → stops stop a ≡ true → Appends old new (w.so_far.out ++ answer_text t.machine a) → m ≡ counted n (one_line a) → RunsTo first old new stop (Ok m) left
+stopped remaining first lines old mid new stop s n m a t left there w bad h count =
     let outs : (more : List ℕ) → (IsAtEnd (remaining (reader_of lines)) → more ≡ []) → Outs stop new_journal (lines_of (within_limit 0 w.read.given ++ more)) (w.so_far.out ++ answer_text t.machine a) m = λ more guard.
     let behind = lines_of (unread_of lines ++ more) in
     let one = w.so_far.runs (w.line ∷ behind) (answer_text t.machine a) (one_line a) (a, t, w.judges, inl (bad, refl, refl)) in
     let all : lines_of (within_limit 0 w.read.given ++ more) ≡ w.so_far.heard ++ w.line ∷ behind = w.read.text more (λ e. guard (w.read.at_end e)) ∙ append_assoc w.so_far.heard (w.line ∷ []) behind in
-    outs_same stop new_journal (w.so_far.heard ++ w.line ∷ behind) (lines_of (within_limit 0 w.read.given ++ more)) (w.so_far.out ++ answer_text t.machine a) (w.so_far.out ++ answer_text t.machine a) (counted n (one_line a)) m (sym all) refl (sym count) one in
-    record {
-      moves = record { given = w.read.given; left = remaining (reader_of lines); out = w.so_far.out ++ answer_text t.machine a; consumed = w.read.consumed; appended = h };
-      outs = outs;
-      finished = λ e. absurd (false≢true (sym e ∙ ap (was_stopped stop) count ∙ stop_counted stop n a bad));
-      output = is_output stop w.read.given (w.so_far.out ++ answer_text t.machine a) m (outs [] (λ _. refl));
-    }
+    outs_same stop new_journal (w.so_far.heard ++ w.line ∷ behind) (lines_of (within_limit 0 w.read.given ++ more)) (w.so_far.out ++ answer_text t.machine a) (w.so_far.out ++ answer_text t.machine a) (counted n (one_line a)) m (sym all) refl (sym count) one in (
+      record {
+        moves = record { given = w.read.given; left = remaining (reader_of lines); out = w.so_far.out ++ answer_text t.machine a; consumed = w.read.consumed; appended = h };
+        outs = outs;
+        finished = λ e. absurd (false≢true (sym e ∙ ap (was_stopped stop) count ∙ stop_counted stop n a bad));
+        output = is_output stop w.read.given (w.so_far.out ++ answer_text t.machine a) m (outs [] (λ _. refl));
+      },
+      left_whole w.read.given (w.so_far.out ++ answer_text t.machine a) (Ok m) left t (w.so_far.heard ++ w.line ∷ []) (lines_of (unread_of lines ++ [])) there (read_so w.read.given _ (w.read.text [] (λ _. refl)))
+          (lead_more new_journal s t w.so_far.heard w.line w.so_far.out a w.so_far.leads w.judges) (one_heard n m a w.so_far.heard w.line w.so_far.each count),
+    )
 
 -- what was heard was answered
 answered : (stop : Bool) (heard : List (List ℕ)) (out : List ℕ) (s : Journal) (n : Summary) → Continues stop heard out s n → Outs stop new_journal heard out n
@@ -144,35 +157,44 @@ answered stop heard out s n runs = outs_same stop new_journal (heard ++ []) hear
 
 -- the end of the script
 pub ends : {R : Type 0} (remaining : R → Option (List ℕ)) (first : Option (List ℕ)) (lines next : Lines R) (old : Option (List ℕ)) (new : Outgoing) (stop : Bool) (s : Journal) (n : Summary)
-    → Progress remaining first lines old new stop s n → Went remaining lines next found.End → new.pending ≡ [] → Served first old new.contents stop n
-ends remaining first lines next old new stop s n p went none =
+    → (left : Option Stage) → left ≡ Some (Session s) → Progress remaining first lines old new stop s n → Went remaining lines next found.End → new.pending ≡ [] → RunsTo first old new.contents stop (Ok n) left
+ends remaining first lines next old new stop s n left there p went none =
     let r = is_read_out remaining first lines next p.heard p.read went in
     let outs : (more : List ℕ) → (IsAtEnd (remaining (reader_of next)) → more ≡ []) → Outs stop new_journal (lines_of (within_limit 0 r.given ++ more)) p.out n = λ more guard.
     let all : lines_of (within_limit 0 r.given ++ more) ≡ p.heard = ap (λ (xs : List ℕ). lines_of (within_limit 0 r.given ++ xs)) (guard r.end) ∙ ap lines_of (append-nil (within_limit 0 r.given)) ∙ r.lines in
-    outs_same stop new_journal p.heard (lines_of (within_limit 0 r.given ++ more)) p.out p.out n n (sym all) refl refl (answered stop p.heard p.out s n p.runs) in
-    record {
-      moves = record { given = r.given; left = remaining (reader_of next); out = p.out; consumed = r.consumed; appended = went_out old new p.out p.gathered none };
-      outs = outs;
-      finished = λ _. (r.end, r.within);
-      output = is_output stop r.given p.out n (outs [] (λ _. refl));
-    }
+    outs_same stop new_journal p.heard (lines_of (within_limit 0 r.given ++ more)) p.out p.out n n (sym all) refl refl (answered stop p.heard p.out s n p.runs) in (
+      record {
+        moves = record { given = r.given; left = remaining (reader_of next); out = p.out; consumed = r.consumed; appended = went_out old new p.out p.gathered none };
+        outs = outs;
+        finished = λ _. (r.end, r.within);
+        output = is_output stop r.given p.out n (outs [] (λ _. refl));
+      },
+      left_whole r.given p.out (Ok n) left s p.heard [] there (r.lines ∙ sym (append-nil p.heard)) p.leads p.each,
+    )
 
 -- the fault is that of a write
-is_write_fault : (first old new : Option (List ℕ)) (stop : Bool) (f : RunFault) → f ≡ faults.Write → WriteFails first old new stop → Runs first old new stop (Err f)
-is_write_fault first old new stop f e h = subst (λ (g : RunFault). Runs first old new stop (Err g)) (sym e) h
+is_write_fault : (first old new : Option (List ℕ)) (stop : Bool) (f : RunFault) (left : Option Stage) → f ≡ faults.Write → RunsTo first old new stop (Err faults.Write) left → RunsTo first old new stop (Err f) left
+is_write_fault first old new stop f left e h = subst (λ (g : RunFault). RunsTo first old new stop (Err g) left) (sym e) h
 
 -- the last flush keeps what was written, or is a failed write
-pub finished : (first old mid new : Option (List ℕ)) (stop : Bool) (n : Summary) (r : Result Summary RunFault) → Served first old mid stop n → Keeps mid new → IfOk r (λ s. s ≡ n) → IfErr r (λ e. e ≡ faults.Write) → Runs first old new stop r
-finished first old mid new stop n (Ok m) h k same no_fault = subst (λ (s : Summary). Served first old new stop s) (sym same) (record {
-  moves = record { given = h.moves.given; left = h.moves.left; out = h.moves.out; consumed = h.moves.consumed; appended = Appends-kept old mid new h.moves.out h.moves.appended k };
-  outs = h.outs;
-  finished = h.finished;
-  output = h.output;
-})
-finished first old mid new stop n (Err f) h k same is_write = is_write_fault first old new stop f is_write (record {
-  moves = record { given = h.moves.given; left = h.moves.left; out = h.moves.out; consumed = h.moves.consumed; appended = Appends-kept old mid new h.moves.out h.moves.appended k };
-  begun = λ more guard. ([], n, subst (λ (text : List ℕ). Outs stop new_journal (lines_of (within_limit 0 h.moves.given ++ more)) text n) (sym (append-nil h.moves.out)) (h.outs more guard));
-})
+pub finished : (first old mid new : Option (List ℕ)) (stop : Bool) (n : Summary) (left : Option Stage) (r : Result Summary RunFault) → RunsTo first old mid stop (Ok n) left → Keeps mid new → IfOk r (λ s. s ≡ n) → IfErr r (λ e. e ≡ faults.Write)
+    → RunsTo first old new stop r left
+finished first old mid new stop n left (Ok m) (h, v) k same no_fault = subst (λ (s : Summary). RunsTo first old new stop (Ok s) left) (sym same) (
+  record {
+    moves = record { given = h.moves.given; left = h.moves.left; out = h.moves.out; consumed = h.moves.consumed; appended = Appends-kept old mid new h.moves.out h.moves.appended k };
+    outs = h.outs;
+    finished = h.finished;
+    output = h.output;
+  },
+  v,
+)
+finished first old mid new stop n left (Err f) (h, v) k same is_write = is_write_fault first old new stop f left is_write (
+  record {
+    moves = record { given = h.moves.given; left = h.moves.left; out = h.moves.out; consumed = h.moves.consumed; appended = Appends-kept old mid new h.moves.out h.moves.appended k };
+    begun = λ more guard. ([], n, subst (λ (text : List ℕ). Outs stop new_journal (lines_of (within_limit 0 h.moves.given ++ more)) text n) (sym (append-nil h.moves.out)) (h.outs more guard));
+  },
+  whole_so h.moves.given h.moves.out n faults.Write left v,
+)
 
 -- a read failed, or the script is too long
 breaks_off : (first last old new : Option (List ℕ)) (stop : Bool) (s : Journal) (n : Summary) (heard : List (List ℕ)) (out : List ℕ) (answer : Found) → (b : EndsEarly first last heard answer) → Appends old new out → Continues stop heard out s n
@@ -189,85 +211,103 @@ breaks_off first last old new stop s n heard out answer b appended runs unstoppe
   unstopped = unstopped;
 }
 
-pub read_fails : {R : Type 0} (remaining : R → Option (List ℕ)) (first : Option (List ℕ)) (lines next : Lines R) (old : Option (List ℕ)) (new : Outgoing) (stop : Bool) (s : Journal) (n : Summary)
-    → Progress remaining first lines old new stop s n → Went remaining lines next found.Read → new.pending ≡ [] → BreaksOff first old new.contents stop
-read_fails remaining first lines next old new stop s n p went none =
-    breaks_off first (remaining (reader_of next)) old new.contents stop s n p.heard p.out found.Read (breaks_at_fault remaining first lines next p.heard p.read went) (went_out old new p.out p.gathered none) p.runs p.unstopped
-
-pub too_long : {R : Type 0} (remaining : R → Option (List ℕ)) (first : Option (List ℕ)) (lines next : Lines R) (old : Option (List ℕ)) (new : Outgoing) (stop : Bool) (s : Journal) (n : Summary)
-    → Progress remaining first lines old new stop s n → Went remaining lines next found.TooLong → new.pending ≡ [] → (b : BreaksOff first old new.contents stop) × IsTooLong b.moves.given
+pub read_fails : {R : Type 0} (remaining : R → Option (List ℕ)) (first : Option (List ℕ)) (lines next : Lines R) (old : Option (List ℕ)) (new : Outgoing) (stop : Bool) (s : Journal) (n : Summary) (left : Option Stage)
+    → left ≡ Some (Session s) → Progress remaining first lines old new stop s n → Went remaining lines next found.Read → new.pending ≡ [] → RunsTo first old new.contents stop (Err faults.Read) left
 unfolding breaks_off
-too_long remaining first lines next old new stop s n p went none =
-    let e = breaks_at_limit remaining first lines next p.heard p.read went in
-    (breaks_off first (remaining (reader_of next)) old new.contents stop s n p.heard p.out found.TooLong e (went_out old new p.out p.gathered none) p.runs p.unstopped, e.too_long refl)
+read_fails remaining first lines next old new stop s n left there p went none =
+    let e = breaks_at_fault remaining first lines next p.heard p.read went in (
+      breaks_off first (remaining (reader_of next)) old new.contents stop s n p.heard p.out found.Read e (went_out old new p.out p.gathered none) p.runs p.unstopped,
+      left_whole e.given p.out (Err faults.Read) left s p.heard (lines_of e.rest) there e.lines p.leads tt,
+    )
+
+pub too_long : {R : Type 0} (remaining : R → Option (List ℕ)) (first : Option (List ℕ)) (lines next : Lines R) (old : Option (List ℕ)) (new : Outgoing) (stop : Bool) (s : Journal) (n : Summary) (left : Option Stage)
+    → left ≡ Some (Session s) → Progress remaining first lines old new stop s n → Went remaining lines next found.TooLong → new.pending ≡ [] → RunsTo first old new.contents stop (Err faults.TooLong) left
+unfolding breaks_off
+too_long remaining first lines next old new stop s n left there p went none =
+    let e = breaks_at_limit remaining first lines next p.heard p.read went in (
+      (breaks_off first (remaining (reader_of next)) old new.contents stop s n p.heard p.out found.TooLong e (went_out old new p.out p.gathered none) p.runs p.unstopped, e.too_long refl),
+      left_whole e.given p.out (Err faults.TooLong) left s p.heard (lines_of e.rest) there e.lines p.leads tt,
+    )
 
 -- a write failed, where the answer was told or before
-pub write_fails : {R : Type 0} (remaining : R → Option (List ℕ)) (first : Option (List ℕ)) (lines : Lines R) (old : Option (List ℕ)) (mid : Outgoing) (new : Option (List ℕ)) (stop : Bool) (s : Journal) (n : Summary) (a : Answer) (t : Journal) (f : RunFault)
-    → (w : Turn remaining first lines old mid stop s n a t) → Stops old new (w.so_far.out ++ answer_text t.machine a) → f ≡ faults.Write → Runs first old new stop (Err f)
-write_fails remaining first lines old mid new stop s n a t f w h is_write = is_write_fault first old new stop f is_write (record {
-  moves = record { given = w.read.given; left = remaining (reader_of lines); out = h.front; consumed = w.read.consumed; appended = h.appended };
-  begun = λ more guard.
-      let behind = lines_of (unread_of lines ++ more) in
-      let all : lines_of (within_limit 0 w.read.given ++ more) ≡ w.so_far.heard ++ w.line ∷ behind = w.read.text more (λ e. guard (w.read.at_end e)) ∙ append_assoc w.so_far.heard (w.line ∷ []) behind in
-      let next = after_to stop behind a t (output_from stop t.machine behind) (summary_from stop t.machine behind) (outs_to stop t behind) (stops stop a) refl in
-      let text = text_at (stops stop a) a t.machine (output_from stop t.machine behind) in
-      let counts = counts_at (stops stop a) a (summary_from stop t.machine behind) in
-      let rest = if stops stop a then [] else output_from stop t.machine behind in
-      let parts : w.so_far.out ++ text ≡ h.front ++ (h.rest ++ rest) =
-      sym (append_assoc w.so_far.out (answer_text t.machine a) rest) ∙ ap (λ (xs : List ℕ). xs ++ rest) h.parts ∙ append_assoc h.front h.rest rest in (
-        h.rest ++ rest,
-        counted n counts,
-        outs_same stop new_journal (w.so_far.heard ++ w.line ∷ behind) (lines_of (within_limit 0 w.read.given ++ more)) (w.so_far.out ++ text) (h.front ++ (h.rest ++ rest)) (counted n counts) (counted n counts) (sym all) parts refl
-            (w.so_far.runs (w.line ∷ behind) text counts (a, t, w.judges, next)),
-      );
-})
+pub write_fails : {R : Type 0} (remaining : R → Option (List ℕ)) (first : Option (List ℕ)) (lines : Lines R) (old : Option (List ℕ)) (mid : Outgoing) (new : Option (List ℕ)) (stop : Bool) (s : Journal) (n : Summary) (a : Answer) (t : Journal) (f : RunFault) (left : Option Stage)
+    → left ≡ Some (Session t) → (w : Turn remaining first lines old mid stop s n a t) → Stops old new (w.so_far.out ++ answer_text t.machine a) → f ≡ faults.Write → RunsTo first old new stop (Err f) left
+write_fails remaining first lines old mid new stop s n a t f left there w h is_write = is_write_fault first old new stop f left is_write (
+  record {
+    moves = record { given = w.read.given; left = remaining (reader_of lines); out = h.front; consumed = w.read.consumed; appended = h.appended };
+    begun = λ more guard.
+        let behind = lines_of (unread_of lines ++ more) in
+        let all : lines_of (within_limit 0 w.read.given ++ more) ≡ w.so_far.heard ++ w.line ∷ behind = w.read.text more (λ e. guard (w.read.at_end e)) ∙ append_assoc w.so_far.heard (w.line ∷ []) behind in
+        let next = after_to stop behind a t (output_from stop t.machine behind) (summary_from stop t.machine behind) (outs_to stop t behind) (stops stop a) refl in
+        let text = text_at (stops stop a) a t.machine (output_from stop t.machine behind) in
+        let counts = counts_at (stops stop a) a (summary_from stop t.machine behind) in
+        let rest = if stops stop a then [] else output_from stop t.machine behind in
+        let parts : w.so_far.out ++ text ≡ h.front ++ (h.rest ++ rest) =
+        sym (append_assoc w.so_far.out (answer_text t.machine a) rest) ∙ ap (λ (xs : List ℕ). xs ++ rest) h.parts ∙ append_assoc h.front h.rest rest in (
+          h.rest ++ rest,
+          counted n counts,
+          outs_same stop new_journal (w.so_far.heard ++ w.line ∷ behind) (lines_of (within_limit 0 w.read.given ++ more)) (w.so_far.out ++ text) (h.front ++ (h.rest ++ rest)) (counted n counts) (counted n counts) (sym all) parts refl
+              (w.so_far.runs (w.line ∷ behind) text counts (a, t, w.judges, next)),
+        );
+  },
+  left_so w.read.given h.front h.rest (w.so_far.out ++ answer_text t.machine a) left t (w.so_far.heard ++ w.line ∷ []) (lines_of (unread_of lines ++ [])) there (read_so w.read.given _ (w.read.text [] (λ _. refl))) h.parts
+      (lead_more new_journal s t w.so_far.heard w.line w.so_far.out a w.so_far.leads w.judges),
+)
 
 -- an answer could not be told
-pub telling_fails : {R : Type 0} (remaining : R → Option (List ℕ)) (first : Option (List ℕ)) (lines : Lines R) (old : Option (List ℕ)) (mid new : Outgoing) (stop : Bool) (s : Journal) (n : Summary) (a : Answer) (t : Journal) (f : RunFault)
-    → Turn remaining first lines old mid stop s n a t → Breaks mid new (answer_text t.machine a) → f ≡ faults.Write → Runs first old new.contents stop (Err f)
-telling_fails remaining first lines old mid new stop s n a t f w h is_write =
-    write_fails remaining first lines old mid new.contents stop s n a t f w (Breaks-after (outgoing old []) mid new w.so_far.out (answer_text t.machine a) w.so_far.gathered h) is_write
+pub telling_fails : {R : Type 0} (remaining : R → Option (List ℕ)) (first : Option (List ℕ)) (lines : Lines R) (old : Option (List ℕ)) (mid new : Outgoing) (stop : Bool) (s : Journal) (n : Summary) (a : Answer) (t : Journal) (f : RunFault) (left : Option Stage)
+    → left ≡ Some (Session t) → Turn remaining first lines old mid stop s n a t → Breaks mid new (answer_text t.machine a) → f ≡ faults.Write → RunsTo first old new.contents stop (Err f) left
+telling_fails remaining first lines old mid new stop s n a t f left there w h is_write =
+    write_fails remaining first lines old mid new.contents stop s n a t f left there w (Breaks-after (outgoing old []) mid new w.so_far.out (answer_text t.machine a) w.so_far.gathered h) is_write
 
 -- the answer stops the run, and what is pending goes out
-pub stops_there : {R : Type 0} (remaining : R → Option (List ℕ)) (first : Option (List ℕ)) (lines : Lines R) (old : Option (List ℕ)) (mid new : Outgoing) (last : Option (List ℕ)) (stop : Bool) (s : Journal) (n m : Summary) (a : Answer) (t : Journal) (r : Result Summary RunFault)
-    → Turn remaining first lines old mid stop s n a t → stops stop a ≡ true → Gathers mid new (answer_text t.machine a) → m ≡ counted n (one_line a)
-    → Puts new.contents last new.pending r → IfOk r (λ k. k ≡ m) → IfErr r (λ e. e ≡ faults.Write) → Runs first old last stop r
-stops_there remaining first lines old mid new last stop s n m a t (Ok k) w bad h count puts same no_fault =
+pub stops_there : {R : Type 0} (remaining : R → Option (List ℕ)) (first : Option (List ℕ)) (lines : Lines R) (old : Option (List ℕ)) (mid new : Outgoing) (last : Option (List ℕ)) (stop : Bool) (s : Journal) (n m : Summary) (a : Answer) (t : Journal) (r : Result Summary RunFault) (left : Option Stage)
+    → left ≡ Some (Session t) → Turn remaining first lines old mid stop s n a t → stops stop a ≡ true → Gathers mid new (answer_text t.machine a) → m ≡ counted n (one_line a)
+    → Puts new.contents last new.pending r → IfOk r (λ k. k ≡ m) → IfErr r (λ e. e ≡ faults.Write) → RunsTo first old last stop r left
+stops_there remaining first lines old mid new last stop s n m a t (Ok k) left there w bad h count puts same no_fault =
     let all = Gathers-trans (outgoing old []) mid new w.so_far.out (answer_text t.machine a) w.so_far.gathered h in
     let out = all_out {A = Summary} {E = RunFault} old new last [] (w.so_far.out ++ answer_text t.machine a) (Ok k) refl all puts in
-    subst (λ (j : Summary). Served first old last stop j) (sym same) (stopped remaining first lines old mid last stop s n m a t w bad out count)
-stops_there remaining first lines old mid new last stop s n m a t (Err f) w bad h count puts same is_write =
+    subst (λ (j : Summary). RunsTo first old last stop (Ok j) left) (sym same) (stopped remaining first lines old mid last stop s n m a t left there w bad out count)
+stops_there remaining first lines old mid new last stop s n m a t (Err f) left there w bad h count puts same is_write =
     let all = Gathers-trans (outgoing old []) mid new w.so_far.out (answer_text t.machine a) w.so_far.gathered h in
     let out = all_out {A = Summary} {E = RunFault} old new last [] (w.so_far.out ++ answer_text t.machine a) (Err f) refl all puts in
-    write_fails remaining first lines old mid last stop s n a t f w out is_write
+    write_fails remaining first lines old mid last stop s n a t f left there w out is_write
 
 -- what was pending could not go out
-pub flush_fails : {R : Type 0} (remaining : R → Option (List ℕ)) (first : Option (List ℕ)) (lines : Lines R) (old : Option (List ℕ)) (mid new : Outgoing) (stop : Bool) (s : Journal) (n : Summary) (f : RunFault)
-    → Progress remaining first lines old mid stop s n → Breaks mid new [] → f ≡ faults.Write → Runs first old new.contents stop (Err f)
-flush_fails remaining first lines old mid new stop s n f p broken is_write =
+pub flush_fails : {R : Type 0} (remaining : R → Option (List ℕ)) (first : Option (List ℕ)) (lines : Lines R) (old : Option (List ℕ)) (mid new : Outgoing) (stop : Bool) (s : Journal) (n : Summary) (f : RunFault) (left : Option Stage)
+    → left ≡ Some (Session s) → Progress remaining first lines old mid stop s n → Breaks mid new [] → f ≡ faults.Write → RunsTo first old new.contents stop (Err f) left
+flush_fails remaining first lines old mid new stop s n f left there p broken is_write =
     let h = subst (Stops old new.contents) (append-nil p.out) (Breaks-after (outgoing old []) mid new p.out [] p.gathered broken) in
-    is_write_fault first old new.contents stop f is_write (record {
-      moves = record { given = p.read.given; left = remaining (reader_of lines); out = h.front; consumed = p.read.consumed; appended = h.appended };
-      begun = λ more guard.
-          let behind = lines_of (unread_of lines ++ more) in
-          let text = output_from stop s.machine behind in
-          let counts = summary_from stop s.machine behind in (
-            h.rest ++ text,
-            counted n counts,
-            outs_same stop new_journal (p.heard ++ behind) (lines_of (within_limit 0 p.read.given ++ more)) (p.out ++ text) (h.front ++ (h.rest ++ text)) (counted n counts) (counted n counts) (sym (p.read.text more (λ e. guard (p.read.at_end e))))
-                (ap (λ (xs : List ℕ). xs ++ text) h.parts ∙ append_assoc h.front h.rest text) refl
-                (p.runs behind text counts (outs_to stop s behind)),
-          );
-    })
+    is_write_fault first old new.contents stop f left is_write (
+      record {
+        moves = record { given = p.read.given; left = remaining (reader_of lines); out = h.front; consumed = p.read.consumed; appended = h.appended };
+        begun = λ more guard.
+            let behind = lines_of (unread_of lines ++ more) in
+            let text = output_from stop s.machine behind in
+            let counts = summary_from stop s.machine behind in (
+              h.rest ++ text,
+              counted n counts,
+              outs_same stop new_journal (p.heard ++ behind) (lines_of (within_limit 0 p.read.given ++ more)) (p.out ++ text) (h.front ++ (h.rest ++ text)) (counted n counts) (counted n counts) (sym (p.read.text more (λ e. guard (p.read.at_end e))))
+                  (ap (λ (xs : List ℕ). xs ++ text) h.parts ∙ append_assoc h.front h.rest text) refl
+                  (p.runs behind text counts (outs_to stop s behind)),
+            );
+      },
+      left_so p.read.given h.front h.rest p.out left s p.heard (lines_of (unread_of lines ++ [])) there (read_so p.read.given _ (p.read.text [] (λ _. refl))) h.parts p.leads,
+    )
 
 -- fresh lines have the reader that was given
-pub from_start : {R : Type 0} (remaining : R → Option (List ℕ)) (given : R) (lines : Lines R) (old new : Option (List ℕ)) (stop : Bool) (r : Result Summary RunFault)
-    → IsFresh given lines → Runs (remaining (reader_of lines)) old new stop r → Runs (remaining given) old new stop r
-from_start {R = R} remaining given lines old new stop r fresh h = subst (λ (reader : R). Runs (remaining reader) old new stop r) fresh.reader h
+pub from_start : {R : Type 0} (remaining : R → Option (List ℕ)) (given : R) (lines : Lines R) (old new : Option (List ℕ)) (stop : Bool) (r : Result Summary RunFault) (left : Option Stage)
+    → IsFresh given lines → RunsTo (remaining (reader_of lines)) old new stop r left → RunsTo (remaining given) old new stop r left
+from_start {R = R} remaining given lines old new stop r left fresh h = subst (λ (reader : R). RunsTo (remaining reader) old new stop r left) fresh.reader h
 
 -- the first memory was refused
 pub nothing_begins : (first last old : Option (List ℕ)) → Consumes first last [] → (m : Moves first old old) × (m.given ≡ []) × (m.out ≡ [])
 nothing_begins first last old none = (record { given = []; left = last; out = []; consumed = none; appended = Appends-nil old }, refl, refl)
+
+-- and a new session stays
+pub nothing_runs : (first last old : Option (List ℕ)) (stop : Bool) (left : Option Stage) → Consumes first last [] → left ≡ Some (Session new_journal) → RunsTo first old old stop (Err faults.Memory) left
+nothing_runs first last old stop left none there =
+    let b = nothing_begins first last old none in (b, left_whole b.0.given b.0.out (Err faults.Memory) left new_journal [] (lines_of (within_limit 0 b.0.given)) there refl (b.2, refl) tt)
 
 -- a line takes its bytes from what is to come
 pub falls : {R : Type 0} (remaining : R → Option (List ℕ)) (lines next : Lines R) (s : Journal) (a : Answer) (t : Journal) → Hears remaining lines next s a t

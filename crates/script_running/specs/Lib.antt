@@ -6,4 +6,5 @@ pub mod Runs
 pub mod Reaching
 pub mod Laws
 pub mod Histories
+pub mod Leaving
 pub mod laws_below

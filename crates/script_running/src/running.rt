@@ -7,6 +7,7 @@ ghost use Rattle.script_running.specs.Common.{IsFresh, Puts, Tells, has_newline,
 ghost use Rattle.script_running.specs.script_judging.Consoles.{IsNew};
 ghost use Rattle.script_running.specs.script_judging.Judging.{answer_text};
 ghost use Rattle.script_running.specs.Outs.{stops};
+ghost use Rattle.script_running.specs.Leaving.{RunsTo};
 ghost use Rattle.script_running.specs.Runs.{Runs};
 ghost use Rattle.script_running.specs.Reaching.{HandsOn};
 ghost use Rattle.script_reader.specs.Reaching.{Reaches};
@@ -119,7 +120,7 @@ fn run_lines<R: Inlet<W>, W: Outlet>(
 ) -> Result<Summary, RunFault>
     requires fresh { IsFresh (reader_of lines.old) lines.old }
     requires start { IsNew console.old }
-    ensures runs { Runs (R.remaining (reader_of lines.old)) (W.contents writer.old) (W.contents writer.new) stop result }
+    ensures runs { RunsTo (R.remaining (reader_of lines.old)) (W.contents writer.old) (W.contents writer.new) stop result console.new.stage }
     ensures reached { IfErr result (λ e. HandsOn (W.reached writer.new) (W.contents writer.new) (Err e)) }
 {
     let mut text = Text::new();
@@ -149,8 +150,8 @@ fn run_lines<R: Inlet<W>, W: Outlet>(
 
 /// Runs a script in a console that has a new session: hears each line that the reader gives, in order, and writes its answer. All that was written is
 /// handed on before each read, which may wait (`Inlet`), and at the end, also if a read failed. If `stop` is set, the run ends after the
-/// first reply that begins with `refused`, `fault` or `memory`; bytes after that line may have been read. The session that the script leaves stays in
-/// the console, for the caller.
+/// first reply that begins with `refused`, `fault` or `memory`; bytes after that line may have been read. The console is left with the session to which
+/// the lines lead that were heard (`Leaves`), for the caller.
 ///
 /// `RunFault::Memory` comes only if the first memory was refused, and then nothing is read or written. After `Read` or `TooLong` the replies to the
 /// lines that were read to their newline are written, and nothing else. After `Write` a prefix of the replies to the lines read so far is written.
@@ -164,7 +165,7 @@ pub fn run_in<R: Inlet<W> + Drop, W: Outlet>(
     stop: bool,
 ) -> Result<Summary, RunFault>
     requires start { IsNew console.old }
-    ensures runs { Runs (R.remaining reader) (W.contents writer.old) (W.contents writer.new) stop result }
+    ensures runs { RunsTo (R.remaining reader) (W.contents writer.old) (W.contents writer.new) stop result console.new.stage }
     ensures reached { HandsOn (W.reached writer.new) (W.contents writer.new) result }
 {
     let Ok(mut lines) = Lines::new(alloc, reader) else {

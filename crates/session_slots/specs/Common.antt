@@ -9,7 +9,7 @@ pub use Rattle.session_slots.specs.Opening.{Opened, is_staged, is_whole}
 pub use Rattle.session_slots.specs.Owned.{Loan, kept_owns, lent_owns, loan_coded, slot_in, token}
 pub use Rattle.session_slots.specs.Parting.{Moves_faces, Slot_makes_part, Slot_parts, part_of}
 pub use Rattle.session_slots.specs.Reading.{AreHalfEdges, AreRows, IsFaceAfter, IsFirst, IsItemOf, IsNumberAfter, IsRingAfter, after_in, before_in, edge_in, face_in, face_of_loop_in, kind_of, lone_in, loop_in, point_in, store_of}
-pub use Rattle.session_slots.specs.Slots.{Counts_in, Slot_asks, Slot_does, Slot_lacks, Slot_makes, Slot_measures, Slot_notes}
+pub use Rattle.session_slots.specs.Slots.{Counts_in, Slot_asks, Slot_does, Slot_lacks, Slot_measures, Slot_notes}
 pub use Rattle.session_slots.specs.Spokes.{IsStart, IsStartOf, IsStartWithin}
 pub use Rattle.session_slots.specs.Stages.{text_in}
 pub use Rattle.session_slots.specs.Written.{WritesOne, laid_over}

@@ -7,17 +7,13 @@ use Rattle.solid_listing.specs.declared.reply.Reply.{Reply}
 abbrev pub Counts_in : Slot → Counters → Type 0
 Counts_in x n = (g : Stage) → x.console.stage ≡ Some g → taken_of n ≡ taken_in (shown g)
 
--- a session or a draft goes on as the call is told, and the answer is kept
-abbrev pub Slot_makes : Slot → Call → Slot → Type 0
-Slot_makes old c new = Makes old.console c new.console
-
--- and the greatest numbers in use before it are kept
+-- a session or a draft goes on as the call is told, the answer is kept, and the greatest numbers in use before it are kept
 abbrev pub Slot_does : Slot → Call → Slot → Type 0
-Slot_does old c new = Slot_makes old c new × Counts_in old new.before
+Slot_does old c new = Makes old.console c new.console × Counts_in old new.before
 
 -- a question is no command: the numbers from before the last command stay
 abbrev pub Slot_asks : Slot → Question → Slot → Type 0
-Slot_asks old q new = Slot_makes old (Call.Give (Command.Ask q)) new × (new.before ≡ old.before)
+Slot_asks old q new = Makes old.console (Call.Give (Command.Ask q)) new.console × (new.before ≡ old.before)
 
 -- a question is answered for the model shown, and nothing is kept
 abbrev pub Slot_measures : Slot → Question → Answer → Type 0

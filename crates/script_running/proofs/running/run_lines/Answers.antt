@@ -25,24 +25,24 @@ script-init g c =
 
 pub returns-in-Err-clause-runs : goal.returns-in-Err-clause-runs
 returns-in-Err-clause-runs g c =
-    flush_fails g.R.Inlet.remaining _ c.script.lines _ (outgoing (g.W.Write.contents c.script.writer) c.script.text) (outgoing (g.W.Write.contents c.flush.new.writer) c.flush.new.text) c.args.stop _ _ c.in-Err.fault c.script.invariant.at.progress c.in-Err.ensures.tells c.in-Err.ensures.fault
+    flush_fails g.R.Inlet.remaining _ c.script.lines _ (outgoing (g.W.Write.contents c.script.writer) c.script.text) (outgoing (g.W.Write.contents c.flush.new.writer) c.flush.new.text) c.args.stop _ _ c.in-Err.fault _ c.script.invariant.at.there c.script.invariant.at.progress c.in-Err.ensures.tells c.in-Err.ensures.fault
 
 pub returns-in-End-clause-runs : goal.returns-in-End-clause-runs
 returns-in-End-clause-runs g c =
     let at = flushed g.R.Inlet.remaining _ c.script.lines _ (outgoing (g.W.Write.contents c.script.writer) c.script.text) (outgoing (g.W.Write.contents c.flush.new.writer) c.flush.new.text) _ _ _ c.script.invariant.at.progress c.in_default.ensures.tells in
-    ends g.R.Inlet.remaining _ c.script.lines c.advance.new.self _ (outgoing (g.W.Write.contents c.flush.new.writer) c.flush.new.text) _ _ _ at c.in-End.ensures
+    ends g.R.Inlet.remaining _ c.script.lines c.advance.new.self _ (outgoing (g.W.Write.contents c.flush.new.writer) c.flush.new.text) _ _ _ _ c.script.invariant.at.there at c.in-End.ensures
     (c.in_default.ensures.none (no_whole_line g.R.Inlet.remaining c.script.lines c.advance.new.self found.End tt c.in-End.ensures))
 
 pub returns-in-Read-clause-runs : goal.returns-in-Read-clause-runs
 returns-in-Read-clause-runs g c =
     let at = flushed g.R.Inlet.remaining _ c.script.lines _ (outgoing (g.W.Write.contents c.script.writer) c.script.text) (outgoing (g.W.Write.contents c.flush.new.writer) c.flush.new.text) _ _ _ c.script.invariant.at.progress c.in_default.ensures.tells in
-    read_fails g.R.Inlet.remaining _ c.script.lines c.advance.new.self _ (outgoing (g.W.Write.contents c.flush.new.writer) c.flush.new.text) _ _ _ at c.in-Read.ensures
+    read_fails g.R.Inlet.remaining _ c.script.lines c.advance.new.self _ (outgoing (g.W.Write.contents c.flush.new.writer) c.flush.new.text) _ _ _ _ c.script.invariant.at.there at c.in-Read.ensures
     (c.in_default.ensures.none (no_whole_line g.R.Inlet.remaining c.script.lines c.advance.new.self found.Read tt c.in-Read.ensures))
 
 pub returns-in-TooLong-clause-runs : goal.returns-in-TooLong-clause-runs
 returns-in-TooLong-clause-runs g c =
     let at = flushed g.R.Inlet.remaining _ c.script.lines _ (outgoing (g.W.Write.contents c.script.writer) c.script.text) (outgoing (g.W.Write.contents c.flush.new.writer) c.flush.new.text) _ _ _ c.script.invariant.at.progress c.in_default.ensures.tells in
-    too_long g.R.Inlet.remaining _ c.script.lines c.advance.new.self _ (outgoing (g.W.Write.contents c.flush.new.writer) c.flush.new.text) _ _ _ at c.in-TooLong.ensures
+    too_long g.R.Inlet.remaining _ c.script.lines c.advance.new.self _ (outgoing (g.W.Write.contents c.flush.new.writer) c.flush.new.text) _ _ _ _ c.script.invariant.at.there at c.in-TooLong.ensures
     (c.in_default.ensures.none (no_whole_line g.R.Inlet.remaining c.script.lines c.advance.new.self found.TooLong tt c.in-TooLong.ensures))
 
 pub returns-in-Err-say-clause-runs : goal.returns-in-Err-say-clause-runs
@@ -53,7 +53,7 @@ returns-in-Err-say-clause-runs g c =
     ] in
     let at = flushed g.R.Inlet.remaining _ c.script.lines _ (outgoing (g.W.Write.contents c.script.writer) c.script.text) (outgoing (g.W.Write.contents c.flush.new.writer) c.flush.new.text) _ _ _ c.script.invariant.at.progress c.in_default.ensures.tells in
     let turn = turn_of g.R.Inlet.remaining _ c.script.lines c.advance.new.self _ _ _ _ _ c.match-advance.console.answer told.session at told.hears in
-    telling_fails g.R.Inlet.remaining _ c.advance.new.self _ (outgoing (g.W.Write.contents c.flush.new.writer) c.flush.new.text) (outgoing (g.W.Write.contents c.say.new.writer) c.say.new.text) _ _ _ c.match-advance.console.answer told.session c.in-Err-say.fault turn
+    telling_fails g.R.Inlet.remaining _ c.advance.new.self _ (outgoing (g.W.Write.contents c.flush.new.writer) c.flush.new.text) (outgoing (g.W.Write.contents c.say.new.writer) c.say.new.text) _ _ _ c.match-advance.console.answer told.session c.in-Err-say.fault _ told.there turn
     (c.in-Err-say.ensures.tells told.session told.there) c.in-Err-say.ensures.fault
 
 pub returns-then-stops-clause-runs : goal.returns-then-stops-clause-runs
@@ -64,7 +64,7 @@ returns-then-stops-clause-runs g c =
     ] in
     let at = flushed g.R.Inlet.remaining _ c.script.lines _ (outgoing (g.W.Write.contents c.script.writer) c.script.text) (outgoing (g.W.Write.contents c.flush.new.writer) c.flush.new.text) _ _ _ c.script.invariant.at.progress c.in_default.ensures.tells in
     let turn = turn_of g.R.Inlet.remaining _ c.script.lines c.advance.new.self _ _ _ _ _ c.match-advance.console.answer told.session at told.hears in
-    stops_there g.R.Inlet.remaining _ c.advance.new.self _ (outgoing (g.W.Write.contents c.flush.new.writer) c.flush.new.text) (outgoing (g.W.Write.contents c.say.new.writer) c.say.new.text) (g.W.Write.contents c.leave.new.writer) _ _ _ _ c.match-advance.console.answer told.session c.leave.result
+    stops_there g.R.Inlet.remaining _ c.advance.new.self _ (outgoing (g.W.Write.contents c.flush.new.writer) c.flush.new.text) (outgoing (g.W.Write.contents c.say.new.writer) c.say.new.text) (g.W.Write.contents c.leave.new.writer) _ _ _ _ c.match-advance.console.answer told.session c.leave.result _ told.there
     turn (sym c.stops.ensures ∙ c.if-stops.true) (c.in_default-say.ensures.tells told.session told.there) c.count.ensures c.leave.ensures.puts c.leave.ensures.ok c.leave.ensures.fault
 
 pub returns-in-Err-clause-reached : goal.returns-in-Err-clause-reached
