@@ -5,7 +5,7 @@ Each row of tests/library_features.table is a feature, and behind `=` what it gi
 the solid and a sum over its points; or the name of what is refused, its value, and of what isn't possible the cause, what was met and where. A face is told
 by the ends of a side of its outer loop, an edge by its own, in the direction of its first half-edge; a solid that is cut by its listing. `halve` cuts it in
 two, and tells of both; `union` adds a block at a point, `subtract` takes one away, and `intersect` leaves what is in it too; `around` tells of all of a row;
-`chamfers` takes a width and the ends of its edges; `pocket_along` and `boss_along` take a vector in place of a depth. `block`, `profile` and `model` begin a
+`chamfers` takes a width and the ends of its edges; `pocket_along` and others take a vector in place of a depth. `block`, `profile` and `model` begin a
 part. A row `undo` takes the last feature back. A row that begins with `:` is a line of the program as it is, and what it gives to the letter (`measures`
 tells of a solid); one with `!` is given to the other languages alone, as the session in Python refuses such arguments by ValueError. The table, but for
 these, was written by features in Python that shared no code with those of the library, a row by turned points, chamfers of several edges by cuts, features by
@@ -164,7 +164,7 @@ class Table:
             edge, is_first = self._edge(numbers[:6])
             self._is_turned = not is_first
             return [edge, *numbers[6:][::1 if is_first else -1]]
-        if word == 'shoulder':
+        if word in ('shoulder', 'shoulder_along'):
             return [self._face(numbers[:6]).number, self._edge(numbers[6:12])[0], *numbers[12:]]
         return [self._face(numbers[:6]).number, *numbers[6:]]
 

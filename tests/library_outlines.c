@@ -171,7 +171,7 @@ static gwb_refusal told(int feature, int64_t far, int64_t size)
         abort();
     gwb_block(&g, 1, -far, -far, -far, 2 * far, 2 * far, 2 * far);
     const enum gwb_kind kind = give(&g, feature, far, size, &why);
-    check(kind == GWB_REFUSED || kind == GWB_IMPOSSIBLE, "a size past all that is in range isn't refused");
+    check(feature == NOTCH && size > 0 ? kind == GWB_OK : kind == GWB_REFUSED || kind == GWB_IMPOSSIBLE, "a size past all that is in range, which a notch goes through");
     gwb_close(&g);
     why.number += kind == GWB_REFUSED ? 1000 : 0;
     return why;

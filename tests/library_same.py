@@ -44,7 +44,10 @@ for at in (1, 2, 3):
               # and features by vectors
               ('part', []), ('block', [1, 0, 0, 0, 20, 20, 10]), ('pocket_along', [1, at, -1, -3, 4, 4, 10, 8, 4, 10, 8, 8, 10, 4, 8, 10]),
               ('pocket_along', [1, at, -1, 3, 9, 9, 10, 10, 9, 10, 9, 10, 10]), ('boss_along', [1, -at, 0, 2, 12, 12, 10, 15, 12, 10, 15, 15, 10]),
-              ('drill_along', [2, 14, 5, 0, 2, 8, at, at, 4])]
+              ('drill_along', [2, 14, 5, 0, 2, 8, at, at, 4]),
+              ('part', []), ('block', [1, 0, 0, 0, 20, 20, 10]), ('shoulder_along', [1, 9, 2, -at, 0, -2]),
+              ('notch_along', [1, at, 0, -3, 4, 4, 10, 8, 4, 10, 4, 8, 10]), ('pad_along', [1, 0, at, 2, 11, 4, 10, 15, 4, 10, 11, 7, 10]),
+              ('slot_along', [2, 0, 14, 0, 20, 14, 0, 2, 0, at, 2]), ('groove_along', [2, 0, 5, 0, 20, 5, 0, 2, 0, at, 2])]
 # Then each cause for which a feature isn't possible.
 SQUARE, SLOPE = [6, 6, 10, 8, 6, 10, 8, 8, 10, 6, 8, 10], [112, -2, 3, 108, -2, 6, 108, -5, 6]
 FIRST += [('part', []), ('block', [1, 0, 0, 0, 10, 10, 10]),
@@ -60,7 +63,12 @@ FIRST += [('part', []), ('block', [1, 0, 0, 0, 10, 10, 10]),
           ('profile', [4, 0, 10, 0, 200, 0, 0, 210, 0, 0, 200, 0, 10]), ('pocket', [32, 2, 208, 2, 2, 206, 2, 4, 206, 5, 4]),
           ('part', []), ('profile', [1, 0, 10, 0, 0, 0, 0, 16, 0, -12, 14, 0, -13, -2, 0, -1]), ('hole', [3, 4, 2, -3, 8, 2, -6, 8, 5, -6]),
           ('polyhedron', [7, 4, 3, 0, 0, 0, 9, 0, 0, 0, 9, 0, 0, 0, 9, 0, 2, 1, 0, 1, 3, 1, 2, 3]),
-          ('polyhedron', [7, 4, 3, 0, 0, 0, 9, 0, 0, 0, 9, 0, 0, 0, 9, 0, 2, 1, 0, 3, 1, 1, 2, 3, 0, 3, 2])]
+          ('polyhedron', [7, 4, 3, 0, 0, 0, 9, 0, 0, 0, 9, 0, 0, 0, 9, 0, 2, 1, 0, 3, 1, 1, 2, 3, 0, 3, 2]),
+          ('part', []), ('block', [1, 0, 0, 0, 10, 10, 2]), ('pad', [1, 3, 4, 0, 2, 7, 3, 2, 1, 3, 2]), ('chamfer_edges', [1, 7, 16]),
+          ('block', [2, 20, 0, 0, 9, 9, 9]), ('chamfer_edges', [1, 7, 32]), ('pocket', [1, 1, 8, 4, 2, 9, 9, 2, 9, 4, 2, 8, 8, 2]),
+          ('part', []), ('profile', [1, 0, 24, 32, 0, 0, 0, 90, 0, 0, 90, 30, 0, 30, 30, 0, 30, 90, 0, 0, 90, 0]), ('chamfer_edges', [20, 3, 4]),
+          ('chamfer_edges', [1, 3, 12]),
+          ('profile', [2, 0, 0, 1000, 200, 0, 0, 400212, 0, 4, 200, 400076, 8]), ('pocket', [10, 2, 100203, 100019, 3, 200206, 100019, 4, 100203, 200038, 5])]
 Point = Tuple[int, int, int]
 # How often each word has to be accepted, so that it is tried.
 LEAST = 3
@@ -230,6 +238,11 @@ _CALLS: Dict[str, Call] = {
     'drill': lambda s, n, w: s.drilled(s.bench.drill(n(), _three(w), n(), n(), depth=n() or None)),
     'notch': lambda s, n, w: s.counted(*s.bench.notch(n(), depth=n(), points=_points(w))),
     'pad': lambda s, n, w: s.counted(*s.bench.pad(n(), height=n(), points=_points(w))),
+    'notch_along': lambda s, n, w: s.counted(*s.bench.notch(n(), along=_three(w), points=_points(w))),
+    'pad_along': lambda s, n, w: s.counted(*s.bench.pad(n(), along=_three(w), points=_points(w))),
+    'slot_along': lambda s, n, w: s.counted(*s.bench.slot(n(), _three(w), _three(w), n(), along=_three(w))),
+    'groove_along': lambda s, n, w: s.counted(*s.bench.groove(n(), _three(w), _three(w), n(), along=_three(w))),
+    'shoulder_along': lambda s, n, w: s.counted(*s.bench.shoulder(n(), n(), n(), along=_three(w))),
     'slot': lambda s, n, w: s.counted(*s.bench.slot(n(), _three(w), _three(w), n(), n())),
     'groove': lambda s, n, w: s.counted(*s.bench.groove(n(), _three(w), _three(w), n(), n())),
     'shoulder': lambda s, n, w: s.counted(*s.bench.shoulder(n(), n(), n(), n())),

@@ -324,6 +324,33 @@ static bool is_strip(const char *word, uint32_t face)
     return true;
 }
 
+static bool is_strip_along(const char *word, uint32_t face)
+{
+    const bool is_slot = strcmp(word, "slot_along") == 0;
+    if (!is_slot && strcmp(word, "groove_along") != 0)
+        return false;
+    const gwb_point start = point(), end = point();
+    const int64_t width = number();
+    const gwb_point along = point();
+    put_lists((is_slot ? gwb_slot_along : gwb_groove_along)(&g, face, &start, &end, width, &along, &why), GWB_MADE_FLOOR, GWB_MADE_WALLS);
+    return true;
+}
+
+static bool is_shaped_along(const char *word, uint32_t face)
+{
+    const bool is_notch = strcmp(word, "notch_along") == 0, is_shoulder = strcmp(word, "shoulder_along") == 0;
+    if (!is_notch && !is_shoulder && strcmp(word, "pad_along") != 0)
+        return is_strip_along(word, face);
+    const uint32_t edge = is_shoulder ? name() : 0;
+    const int64_t width = is_shoulder ? number() : 0;
+    const gwb_point along = point();
+    const size_t n = is_shoulder ? 0 : points();
+    put_lists(is_shoulder ? gwb_shoulder_along(&g, face, edge, width, &along, &why)
+                          : (is_notch ? gwb_notch_along : gwb_pad_along)(&g, face, corners, n, &along, &why),
+              GWB_MADE_FLOOR, GWB_MADE_WALLS);
+    return true;
+}
+
 static void shoulder(uint32_t face)
 {
     const uint32_t edge = name();
@@ -475,7 +502,7 @@ static void give(const char *word)
     if (is_of_session(word))
         return;
     const uint32_t of = name();
-    if (is_of_outline(word, of) || is_along(word, of) || is_strip(word, of) || is_of_solid(word, of) || is_of_plane(word, of))
+    if (is_of_outline(word, of) || is_along(word, of) || is_strip(word, of) || is_shaped_along(word, of) || is_of_solid(word, of) || is_of_plane(word, of))
         return;
     if (strcmp(word, "block") == 0)
         block(of);

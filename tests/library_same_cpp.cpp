@@ -92,7 +92,8 @@ private:
             {"profile", &Given::profile},   {"ring", &Given::ring},       {"pocket", &Given::pocket},     {"boss", &Given::boss},
             {"pocket_along", &Given::pocket_along}, {"boss_along", &Given::boss_along}, {"drill_along", &Given::drill_along},
             {"hole", &Given::hole},         {"drill", &Given::drill},     {"notch", &Given::notch},       {"slot", &Given::slot},
-            {"pad", &Given::pad},
+            {"pad", &Given::pad},           {"notch_along", &Given::notch_along}, {"pad_along", &Given::pad_along},
+            {"slot_along", &Given::slot_along}, {"groove_along", &Given::groove_along}, {"shoulder_along", &Given::shoulder_along},
             {"groove", &Given::groove},     {"shoulder", &Given::shoulder}, {"chamfer", &Given::chamfer}, {"kill", &Given::kill},
             {"copy", &Given::copy},         {"move", &Given::move},       {"pattern", &Given::pattern},   {"scale", &Given::scale},
             {"glue_all", &Given::glue_all}, {"split", &Given::split},     {"off_lattice", &Given::off_lattice}, {"cut", &Given::cut},
@@ -280,10 +281,47 @@ private:
     {
         const Face face = words.name<Face>();
         const std::int64_t height = words.number();
-        if (const Result<Pad> made = gwb_session::pad(*attempt_, face, words.points(), height); is_well(made)) {
+        put_pad(gwb_session::pad(*attempt_, face, words.points(), height));
+    }
+    static void put_pad(const Result<Pad> &made)
+    {
+        if (is_well(made)) {
             put_counted(made->top);
             put_counted(made->walls);
         }
+    }
+    void notch_along(Words &words)
+    {
+        const auto face = words.name<Face>();
+        const Point along = words.point();
+        put_notch(gwb_session::notch_along(*attempt_, face, words.points(), along));
+    }
+    void pad_along(Words &words)
+    {
+        const auto face = words.name<Face>();
+        const Point along = words.point();
+        put_pad(gwb_session::pad_along(*attempt_, face, words.points(), along));
+    }
+    void slot_along(Words &words)
+    {
+        const auto face = words.name<Face>();
+        const Point start = words.point(), end = words.point();
+        const std::int64_t width = words.number();
+        put_notch(gwb_session::slot_along(*attempt_, face, start, end, width, words.point()));
+    }
+    void groove_along(Words &words)
+    {
+        const auto face = words.name<Face>();
+        const Point start = words.point(), end = words.point();
+        const std::int64_t width = words.number();
+        put_notch(gwb_session::groove_along(*attempt_, face, start, end, width, words.point()));
+    }
+    void shoulder_along(Words &words)
+    {
+        const auto face = words.name<Face>();
+        const auto edge = words.name<Edge>();
+        const std::int64_t width = words.number();
+        put_notch(gwb_session::shoulder_along(*attempt_, face, edge, width, words.point()));
     }
     void slot(Words &words)
     {

@@ -156,6 +156,17 @@ macro_rules! made {
             }
             "slot" => bench.slot(words.name(), words.point(), words.point(), words.number(), words.number()).map(|made| notch(&made)),
             "groove" => bench.groove(words.name(), words.point(), words.point(), words.number(), words.number()).map(|made| notch(&made)),
+            "notch_along" => {
+                let (face, along) = (words.name(), words.point());
+                bench.notch_along(face, &words.points(), along).map(|made| notch(&made))
+            }
+            "pad_along" => {
+                let (face, along) = (words.name(), words.point());
+                bench.pad_along(face, &words.points(), along).map(|made| counted(&made.top) + &counted(&made.walls))
+            }
+            "slot_along" => bench.slot_along(words.name(), words.point(), words.point(), words.number(), words.point()).map(|made| notch(&made)),
+            "groove_along" => bench.groove_along(words.name(), words.point(), words.point(), words.number(), words.point()).map(|made| notch(&made)),
+            "shoulder_along" => bench.shoulder_along(words.name(), words.name(), words.number(), words.point()).map(|made| notch(&made)),
             "shoulder" => bench.shoulder(words.name(), words.name(), words.number(), words.number()).map(|made| notch(&made)),
             "chamfer" => bench.chamfer(words.name(), words.number(), words.number()).map(|made| told(&[made])),
             "kill" => bench.kill_solid(words.name()).map(|()| String::new()),

@@ -23,15 +23,17 @@ PYTHON_CLASSES = 'companions/gwb/session'
 
 # A list in C is followed by its length, whose name this is; the sides of a drill are so many, as `sides` are those that it makes.
 C_LENGTHS = {'n', 'room', 'faces'}
+# Features that take a vector in place of a length: in Python by an argument.
+BY_VECTORS = ('pocket', 'boss', 'drill', 'notch', 'pad', 'slot', 'groove', 'shoulder')
 C_NAMES = {('drill', 'n'): 'sides', ('drill_along', 'n'): 'sides'}
 CPP_CALLS = {'unite': 'union'}
 # Python's names, where they are others, and then the arguments too; what it takes by name besides; and arguments that it has otherwise.
 PYTHON_CALLS = {'kill_solid': ('delete',), 'move_solid': ('move', 'turn', 'mirror'), 'copy_solid': ('copy',), 'split_solid': ('split',),
-                'find_faces': ('faces',), 'find_edges': ('edges',), **{f'{name}_along': (name,) for name in ('pocket', 'boss', 'drill')}}
+                'find_faces': ('faces',), 'find_edges': ('edges',), **{f'{name}_along': (name,) for name in BY_VECTORS}}
 PYTHON_BESIDES = {'solid', 'top', 'above', 'keep', 'scale', 'refine', 'diameter', 'circle', 'within', 'times', 'to'}
 PYTHON_ARGUMENTS: Dict[Tuple[str, str], Arguments] = {
     ('pattern_around', 'degrees'): ('quarters',), ('polyhedron', 'faces'): ('corners', 'sizes'),
-    **{(name, 'along'): () for name in ('pocket', 'boss', 'drill')}}
+    **{(name, 'along'): () for name in BY_VECTORS}}
 # The solid that is made, which Python chooses, and how many planes are sought, which it doesn't ask.
 PYTHON_LEFT_OUT = {('profile', 'solid'), ('polyhedron', 'solid'), ('cut', 'above'), ('off_lattice', 'most')}
 # What comes back as the same structure in C++, Rust and Python, and a word of Rust.

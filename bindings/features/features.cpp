@@ -202,6 +202,12 @@ template <class Make> gwb_kind listed(gwb *g, gwb_list first, gwb_refusal *why, 
     });
 }
 
+/// The same of what makes a floor and walls at a face.
+template <class Make> gwb_kind shaped(gwb *g, std::uint32_t face, gwb_refusal *why, Make make)
+{
+    return listed(g, GWB_MADE_FLOOR, why, [&](Bench &bench) { return make(bench, given<Face>(face)); });
+}
+
 /// A row of solids, each as its place in it makes the model.
 template <class Place>
 gwb_kind row_of(bool is_call, gwb *g, std::uint32_t solid, std::uint32_t count, Place place, std::uint32_t *solids, gwb_refusal *why)
@@ -491,45 +497,87 @@ gwb_kind gwb_drill_along(gwb *g, uint32_t face, const gwb_point *center, int64_t
 
 gwb_kind gwb_notch(gwb *g, uint32_t face, const gwb_point *points, size_t n, int64_t depth, gwb_refusal *why)
 {
-    return listed(g, GWB_MADE_FLOOR, why, [&](Bench &bench) { return shaping::make_notch(bench, given<Face>(face), {points, n}, depth); });
+    return shaped(g, face, why, [&](Bench &bench, Face at) { return shaping::make_notch(bench, at, {points, n}, machining::sizes_of(depth)[0]); });
+}
+
+gwb_kind gwb_notch_along(gwb *g, uint32_t face, const gwb_point *points, size_t n, const gwb_point *along, gwb_refusal *why)
+{
+    return shaped(g, face, why, [&](Bench &bench, Face at) { return shaping::make_notch(bench, at, {points, n}, *along); });
 }
 
 gwb_kind gwb_pad(gwb *g, uint32_t face, const gwb_point *points, size_t n, int64_t height, gwb_refusal *why)
 {
-    return listed(g, GWB_MADE_FLOOR, why, [&](Bench &bench) { return shaping::make_pad(bench, given<Face>(face), {points, n}, height); });
+    return shaped(g, face, why, [&](Bench &bench, Face at) { return shaping::make_pad(bench, at, {points, n}, machining::sizes_of(height)[0]); });
+}
+
+gwb_kind gwb_pad_along(gwb *g, uint32_t face, const gwb_point *points, size_t n, const gwb_point *along, gwb_refusal *why)
+{
+    return shaped(g, face, why, [&](Bench &bench, Face at) { return shaping::make_pad(bench, at, {points, n}, *along); });
 }
 
 gwb_kind gwb_slot(gwb *g, uint32_t face, const gwb_point *start, const gwb_point *end, int64_t width, int64_t depth, gwb_refusal *why)
 {
-    return listed(g, GWB_MADE_FLOOR, why, [&](Bench &bench) {
-        return shaping::make_slot(bench, given<Face>(face), {*start, *end}, width, depth);
+    return shaped(g, face, why, [&](Bench &bench, Face at) {
+        const auto [across, down] = machining::sizes_of(width, depth);
+        return shaping::make_slot(bench, at, {*start, *end}, across, down);
+    });
+}
+
+gwb_kind gwb_slot_along(gwb *g, uint32_t face, const gwb_point *start, const gwb_point *end, int64_t width, const gwb_point *along, gwb_refusal *why)
+{
+    return shaped(g, face, why, [&](Bench &bench, Face at) {
+        return shaping::make_slot(bench, at, {*start, *end}, machining::sizes_of(width)[0], *along);
     });
 }
 
 gwb_kind gwb_groove(gwb *g, uint32_t face, const gwb_point *start, const gwb_point *end, int64_t width, int64_t depth, gwb_refusal *why)
 {
-    return listed(g, GWB_MADE_FLOOR, why, [&](Bench &bench) {
-        return shaping::make_groove(bench, given<Face>(face), {*start, *end}, width, depth);
+    return shaped(g, face, why, [&](Bench &bench, Face at) {
+        const auto [across, down] = machining::sizes_of(width, depth);
+        return shaping::make_groove(bench, at, {*start, *end}, across, down);
+    });
+}
+
+gwb_kind gwb_groove_along(gwb *g, uint32_t face, const gwb_point *start, const gwb_point *end, int64_t width, const gwb_point *along, gwb_refusal *why)
+{
+    return shaped(g, face, why, [&](Bench &bench, Face at) {
+        return shaping::make_groove(bench, at, {*start, *end}, machining::sizes_of(width)[0], *along);
     });
 }
 
 gwb_kind gwb_shoulder(gwb *g, uint32_t face, uint32_t edge, int64_t width, int64_t depth, gwb_refusal *why)
 {
-    return listed(g, GWB_MADE_FLOOR, why, [&](Bench &bench) {
-        return shaping::make_shoulder(bench, given<Face>(face), given<Edge>(edge), width, depth);
+    return shaped(g, face, why, [&](Bench &bench, Face at) {
+        const Edge beside = given<Edge>(edge);
+        const auto [across, down] = machining::sizes_of(width, depth);
+        return shaping::make_shoulder(bench, at, beside, across, down);
+    });
+}
+
+gwb_kind gwb_shoulder_along(gwb *g, uint32_t face, uint32_t edge, int64_t width, const gwb_point *along, gwb_refusal *why)
+{
+    return shaped(g, face, why, [&](Bench &bench, Face at) {
+        const Edge beside = given<Edge>(edge);
+        return shaping::make_shoulder(bench, at, beside, machining::sizes_of(width)[0], *along);
     });
 }
 
 gwb_kind gwb_chamfer(gwb *g, uint32_t edge, int64_t width, int64_t other, uint32_t *face, gwb_refusal *why)
 {
-    return made(g, why, [&](Bench &bench, Lists &) { put(shaping::make_chamfers(bench, {given<Edge>(edge)}, width, other), face); });
+    return made(g, why, [&](Bench &bench, Lists &) {
+        const Edge at = given<Edge>(edge);
+        const auto [near, far] = machining::sizes_of(width, other);
+        put(shaping::make_chamfers(bench, {at}, near, far), face);
+    });
 }
 
 gwb_kind gwb_chamfer_edges(gwb *g, const uint32_t *edges, size_t n, int64_t width, uint32_t *faces, gwb_refusal *why)
 {
     return made_if(n != 0, g, why, [&](Bench &bench, Lists &) {
         require_different(edges, n);
-        put(shaping::make_chamfers(bench, all_given<Edge>(edges, n), width, width), faces);
+        const std::vector<Edge> all = all_given<Edge>(edges, n);
+        const auto [across] = machining::sizes_of(width);
+        put(shaping::make_chamfers(bench, all, across, across), faces);
     });
 }
 

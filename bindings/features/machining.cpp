@@ -4,28 +4,22 @@ namespace gwb_session::machining {
 
 namespace {
 
-/// The whole vector of this length along such a normal of a face. Not possible where there is none in range: OffLattice.
-Vector steps_along(Face face, const Vector &across, std::int64_t length)
+/// How long a normal is that is as short as it can be: 0 where that isn't whole, or no whole vector along it is in range.
+Wide whole_length(const Vector &across)
 {
-    const Wide root = whole_length(across);
-    if (root == 0)
-        throw impossible(Misfit::off_lattice, face.number(), met(GWB_CAUSE_NO_SCALE));
-    if (length % root != 0)
-        throw impossible(Misfit::off_lattice, face.number(), met_factor(GWB_CAUSE_DEPTH_FRACTION, root / greatest_divisor(root, length)));
-    return times(across, length / root);
+    const Wide square = longest(across) <= 2 * farthest ? dot(across, across) : 0;
+    Wide root = 0;
+    for (Wide bit = Wide{1} << 62; bit != 0; bit >>= 1)
+        root += (root + bit) * (root + bit) <= square ? bit : 0;
+    return root * root == square ? root : 0;
 }
 
-/// The vector by which a feature goes into the solid of a face, or out of it. Not possible: OffLattice; AlongPlane, where a vector lies in the face or goes
-/// the other way.
+/// The vector by which a feature goes into the solid of a face, or out of it. Not possible: OffLattice; AlongPlane.
 Vector way_of(Face face, const Vector &across, const Reach &reach, bool is_out)
 {
     if (const Size *length = std::get_if<Size>(&reach))
-        return steps_along(face, across, is_out ? length->length() : -length->length());
-    const Vector way = vector(std::get<Point>(reach));
-    require(longest(across) <= 2 * farthest, impossible(Misfit::off_lattice, face.number()));
-    require(longest(way) <= 2 * farthest, refused(GWB_WHY_POINT_RANGE, 0));
-    require(sign(dot(across, way)) == (is_out ? 1 : -1), impossible(Misfit::along_plane, face.number()));
-    return way;
+        return steps(across, is_out ? length->length() : -length->length(), of_depth, 1, face.number());
+    return way_along(face, across, std::get<Point>(reach), is_out);
 }
 
 // ---- what is met
@@ -88,17 +82,24 @@ void require_room(const Bench &bench, const Surface &surface, const Vector &acro
         throw impossible(Misfit::meets, face.number(), met_by(surface, beyond(bench, edge->half, face), path, far));
 }
 
+/// The faces that a ray from a point of a face comes to on its way to an end, by how many times as far as the ray is long.
+std::map<ScaledPoint, Face> faces_behind(const Bench &bench, const Surface &surface, Face face, const Vector &start, const Vector &ray, const Vector &end)
+{
+    std::map<ScaledPoint, Face> behind;
+    for (const auto &[other, loops] : surface.near(bench, Box::between(start, end))) {
+        const Plane *plane = other != face ? surface.plane(other) : nullptr;
+        if (plane != nullptr && surface.shape(other, loops).hit({start}, ray) != Place::outside)
+            behind.emplace(on_way({}, {1, 0, 0}, magnitude(plane->height(start)), magnitude(dot(plane->across, ray))), other);
+    }
+    return behind;
+}
+
 /// The face that a ray from a point of a face goes out through, which is parallel, and the way to it.
 std::pair<Face, Vector> opposite(const Bench &bench, const Surface &surface, Face face, const Vector &across, const Vector &start)
 {
-    require(longest(across) <= 2 * farthest, impossible(Misfit::off_lattice, face.number()));
+    require(longest(across) <= 2 * farthest, impossible(Misfit::off_lattice, face.number(), met(GWB_CAUSE_PAST_RANGE)));
     const Vector back = negative(across);
-    std::map<ScaledPoint, Face> behind; // by how many times as far as the normal is long
-    for (const auto &[other, loops] : surface.near(bench, Box::between(start, add(start, times(back, 2 * farthest))))) {
-        const Plane *plane = other != face ? surface.plane(other) : nullptr;
-        if (plane != nullptr && surface.shape(other, loops).hit({start}, back) != Place::outside)
-            behind.emplace(on_way({}, {1, 0, 0}, magnitude(plane->height(start)), magnitude(dot(plane->across, back))), other);
-    }
+    const auto behind = faces_behind(bench, surface, face, start, back, add(start, times(back, 2 * farthest)));
     require(!behind.empty(), impossible(Misfit::no_opposite, face.number()));
     const auto &[way, nearest] = *behind.begin();
     require(are_parallel(surface.plane(nearest)->across, back), impossible(Misfit::not_parallel, nearest.number()));
@@ -174,15 +175,37 @@ Pocket move_outline(Bench &bench, Face face, const Drawing &drawn, const Vector 
     return Pocket{other != Face() ? other : ring.face, ring.loop, drawn.is_turned() ? backwards(sides) : sides};
 }
 
+/// A pocket that leaves the range comes through the solid, which lies in it: by what.
+gwb_hit_row met_on_way_out(const Bench &bench, const Drawing &drawn, Face face, const Vector &way)
+{
+    const auto out = std::find_if(drawn.path.begin(), drawn.path.end(), [&](const Vector &at) { return !is_in_range(add(at, way)); });
+    const auto behind = faces_behind(bench, drawn.known.surface(bench, drawn.solid), face, *out, way, add(*out, way));
+    return behind.empty() ? met(GWB_CAUSE_COMES_THROUGH) : met(GWB_CAUSE_COMES_THROUGH, behind.begin()->second);
+}
+
 } // namespace
 
-Wide whole_length(const Vector &across)
+Vector steps(const Vector &across, Wide length, const Causes &causes, Wide parts, std::optional<std::uint32_t> value)
 {
-    const Wide square = longest(across) <= 2 * farthest ? dot(across, across) : 0;
-    Wide root = 0;
-    for (Wide bit = Wide{1} << 62; bit != 0; bit >>= 1)
-        root += (root + bit) * (root + bit) <= square ? bit : 0;
-    return root * root == square ? root : 0;
+    const Wide unit = parts * whole_length(across);
+    const auto refuse = [&](const gwb_hit_row &hit) { throw impossible(Misfit::off_lattice, value.value_or(hit.number), hit); };
+    if (longest(across) > 2 * farthest)
+        refuse(met(GWB_CAUSE_PAST_RANGE));
+    if (unit == 0)
+        refuse(met(causes.irrational));
+    if (length % unit != 0)
+        refuse(met_factor(causes.fraction, unit / greatest_divisor(length, unit)));
+    return times(across, length / unit);
+}
+
+Vector way_along(Face face, const Vector &across, const Point &along, bool is_out)
+{
+    const Vector way = vector(along);
+    require(longest(way) <= 2 * farthest, refused(GWB_WHY_POINT_RANGE, 0));
+    const int side = sign(dot(across, way));
+    require(side != 0, impossible(Misfit::along_plane, face.number(), met(GWB_CAUSE_LIES_IN_PLANE)));
+    require(side == (is_out ? 1 : -1), impossible(Misfit::along_plane, face.number(), met(GWB_CAUSE_WRONG_SIDE)));
+    return way;
 }
 
 Profile make_profile(Bench &bench, Solid solid, Items<Point> points, Point along)
@@ -192,7 +215,7 @@ Profile make_profile(Bench &bench, Solid solid, Items<Point> points, Point along
     const Vector way = vector(along);
     require(longest(way) <= 2 * farthest, refused(GWB_WHY_POINT_RANGE, 0));
     const int side = sign(dot(across, way));
-    require(side != 0, impossible(Misfit::along_plane, 0));
+    require(side != 0, impossible(Misfit::along_plane, 0, met(GWB_CAUSE_LIES_IN_PLANE)));
     // two faces back to back, of which the one moves to where the points run counterclockwise
     const Path drawn = side > 0 ? path : turned(path);
     const Face far = bench.next_free<Face>();
@@ -224,7 +247,8 @@ Pocket make_raised(Bench &bench, Face face, Items<Point> points, const Reach &re
 {
     const Drawing drawn(bench, face, points);
     const Vector way = way_of(face, drawn.across, reach, is_boss);
-    require(all(moved(drawn.path, way), is_in_range), is_boss ? refused(GWB_WHY_POINT_RANGE, 0) : impossible(Misfit::meets, face.number()));
+    if (!all(moved(drawn.path, way), is_in_range))
+        throw is_boss ? refused(GWB_WHY_POINT_RANGE, 0) : impossible(Misfit::meets, face.number(), met_on_way_out(bench, drawn, face, way));
     return move_outline(bench, face, drawn, way);
 }
 

@@ -36,8 +36,19 @@ template <class... Given> std::array<Size, sizeof...(Given)> sizes_of(Given... g
 /// How a feature goes from its face: so far along the normal, or by a vector.
 using Reach = std::variant<Size, Point>;
 
-/// How long a normal is that is as short as it can be: 0 where that isn't whole, or no whole vector along it is in range.
-Wide whole_length(const Vector &across);
+/// What a whole vector is for: the causes where a finer lattice has one, and where none has.
+struct Causes {
+    gwb_cause fraction, irrational;
+};
+constexpr Causes of_depth = {GWB_CAUSE_DEPTH_FRACTION, GWB_CAUSE_NO_SCALE}, of_width = {GWB_CAUSE_WIDTH_FRACTION, GWB_CAUSE_NO_WIDTH_SCALE};
+
+/// The whole vector along a normal that is as short as it can be, as long as a length or a part of it. Not possible where there is none in range: OffLattice,
+/// with the value, or where that isn't given with the factor.
+Vector steps(const Vector &across, Wide length, const Causes &causes, Wide parts = 1, std::optional<std::uint32_t> value = {});
+
+/// The vector of the caller by which a feature goes into the solid of a face, or out of it. Not possible: AlongPlane, where it lies in the face or goes the
+/// other way.
+Vector way_along(Face face, const Vector &across, const Point &along, bool is_out);
 
 // ---- what is drawn and moved
 

@@ -9,13 +9,15 @@ using namespace exact;
 using exact::box_of;
 using Path = std::vector<Vector>;
 
-/// What was met: the cause alone, with a thing, with a place in what was given, or with the factor that helps, which is left out where it is too great.
+/// What was met: the cause alone, with a thing, with a place in what was given, or with the factor that helps.
 inline gwb_hit_row met(gwb_cause cause) { return {static_cast<std::uint32_t>(cause), 0, 0, {}, {}}; }
 template <gwb_entity Kind> gwb_hit_row met(gwb_cause cause, Id<Kind> thing) { return {static_cast<std::uint32_t>(cause), Kind, thing.number(), {}, {}}; }
 inline gwb_hit_row met_place(gwb_cause cause, std::uint32_t place) { return {static_cast<std::uint32_t>(cause), GWB_HIT_PLACE, place, {}, {}}; }
 inline gwb_hit_row met_factor(gwb_cause cause, Wide factor)
 {
-    return {static_cast<std::uint32_t>(cause), GWB_HIT_FACTOR, factor <= UINT32_MAX ? static_cast<std::uint32_t>(factor) : 0, {}, {}};
+    if (factor > UINT32_MAX) // by which no corner but the origin stays in range
+        return met(GWB_CAUSE_PAST_RANGE);
+    return {static_cast<std::uint32_t>(cause), GWB_HIT_FACTOR, static_cast<std::uint32_t>(factor), {}, {}};
 }
 /// Why a feature isn't possible, with its value and what was met.
 inline Failure impossible(Misfit why, std::uint32_t value, const gwb_hit_row &hit = {}) { return {Problem::impossible, static_cast<std::uint32_t>(why), value, hit}; }

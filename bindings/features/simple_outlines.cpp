@@ -98,8 +98,9 @@ void require_simple(const Cycle &sides, Axes axes)
     for (std::size_t at = 0; at < sides.size(); at++) {
         go_on();
         const auto beyond = boxes.meeting(box_of(sides[at]));
-        require(!any(beyond, [&](std::size_t other) { return other > at && clash(sides[at], sides[other], axes); }),
-                impossible(Misfit::outline_crossed, place(at)));
+        const auto met_side = std::find_if(beyond.begin(), beyond.end(), [&](std::size_t other) { return other > at && clash(sides[at], sides[other], axes); });
+        if (met_side != beyond.end())
+            throw impossible(Misfit::outline_crossed, place(at), met_place(GWB_CAUSE_SIDES_MEET, place(*met_side)));
     }
 }
 

@@ -10,7 +10,7 @@ using Ends = std::pair<Vector, Vector>;
 /// Numbers of faces and edges from here on are a tool's, and the model's none.
 constexpr std::uint32_t own = greatest_number + 1;
 
-/// Gives sides half-edges: two that run along each other are of one edge, those of one part before others.
+/// Gives the sides of parts half-edges: two of a part that run along each other are of one edge.
 class Numbering {
 public:
     void put(const std::vector<Cycle *> &part)
@@ -19,8 +19,6 @@ public:
         for (Cycle *cycle : part)
             for (Side &side : *cycle)
                 pair(side, open);
-        for (const auto &[ends, side] : open)
-            pair(*side, open_);
     }
 
 private:
@@ -36,42 +34,49 @@ private:
         open.erase(mate);
     }
 
-    std::multimap<Ends, Side *> open_; ///< of all parts
     std::uint32_t edges_ = 0;
 };
 
-/// The faces of a tool as sheets, with numbers of their own; seen from inside where it cuts.
-std::vector<Sheet> sheets_of(const Tool &tool)
+/// The sides of an outline. Refused: PointRange.
+Cycle sides_of(const Path &outline)
 {
-    std::vector<Cycle> cycles = mapped(tool, [](const Wall &wall) {
-        require(all(wall.path, is_in_range), refused(GWB_WHY_POINT_RANGE, 0));
-        return filtered(cycle_of(wall.path), [](const Side &side) { return side.start != side.end; }); // (points may stand for others too)
-    });
+    require(all(outline, is_in_range), refused(GWB_WHY_POINT_RANGE, 0));
+    return filtered(cycle_of(outline), [](const Side &side) { return side.start != side.end; }); // (points may stand for others too)
+}
+/// A face with these sides. Refused: NotFlat.
+Sheet sheet_of(const Cycle &cycle, Face number)
+{
+    const Sheet made{Shape({cycle}), {number}, {}};
+    require(made.is_flat() && longest(made.plane.across) <= steepest, refused(GWB_WHY_NOT_FLAT, 0));
+    return made;
+}
+
+/// The parts of a tool as sheets with numbers of their own.
+std::vector<std::vector<Sheet>> sheets_of_parts(const Tool &tool)
+{
+    std::vector<Cycle> cycles = mapped(tool, [](const Wall &wall) { return sides_of(wall.path); });
     std::map<std::size_t, std::vector<Cycle *>> parts;
     for (std::size_t at = 0; at < tool.size(); at++)
         parts[tool[at].part].push_back(&cycles[at]);
     Numbering numbering;
     for (const auto &[part, of_part] : parts)
         numbering.put(of_part);
-    std::vector<Sheet> sheets;
-    for (const Cycle &cycle : cycles) {
-        sheets.push_back({Shape({cycle}), {Face(own + static_cast<std::uint32_t>(sheets.size()))}, {}});
-        require(sheets.back().is_flat() && longest(sheets.back().plane.across) <= steepest, refused(GWB_WHY_NOT_FLAT, 0));
-    }
+    std::vector<std::vector<Sheet>> sheets(parts.size());
+    for (std::size_t at = 0; at < tool.size(); at++)
+        sheets[tool[at].part].push_back(sheet_of(cycles[at], Face(own + static_cast<std::uint32_t>(at))));
     return sheets;
 }
 
-/// Whether lids in the plane of a face lie in it: somewhere, or everywhere.
-bool lie_in_face(const Bench &bench, Face face, const std::vector<Sheet> &lids, Lies lies)
+/// Whether a lid in the plane of a face lies in it: somewhere, or everywhere.
+bool lies_in_face(const Bench &bench, Face face, const Sheet &lid, Lies lies)
 {
     const Surface &surface = Surroundings::of(bench).surface(bench, bench.face(face).solid);
-    const Box box = box_of(lids);
-    const auto near = mapped(surface.near(bench, box)[face], [&](Loop loop) { return surface.chain(loop).near(box); }); // (which has their runs)
+    const auto near = mapped(surface.near(bench, lid.box)[face], [&](Loop loop) { return surface.chain(loop).near(lid.box); }); // (which has their runs)
     if (near.empty())
         return false;
     const Shape shape(*surface.plane(face), mapped(near, [](const Chain::Near &loop) { return loop.sides; }));
-    const std::vector<std::vector<Sheet>> both = {{{shape, {face}, {}}}, lids};
-    const bool are_turned = both[0][0].plane.across != lids[0].plane.across;
+    const std::vector<std::vector<Sheet>> both = {{{shape, {face}, {}}}, {lid}};
+    const bool are_turned = both[0][0].plane.across != lid.plane.across;
     operands::Operands all(both); // (which points to them)
     pieces::Pieces pieces(all);
     const meeting::Meetings meetings = meeting::meet(all);
@@ -88,16 +93,6 @@ bool lie_in_face(const Bench &bench, Face face, const std::vector<Sheet> &lids, 
                 (has(0, is_left != are_turned) ? is_in : is_off) = true;
         }
     return lies == Lies::everywhere ? !is_off : is_in;
-}
-
-void require_lids(const Bench &bench, const Tool &tool, const std::vector<Sheet> &sheets, Lies lies)
-{
-    std::map<Face, std::vector<Sheet>> lids;
-    for (std::size_t at = 0; at < tool.size(); at++)
-        if (tool[at].lid_of != Face())
-            lids[tool[at].lid_of].push_back(sheets[at]);
-    for (const auto &[face, in_face] : lids)
-        require(lie_in_face(bench, face, in_face, lies), impossible(Misfit::outline_outside, face.number()));
 }
 
 /// Takes the tool's numbers off a region, and puts the marks in their place.
@@ -118,19 +113,38 @@ void put_marks(Sheet &region, const Tool &tool)
 
 } // namespace
 
-Combined change(Bench &bench, Operation operation, Face face, const Tool &tool, Lies lies)
+void require_near(const Bench &bench, Face face, Box box, Wide around)
 {
-    const std::vector<Sheet> added = sheets_of(tool);
-    require_lids(bench, tool, added, lies);
+    const Vector margin = {around, around, around};
+    box = {subtract(box.low, margin), add(box.high, margin)};
+    const Surface &surface = Surroundings::of(bench).surface(bench, bench.face(face).solid);
+    require(!surface.near(bench, box)[face].empty(), impossible(Misfit::outline_outside, face.number(), met(GWB_CAUSE_WHOLLY_OUTSIDE)));
+}
+
+void require_lid(const Bench &bench, Face face, const Path &outline, Lies lies, const gwb_hit_row &hit)
+{
+    Cycle sides = sides_of(outline);
+    for (std::size_t at = 0; at < sides.size(); at++)
+        sides[at].half = HalfEdge(2 * (own + static_cast<std::uint32_t>(at)));
+    const Sheet lid = sheet_of(sides, Face(own));
+    require(lies_in_face(bench, face, lid, lies), impossible(Misfit::outline_outside, face.number(), hit));
+}
+
+Combined change(Bench &bench, Operation operation, Face face, const Tool &tool)
+{
+    std::vector<std::vector<Sheet>> operands = sheets_of_parts(tool);
+    const Box box = box_of(joined(operands));
+    operands.insert(operands.begin(), std::vector<Sheet>());
     const Solid solid = bench.face(face).solid;
-    const Failure meets = impossible(Misfit::meets, face.number());
+    const Failure meets = impossible(Misfit::meets, face.number(), met(GWB_CAUSE_SELF_TOUCH, solid));
     const auto lay = [&](const std::vector<Sheet> &held) {
-        std::vector<Sheet> regions = laid(bench, operation, solid, {held, added}, meets);
+        operands[0] = held;
+        std::vector<Sheet> regions = laid(bench, operation, solid, operands, meets);
         for (Sheet &region : regions)
             put_marks(region, tool);
         return regions;
     };
-    return make_near(bench, solid, box_of(added), {}, meets, lay);
+    return make_near(bench, solid, box, {}, meets, lay);
 }
 
 } // namespace gwb_session::tools

@@ -9,21 +9,25 @@ using namespace booleans;
 /// No faces are told that it becomes.
 constexpr std::size_t unmarked = SIZE_MAX;
 
-/// A face of a tool, seen from outside: the mark by which the faces are told that it becomes, and the face of the solid in whose plane it is a lid.
+/// A face of a tool, seen from outside, and the mark by which the faces are told that it becomes.
 struct Wall {
     Path path;
     std::size_t mark = unmarked;
-    Face lid_of = Face();
-    std::size_t part = 0; ///< of the tool, which closes, or is open where it goes on in others
+    std::size_t part = 0; ///< of the tool: each closes
 };
 
 using Tool = std::vector<Wall>;
 
-/// How much of the lids in a face has to lie in it.
+/// How much of what an outline in the plane of a face goes round has to lie in the face.
 enum class Lies { somewhere, everywhere };
 
-/// A solid becomes what is made of it and a tool. Refused: PointRange; NotFlat. Not possible: OutlineOutside: too little of the lids in a face lies in it;
-/// OffLattice, with the factor; Meets, with the face; NothingLeft.
-Combined change(Bench &bench, Operation operation, Face face, const Tool &tool, Lies lies);
+/// Refuses what lies in a box and so far around it where nothing of a face does: OutlineOutside.
+void require_near(const Bench &bench, Face face, Box box, Wide around);
+/// Refuses an outline in the plane of a face of which too little lies in it: OutlineOutside, with what was met; PointRange.
+void require_lid(const Bench &bench, Face face, const Path &outline, Lies lies, const gwb_hit_row &hit);
+
+/// A solid becomes what is made of it and the parts of a tool, which may have room in common. Refused: PointRange; NotFlat. Not possible: OffLattice, with
+/// the factor; Meets, with the face; NothingLeft.
+Combined change(Bench &bench, Operation operation, Face face, const Tool &tool);
 
 } // namespace gwb_session::tools

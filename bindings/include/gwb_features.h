@@ -202,6 +202,15 @@ enum gwb_kind gwb_groove(gwb *g, uint32_t face, const gwb_point *start, const gw
 /** A step along an edge of the face: the strip begins at the edge, and ends at the line at its width from it, between the sides beside the edge, whose
  * lines go on where they are shorter; square where they run outwards. Refused besides: NoEdge. Not possible besides: NOT_OF_FACE. */
 enum gwb_kind gwb_shoulder(gwb *g, uint32_t face, uint32_t edge, int64_t width, int64_t depth, gwb_refusal *why);
+/** Notch, pad, slot, groove and shoulder by a vector, which may lean, in place of a length: into the solid, of a pad out of it. Not possible besides:
+ * ALONG_PLANE, with the face, where the vector lies in it or points the other way. */
+enum gwb_kind gwb_notch_along(gwb *g, uint32_t face, const gwb_point *points, size_t n, const gwb_point *along, gwb_refusal *why);
+enum gwb_kind gwb_pad_along(gwb *g, uint32_t face, const gwb_point *points, size_t n, const gwb_point *along, gwb_refusal *why);
+enum gwb_kind gwb_slot_along(gwb *g, uint32_t face, const gwb_point *start, const gwb_point *end, int64_t width, const gwb_point *along,
+                             gwb_refusal *why);
+enum gwb_kind gwb_groove_along(gwb *g, uint32_t face, const gwb_point *start, const gwb_point *end, int64_t width, const gwb_point *along,
+                               gwb_refusal *why);
+enum gwb_kind gwb_shoulder_along(gwb *g, uint32_t face, uint32_t edge, int64_t width, const gwb_point *along, gwb_refusal *why);
 /** The edge becomes a slope between two such strips in its faces: `width` in the face of its first half-edge and `other` in the other one. At an edge whose
  * faces bend inwards the room is filled. Refused: NoEdge. Not possible besides: FLAT_EDGE. */
 enum gwb_kind gwb_chamfer(gwb *g, uint32_t edge, int64_t width, int64_t other, uint32_t *face, gwb_refusal *why);

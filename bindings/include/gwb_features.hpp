@@ -84,6 +84,14 @@ template <class Policy, class Call, class... All> auto notch(Commands<Policy> &b
     return bench.feature(command, call, made, face.number(), arguments...);
 }
 
+/// A pad, by a height or a vector.
+template <class Policy, class Call, class To>
+Answer<Policy, Pad> pad(Commands<Policy> &bench, const char *command, Call call, Face face, Items<Point> points, To reach)
+{
+    const auto made = [&] { return Pad{faces(bench.handle(), GWB_MADE_FLOOR), faces(bench.handle(), GWB_MADE_WALLS)}; };
+    return bench.feature(command, call, made, face.number(), points.data(), points.size(), reach);
+}
+
 /// A split or a cut; where no number is given for the solid above, it takes the next one.
 template <class Policy, class Call>
 Answer<Policy, Split> split(Commands<Policy> &bench, const char *command, Call call, Solid solid, const gwb_cut_plane &plane, std::optional<Solid> above)
@@ -390,8 +398,7 @@ template <class Policy> Answer<Policy, Notch> notch(Commands<Policy> &bench, Fac
 /// The prism above such an outline is put on, also over an edge of the face.
 template <class Policy> Answer<Policy, Pad> pad(Commands<Policy> &bench, Face face, Items<Point> points, std::int64_t height)
 {
-    const auto made = [&] { return Pad{features::faces(bench.handle(), GWB_MADE_FLOOR), features::faces(bench.handle(), GWB_MADE_WALLS)}; };
-    return bench.feature("pad", gwb_pad, made, face.number(), points.data(), points.size(), height);
+    return features::pad(bench, "pad", gwb_pad, face, points, height);
 }
 
 /// A channel of this width along the line between two points on edges of the face, with a flat floor.
@@ -410,6 +417,28 @@ template <class Policy> Answer<Policy, Notch> groove(Commands<Policy> &bench, Fa
 template <class Policy> Answer<Policy, Notch> shoulder(Commands<Policy> &bench, Face face, Edge edge, std::int64_t width, std::int64_t depth)
 {
     return features::notch(bench, "shoulder", gwb_shoulder, face, edge.number(), width, depth);
+}
+
+/// Notch, pad, slot, groove and shoulder by a vector, which may lean, in place of a length: into the solid, of a pad out of it.
+template <class Policy> Answer<Policy, Notch> notch_along(Commands<Policy> &bench, Face face, Items<Point> points, Point along)
+{
+    return features::notch(bench, "notch_along", gwb_notch_along, face, points.data(), points.size(), &along);
+}
+template <class Policy> Answer<Policy, Pad> pad_along(Commands<Policy> &bench, Face face, Items<Point> points, Point along)
+{
+    return features::pad(bench, "pad_along", gwb_pad_along, face, points, &along);
+}
+template <class Policy> Answer<Policy, Notch> slot_along(Commands<Policy> &bench, Face face, Point start, Point end, std::int64_t width, Point along)
+{
+    return features::notch(bench, "slot_along", gwb_slot_along, face, &start, &end, width, &along);
+}
+template <class Policy> Answer<Policy, Notch> groove_along(Commands<Policy> &bench, Face face, Point start, Point end, std::int64_t width, Point along)
+{
+    return features::notch(bench, "groove_along", gwb_groove_along, face, &start, &end, width, &along);
+}
+template <class Policy> Answer<Policy, Notch> shoulder_along(Commands<Policy> &bench, Face face, Edge edge, std::int64_t width, Point along)
+{
+    return features::notch(bench, "shoulder_along", gwb_shoulder_along, face, edge.number(), width, &along);
 }
 
 /// The edge becomes a sloping face, so far into the face of its first half-edge, and so far into the other one: where no second width is given as

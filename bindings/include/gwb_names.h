@@ -160,7 +160,7 @@ enum gwb_cause {
     GWB_CAUSE_COMES_THROUGH = 7,
     /** solid X would touch itself */
     GWB_CAUSE_TOUCHES_ITSELF = 8,
-    /** what is made is whole at no scale, since a length in it is irrational; gwb_pocket_along and its kin take a vector */
+    /** the vector of this depth is whole at no scale, since its length is irrational; gwb_pocket_along and its kin take a vector */
     GWB_CAUSE_NO_SCALE = 9,
     /** the vector of this depth would not be whole: all must be Y times as large */
     GWB_CAUSE_DEPTH_FRACTION = 10,
@@ -179,7 +179,31 @@ enum gwb_cause {
     /** faces X and Y of those given have a side that runs the same way in both */
     GWB_CAUSE_SIDE_TWICE = 17,
     /** a side of face X of those given has no face beyond it */
-    GWB_CAUSE_SIDE_OPEN = 18
+    GWB_CAUSE_SIDE_OPEN = 18,
+    /** the strip beside edge Y doesn't lie wholly in face X; gwb_subtract cuts across edges */
+    GWB_CAUSE_STRIP_OUTSIDE = 19,
+    /** what is made at face X would leave solid Y touching itself */
+    GWB_CAUSE_SELF_TOUCH = 20,
+    /** the corners of a strip of this width would not be whole: all must be Y times as large */
+    GWB_CAUSE_WIDTH_FRACTION = 21,
+    /** the corners of a strip of this width are whole at no scale, since a length in it is irrational */
+    GWB_CAUSE_NO_WIDTH_SCALE = 22,
+    /** what is made is whole at no scale that stays in range */
+    GWB_CAUSE_PAST_RANGE = 23,
+    /** more than three edges end at vertex X */
+    GWB_CAUSE_MANY_EDGES = 24,
+    /** the slopes at vertex X reach edge Y at different points */
+    GWB_CAUSE_SLOPES_APART = 25,
+    /** edge X isn't of solid Y, of which the first one is */
+    GWB_CAUSE_OTHER_SOLID = 26,
+    /** edge X bends the other way than edge Y: one outwards, one inwards */
+    GWB_CAUSE_BENDS_OTHERWISE = 27,
+    /** the vector lies in the plane of the points */
+    GWB_CAUSE_LIES_IN_PLANE = 28,
+    /** the vector leaves face X on the other side than what is made */
+    GWB_CAUSE_WRONG_SIDE = 29,
+    /** sides X and Y of the outline meet */
+    GWB_CAUSE_SIDES_MEET = 30
 };
 
 /** The name of the condition with a number, or "" where there is none. */
@@ -337,6 +361,18 @@ static inline const char *gwb_cause_name(uint32_t number)
     case GWB_CAUSE_OFF_OTHERS: return "OffOthers";
     case GWB_CAUSE_SIDE_TWICE: return "SideTwice";
     case GWB_CAUSE_SIDE_OPEN: return "SideOpen";
+    case GWB_CAUSE_STRIP_OUTSIDE: return "StripOutside";
+    case GWB_CAUSE_SELF_TOUCH: return "SelfTouch";
+    case GWB_CAUSE_WIDTH_FRACTION: return "WidthFraction";
+    case GWB_CAUSE_NO_WIDTH_SCALE: return "NoWidthScale";
+    case GWB_CAUSE_PAST_RANGE: return "PastRange";
+    case GWB_CAUSE_MANY_EDGES: return "ManyEdges";
+    case GWB_CAUSE_SLOPES_APART: return "SlopesApart";
+    case GWB_CAUSE_OTHER_SOLID: return "OtherSolid";
+    case GWB_CAUSE_BENDS_OTHERWISE: return "BendsOtherwise";
+    case GWB_CAUSE_LIES_IN_PLANE: return "LiesInPlane";
+    case GWB_CAUSE_WRONG_SIDE: return "WrongSide";
+    case GWB_CAUSE_SIDES_MEET: return "SidesMeet";
     default: return "";
     }
 }
@@ -353,7 +389,7 @@ static inline const char *gwb_cause_text(uint32_t number)
     case GWB_CAUSE_TOUCHES_FACE: return "what is made at face X would touch face Y";
     case GWB_CAUSE_COMES_THROUGH: return "what is made at face X would come through face Y";
     case GWB_CAUSE_TOUCHES_ITSELF: return "solid X would touch itself";
-    case GWB_CAUSE_NO_SCALE: return "what is made is whole at no scale, since a length in it is irrational";
+    case GWB_CAUSE_NO_SCALE: return "the vector of this depth is whole at no scale, since its length is irrational";
     case GWB_CAUSE_DEPTH_FRACTION: return "the vector of this depth would not be whole: all must be Y times as large";
     case GWB_CAUSE_POINT_FRACTION: return "a point would not be whole: all must be Y times as large";
     case GWB_CAUSE_CORNER_FRACTION: return "a corner of what is made would not be whole: all must be Y times as large";
@@ -363,6 +399,18 @@ static inline const char *gwb_cause_text(uint32_t number)
     case GWB_CAUSE_OFF_OTHERS: return "point X of the outline lies off the plane of the points before it";
     case GWB_CAUSE_SIDE_TWICE: return "faces X and Y of those given have a side that runs the same way in both";
     case GWB_CAUSE_SIDE_OPEN: return "a side of face X of those given has no face beyond it";
+    case GWB_CAUSE_STRIP_OUTSIDE: return "the strip beside edge Y doesn't lie wholly in face X";
+    case GWB_CAUSE_SELF_TOUCH: return "what is made at face X would leave solid Y touching itself";
+    case GWB_CAUSE_WIDTH_FRACTION: return "the corners of a strip of this width would not be whole: all must be Y times as large";
+    case GWB_CAUSE_NO_WIDTH_SCALE: return "the corners of a strip of this width are whole at no scale, since a length in it is irrational";
+    case GWB_CAUSE_PAST_RANGE: return "what is made is whole at no scale that stays in range";
+    case GWB_CAUSE_MANY_EDGES: return "more than three edges end at vertex X";
+    case GWB_CAUSE_SLOPES_APART: return "the slopes at vertex X reach edge Y at different points";
+    case GWB_CAUSE_OTHER_SOLID: return "edge X isn't of solid Y, of which the first one is";
+    case GWB_CAUSE_BENDS_OTHERWISE: return "edge X bends the other way than edge Y: one outwards, one inwards";
+    case GWB_CAUSE_LIES_IN_PLANE: return "the vector lies in the plane of the points";
+    case GWB_CAUSE_WRONG_SIDE: return "the vector leaves face X on the other side than what is made";
+    case GWB_CAUSE_SIDES_MEET: return "sides X and Y of the outline meet";
     default: return "";
     }
 }

@@ -418,6 +418,27 @@ features! {
     }
     /// A step along an edge of the face.
     shoulder(this, face: Face, edge: Edge, width: i64, depth: i64) -> Notch { gwb_sys::gwb_shoulder(face.0, edge.0, width, depth) => this.made_notch() }
+    /// A notch by a vector into the solid, which may lean.
+    notch_along(this, face: Face, points: &[impl Copy + Into<Point>], along: impl Into<Point>) -> Notch {
+        gwb_sys::gwb_notch_along(face.0, listed(points).as_ptr(), points.len(), &along.into()) => this.made_notch()
+    }
+    /// A pad by a vector out of the solid, which may lean.
+    pad_along(this, face: Face, points: &[impl Copy + Into<Point>], along: impl Into<Point>) -> Pad {
+        gwb_sys::gwb_pad_along(face.0, listed(points).as_ptr(), points.len(), &along.into())
+            => Pad { top: this.made(List::Floor, Face), walls: this.made(List::Walls, Face) }
+    }
+    /// A slot by a vector into the solid.
+    slot_along(this, face: Face, start: impl Into<Point>, end: impl Into<Point>, width: i64, along: impl Into<Point>) -> Notch {
+        gwb_sys::gwb_slot_along(face.0, &start.into(), &end.into(), width, &along.into()) => this.made_notch()
+    }
+    /// A groove by a vector into the solid.
+    groove_along(this, face: Face, start: impl Into<Point>, end: impl Into<Point>, width: i64, along: impl Into<Point>) -> Notch {
+        gwb_sys::gwb_groove_along(face.0, &start.into(), &end.into(), width, &along.into()) => this.made_notch()
+    }
+    /// A step along an edge by a vector into the solid.
+    shoulder_along(this, face: Face, edge: Edge, width: i64, along: impl Into<Point>) -> Notch {
+        gwb_sys::gwb_shoulder_along(face.0, edge.0, width, &along.into()) => this.made_notch()
+    }
     /// The edge becomes a sloping face.
     chamfer(this, edge: Edge, width: i64, other: impl Into<Option<i64>>) -> Face {
         let mut face = 0;

@@ -168,7 +168,7 @@ CAUSES: Dict[int, Tuple[str, str]] = {
     6: ('TouchesFace', 'what is made at face X would touch face Y'),
     7: ('ComesThrough', 'what is made at face X would come through face Y'),
     8: ('TouchesItself', 'solid X would touch itself'),
-    9: ('NoScale', 'what is made is whole at no scale, since a length in it is irrational'),
+    9: ('NoScale', 'the vector of this depth is whole at no scale, since its length is irrational'),
     10: ('DepthFraction', 'the vector of this depth would not be whole: all must be Y times as large'),
     11: ('PointFraction', 'a point would not be whole: all must be Y times as large'),
     12: ('CornerFraction', 'a corner of what is made would not be whole: all must be Y times as large'),
@@ -178,6 +178,18 @@ CAUSES: Dict[int, Tuple[str, str]] = {
     16: ('OffOthers', 'points[X] lies off the plane of the points before it'),
     17: ('SideTwice', 'faces[X] and faces[Y] have a side that runs the same way in both: turn one of them'),
     18: ('SideOpen', 'a side of faces[X] has no face beyond it'),
+    19: ('StripOutside', "the strip beside edge Y doesn't lie wholly in face X"),
+    20: ('SelfTouch', 'what is made at face X would leave solid Y touching itself'),
+    21: ('WidthFraction', 'the corners of a strip of this width would not be whole: all must be Y times as large'),
+    22: ('NoWidthScale', 'the corners of a strip of this width are whole at no scale, since a length in it is irrational'),
+    23: ('PastRange', 'what is made is whole at no scale that stays in range'),
+    24: ('ManyEdges', 'more than three edges end at vertex X'),
+    25: ('SlopesApart', 'the slopes at vertex X reach edge Y at different points'),
+    26: ('OtherSolid', "edge X isn't of solid Y, of which the first one is"),
+    27: ('BendsOtherwise', 'edge X bends the other way than edge Y: one outwards, one inwards'),
+    28: ('LiesInPlane', 'the vector lies in the plane of the points'),
+    29: ('WrongSide', 'the vector leaves face X on the other side than what is made'),
+    30: ('SidesMeet', 'the sides that start at points[X] and points[Y] meet'),
 }
 
 # What would do in the place of a feature, by the cause.
@@ -191,4 +203,6 @@ ADVICE: Dict[str, str] = {
     'DepthFraction': 'refine(Y) makes the step as fine as that',
     'PointFraction': 'refine(Y) makes the step as fine as that',
     'AreasCancel': 'its points in their order round the outline',
+    'StripOutside': 'subtract(solid, [tool]) cuts across edges',
+    'WidthFraction': 'refine(Y) makes the step as fine as that',
 }

@@ -48,7 +48,8 @@ _COMMANDS: Dict[str, List[Any]] = {
         (1, 6, 'block'), (1, 3, 'sweep')) for word in listed.split()},
     'lamina': [WORD, _ROWS, SIZE], 'split': [WORD, *[LENGTH] * 4, WORD]}
 # What a feature or a search takes between the handle and the refusal; each returns the kind of its answer.
-_OUTLINE, _MADE, _STRIP = [WORD, _ROWS, SIZE], [_PAIR, _WORDS], [WORD, _POINT, _POINT, LENGTH, LENGTH]
+_OUTLINE, _MADE = [WORD, _ROWS, SIZE], [_PAIR, _WORDS]
+_SHAPED: Dict[str, List[Any]] = {'notch': _OUTLINE, 'pad': _OUTLINE, 'shoulder': [WORD, WORD, LENGTH], **dict.fromkeys(('slot', 'groove'), [WORD, _POINT, _POINT, LENGTH])}
 _FEATURES: Dict[str, List[Any]] = {
     'kill_solid': [WORD], 'copy_solid': [WORD, _MOTION, _WORDS], 'move_solid': [WORD, _MOTION], 'pattern': [WORD, WORD, _POINT, _WORDS],
     'pattern_around': [WORD] * 4 + [_POINT, _WORDS], 'chamfer_edges': [_WORDS, SIZE, LENGTH, _WORDS], 'load': [_TEXT, SIZE], 'scale': [LENGTH],
@@ -58,7 +59,7 @@ _FEATURES: Dict[str, List[Any]] = {
     'boss': [*_OUTLINE, LENGTH, *_MADE], **dict.fromkeys(('pocket_along', 'boss_along'), [*_OUTLINE, _POINT, *_MADE]),
     'hole': [*_OUTLINE, *_MADE],
     **{name: [WORD, _POINT, LENGTH, WORD, reach, *_MADE, _POINT] for name, reach in (('drill', LENGTH), ('drill_along', _POINT))},
-    **dict.fromkeys(('notch', 'pad'), [*_OUTLINE, LENGTH]), **dict.fromkeys(('slot', 'groove'), _STRIP), 'shoulder': [WORD, WORD, LENGTH, LENGTH],
+    **{name + ending: [*taken, reach] for ending, reach in (('', LENGTH), ('_along', _POINT)) for name, taken in _SHAPED.items()},
     'chamfer': [WORD, LENGTH, LENGTH, _WORDS],
     'cut': [WORD, _PLANE, WORD], 'trim': [WORD, _PLANE], 'off_lattice': [WORD, _PLANE, SIZE, ctypes.POINTER(ADDRESS)],
     **{name: [ctypes.POINTER(query), _WORDS, SIZE, _SIZES] for name, query in (('find_faces', FaceQuery), ('find_edges', EdgeQuery))}}

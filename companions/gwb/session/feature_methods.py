@@ -1,9 +1,10 @@
 """The methods of a workbench that make features of outlines, and shape solids up to the edges of their faces."""
 
+from contextlib import contextmanager
 from dataclasses import dataclass, field
 from fractions import Fraction
 from math import isqrt, lcm, sqrt
-from typing import Any, Iterable, List, Mapping, Optional, Sequence, Tuple
+from typing import Any, Iterable, Iterator, List, Mapping, Optional, Sequence, Tuple
 
 from ..formats.exact_numbers import told
 from ..geometry.free_numbers import LARGEST
@@ -299,24 +300,24 @@ class FeatureMethods(Methods):
         self._kernel.give('glue_all', words(numbers), len(numbers))
         return numbers[0]
 
-    def notch(self, face: arguments.Face, points: arguments.Points, depth: Length) -> Notch:
-        """What lies under an outline in the plane of the face goes, so deep: the outline may leave the face and cross edges, holes, pockets and other
+    def notch(self, face: arguments.Face, points: arguments.Points, depth: Optional[Length] = None, *, along: Optional[arguments.Point] = None) -> Notch:
+        """What lies under an outline in the plane of the face goes, so deep, or along a vector into the solid, which may lean: the outline may leave the face and cross edges, holes, pockets and other
         features, and where it is as deep as the solid it goes through.
 
         Refused: NoFace; NotFlat: the face isn't flat, or a face near it isn't; NotInPlane, FewPoints, RepeatedPoint, NoArea and OutlineCrossed for the
         points; OutlineOutside: nothing of what the outline goes round lies in the face; OffLattice: no whole vector along the normal is so long, or a
-        corner would lie between whole coordinates: with how many times finer all must be, or 0 where nothing helps; Meets: the solid would touch
-        itself; NothingLeft.
+        corner would lie between whole coordinates: with how many times finer all must be, or 0 where nothing helps; AlongPlane: the vector lies in the
+        face or points out of it; Meets: the solid would touch itself; NothingLeft.
 
         >>> _ = bench.notch(block.top, [(0, 0, 10), (5, 0, 10), (5, 5, 10)], depth=4)
         >>> bench.volume(block)
         Fraction(7950, 1)
         """
         number, outline = self._number('face', face), self._kernel.lengths.points('points', points)
-        return Notch(*self._shaped('notch', number, rows(outline), len(outline), depth=depth))
+        return Notch(*self._shaped('notch', number, rows(outline), len(outline), depth=depth, along=along))
 
-    def pad(self, face: arguments.Face, points: arguments.Points, height: Length) -> Pad:
-        """What lies over an outline in the plane of the face is filled, so high: the outline may leave the face, and what is there already becomes one
+    def pad(self, face: arguments.Face, points: arguments.Points, height: Optional[Length] = None, *, along: Optional[arguments.Point] = None) -> Pad:
+        """What lies over an outline in the plane of the face is filled, so high, or along a vector out of the solid: the outline may leave the face, and what is there already becomes one
         with it. Refused as notch is.
 
         >>> _ = bench.pad(block.top, [(30, 5, 10), (50, 5, 10), (50, 10, 10)], height=4)
@@ -324,30 +325,34 @@ class FeatureMethods(Methods):
         Fraction(8200, 1)
         """
         number, outline = self._number('face', face), self._kernel.lengths.points('points', points)
-        return Pad(*self._shaped('pad', number, rows(outline), len(outline), height=height))
+        return Pad(*self._shaped('pad', number, rows(outline), len(outline), height=height, along=along))
 
-    def slot(self, face: arguments.Face, start: arguments.Point, end: arguments.Point, width: Length, depth: Length) -> Notch:
-        """A slot with a flat floor, so wide and deep, whose middle line runs in the face from one point to another. Refused as notch is;
+    def slot(self, face: arguments.Face, start: arguments.Point, end: arguments.Point, width: Length, depth: Optional[Length] = None, *,
+             along: Optional[arguments.Point] = None) -> Notch:
+        """A slot with a flat floor, so wide, and so deep or along a vector into the solid, whose middle line runs in the face from one point to another. Refused as notch is;
         OffLattice: half of the width isn't whole across the line.
 
         >>> _ = bench.slot(block.top, (20, 0, 10), (20, 20, 10), width=6, depth=4)
         >>> bench.volume(block)
         Fraction(7520, 1)
         """
-        return Notch(*self._shaped('slot', face, start=start, end=end, width=width, depth=depth))
+        return Notch(*self._shaped('slot', face, start=start, end=end, width=width, depth=depth, along=along))
 
-    def groove(self, face: arguments.Face, start: arguments.Point, end: arguments.Point, width: Length, depth: Length) -> Notch:
-        """A groove like a V, so wide at the face and so deep under its middle line, which runs from one point to another; it has no floor.
+    def groove(self, face: arguments.Face, start: arguments.Point, end: arguments.Point, width: Length, depth: Optional[Length] = None, *,
+               along: Optional[arguments.Point] = None) -> Notch:
+        """A groove like a V, so wide at the face, and so deep under its middle line, which runs from one point to another, or along a vector from it; it
+        has no floor.
         Refused as notch is; OffLattice: half of the width isn't whole across the line.
 
         >>> _ = bench.groove(block.top, (20, 0, 10), (20, 20, 10), width=6, depth=4)
         >>> bench.volume(block)
         Fraction(7760, 1)
         """
-        return Notch(*self._shaped('groove', face, start=start, end=end, width=width, depth=depth))
+        return Notch(*self._shaped('groove', face, start=start, end=end, width=width, depth=depth, along=along))
 
-    def shoulder(self, face: arguments.Face, edge: arguments.Edge, width: Length, depth: Length) -> Notch:
-        """A step along an edge of the face: so wide in the face, from the edge on, and so deep behind it. Refused as notch is; NoEdge,
+    def shoulder(self, face: arguments.Face, edge: arguments.Edge, width: Length, depth: Optional[Length] = None, *,
+                 along: Optional[arguments.Point] = None) -> Notch:
+        """A step along an edge of the face: so wide in the face, from the edge on, and so deep behind it, or along a vector into the solid. Refused as notch is; NoEdge,
         NotOfFace: the edge isn't one of the face.
 
         >>> edge = bench.edges(between=(block.top, block.sides[1])).one()
@@ -355,8 +360,8 @@ class FeatureMethods(Methods):
         >>> bench.volume(block)
         Fraction(7520, 1)
         """
-        number, along = self._number('face', face), self._number('edge', edge)
-        return Notch(*self._shaped('shoulder', number, along, width=width, depth=depth))
+        number, beside = self._number('face', face), self._number('edge', edge)
+        return Notch(*self._shaped('shoulder', number, beside, width=width, depth=depth, along=along))
 
     def chamfer(self, edge: arguments.Edge, width: Length, other: Optional[Length] = None) -> int:
         """The edge becomes a sloping face, which begins so far from it in the face of its half-edge `+e`, and in the other one as far, or so
@@ -392,12 +397,8 @@ class FeatureMethods(Methods):
         """A pocket or a boss, so deep or high, or along a vector."""
         number, outline = self._number('face', face), self._kernel.lengths.points('points', points)
         ending, way = self._reach(**reach)
-        try:
+        with self._told_ways(number, word, way):
             return Pocket(*self._kernel.outline(word + ending, number, outline, way))
-        except Impossible as error:
-            if error.name == 'OffLattice' and not ending:
-                error.args = (f'{error.args[0]}{self._steps_along(number, word, way)}',)
-            raise
 
     def _reach(self, *, along: object, **lengths: object) -> Tuple[str, Any]:
         """How far a feature goes: the ending of the call's name and what it takes, for the one of a length and a vector that is given."""
@@ -408,21 +409,32 @@ class FeatureMethods(Methods):
             return '', self._kernel.lengths.positive(name, length)
         return '_along', Point(*self._kernel.lengths.point('along', along))
 
+    @contextmanager
+    def _told_ways(self, face: int, word: str, length: Any) -> Iterator[None]:
+        """Where a length along the normal of a face has no whole steps, what is refused says a vector about so long."""
+        try:
+            yield
+        except Impossible as error:
+            if error.cause in ('DepthFraction', 'NoScale'):
+                error.args = (f'{error.args[0]}{self._steps_along(face, word, length)}',)
+            raise
+
     def _steps_along(self, face: int, word: str, length: int) -> str:
         """What is said of vectors along the normal of a face about so long: a fitting one, and its length, where one has no whole steps of this length."""
         across, lengths = FacePart(self._kernel, face).normal, self._kernel.lengths
         one = sqrt(dot(across, across))
-        times = max(1, round(length / one)) * (1 if word == 'boss' else -1)
+        times = max(1, round(length / one)) * (1 if word in ('boss', 'pad') else -1)
         way = ', '.join(told(Fraction(part)) for part in lengths.place([times * part for part in across]))
         return f'; along=({way}) is {abs(times) * one * float(lengths.step):.4g} mm long'
 
-    def _shaped(self, word: str, face: arguments.Face, *values: Any, **more: Any) -> Tuple[Numbers, Numbers]:
-        """Gives a feature in a face, with its ends and sizes by name, that leaves a floor and walls in its solid, whose labels the parts of its faces
-        get: those. Refused: NoFace."""
-        number, lengths = self._number('face', face), self._kernel.lengths
+    def _shaped(self, word: str, face: arguments.Face, *values: Any, along: object, **more: Any) -> Tuple[Numbers, Numbers]:
+        """Gives a feature in a face, with its ends and sizes by name, of which the last may be a vector instead, that leaves a floor and walls in its
+        solid, whose labels the parts of its faces get: those. Refused: NoFace."""
+        number, lengths, last = self._number('face', face), self._kernel.lengths, more.popitem()
         sizes = [Point(*lengths.point(name, size)) if name in ('start', 'end') else lengths.positive(name, size) for name, size in more.items()]
-        with self._parting(FacePart(self._kernel, number).solid.number) as new:
-            self._kernel.give(word, number, *values, *sizes)
+        ending, way = self._reach(along=along, **dict([last]))
+        with self._parting(FacePart(self._kernel, number).solid.number) as new, self._told_ways(number, word, way):
+            self._kernel.give(word + ending, number, *values, *sizes, way)
             made = self._kernel.made(FLOOR), self._kernel.made(WALLS)
             new.update(*made)
         return made

@@ -435,6 +435,15 @@ extern "C" {
     pub fn gwb_slot(g: *mut Gwb, face: u32, start: *const Point, end: *const Point, width: i64, depth: i64, why: *mut Refusal) -> u32;
     pub fn gwb_groove(g: *mut Gwb, face: u32, start: *const Point, end: *const Point, width: i64, depth: i64, why: *mut Refusal) -> u32;
     pub fn gwb_shoulder(g: *mut Gwb, face: u32, edge: u32, width: i64, depth: i64, why: *mut Refusal) -> u32;
+    pub fn gwb_notch_along(g: *mut Gwb, face: u32, points: *const Point, n: usize, along: *const Point, why: *mut Refusal) -> u32;
+    pub fn gwb_pad_along(g: *mut Gwb, face: u32, points: *const Point, n: usize, along: *const Point, why: *mut Refusal) -> u32;
+    pub fn gwb_slot_along(
+        g: *mut Gwb, face: u32, start: *const Point, end: *const Point, width: i64, along: *const Point, why: *mut Refusal,
+    ) -> u32;
+    pub fn gwb_groove_along(
+        g: *mut Gwb, face: u32, start: *const Point, end: *const Point, width: i64, along: *const Point, why: *mut Refusal,
+    ) -> u32;
+    pub fn gwb_shoulder_along(g: *mut Gwb, face: u32, edge: u32, width: i64, along: *const Point, why: *mut Refusal) -> u32;
     pub fn gwb_chamfer(g: *mut Gwb, edge: u32, width: i64, other: i64, face: *mut u32, why: *mut Refusal) -> u32;
     pub fn gwb_chamfer_edges(g: *mut Gwb, edges: *const u32, n: usize, width: i64, faces: *mut u32, why: *mut Refusal) -> u32;
 }
