@@ -2,10 +2,12 @@
 
 import unittest
 from fractions import Fraction
+from random import Random
 
 from support import STEP, library, step_of
 
 from gwb import NotParallel, NoVolume, Refused, Workbench
+from gwb.geometry.lattice_cuts import off_lattice_cut
 
 
 class Measures(unittest.TestCase):
@@ -62,6 +64,21 @@ class Measures(unittest.TestCase):
             self.bench.undo()
         self.bench.refine(cut.factor)
         self.bench.split(self.block.solid, plane)
+
+    def test_cuts_off_the_lattice_as_they_are_worked_out_here(self):
+        random, seen = Random(83), set()
+        for _ in range(12):
+            with Workbench(library(), step=1) as bench:
+                block = bench.block((0, 0, 0), [random.randrange(2, 9) for _ in range(3)])
+                bench.chamfer(1, 1)
+                for plane in ([*(random.randrange(-4, 5) for _ in range(2)), 1, random.randrange(-20, 20)] for _ in range(4)):
+                    wanted, cut = off_lattice_cut(bench.listing(), 1, tuple(plane)), bench.off_lattice(block, plane)
+                    self.assertEqual([(at.edge, at.point, at.is_whole) for at in cut.crossings], [(at.edge, at.point, at.is_whole) for at in wanted.crossings])
+                    self.assertEqual((cut.factor, cut.fits), (wanted.factor, wanted.fits))
+                    planes = [near and near.plane for near in (wanted.parallel, *wanted.tilted)]
+                    self.assertEqual([near and near[:4] for near in (cut.parallel, *cut.tilted)], planes)
+                    seen.add((bool(cut.crossings), cut.factor > 1, cut.parallel is None, len(cut.tilted)))
+        self.assertGreater(len(seen), 3)
 
     def test_planes_out_of_range(self):
         """What split refuses for the plane itself is no cut off the lattice."""
