@@ -45,8 +45,9 @@ def model_of_parts(parts: Sequence[Part], scale: Exact, rounded: bool, keep_tria
     work = _Work(Grid(scale, rounded, within), scale, keep_triangles, repair)
     found = [(part, surface) for part, surface in ((part, work.surface(number, part)) for number, part in enumerate(parts, 1))
              if surface is not None]
-    model, held = model_of_surfaces([surface for _, surface in found]), [(part, surface.origins) for part, surface in found]
+    held, surfaces = [(part, surface.origins) for part, surface in found], [surface for _, surface in found]
     del found    # (the sides of surfaces are as large as the model)
+    model = model_of_surfaces(surfaces)
     stage('looking for shells')
     shells, measured = {solid: model.shells(solid) for solid in model.solids}, _Measured(model)
     work.name_unfit(measured.unfit)
@@ -235,6 +236,9 @@ def _groups(model: Model, solid: int, shells: Sequence[Shell], measured: _Measur
 
 
 def _with_solids(model: Model, groups: Sequence[_Solid]) -> Model:
+    """The model whose solids are these: mostly they are as they were, and then so is the model."""
+    if len(groups) == len(model.solids) and all(model.faces[face].solid == solid for solid, group in enumerate(groups, 1) for face in group.faces):
+        return model
     faces = {face: Face(solid, *model.faces[face][1:]) for solid, group in enumerate(groups, 1) for face in group.faces}
     return sorted_model(range(1, len(groups) + 1), faces, model.loops, model.edges, model.vertices)
 

@@ -122,12 +122,12 @@ def _outlines(surface: Surface, held: Sequence[int], regions: JoinedSets) -> Cyc
     return cycles
 
 
-def model_of_surfaces(surfaces: Sequence[Surface]) -> Model:
-    """A model with a solid for each surface, numbered as they come."""
-    builder = _Builder()
-    for solid, surface in enumerate(surfaces, 1):
-        builder.add(solid, surface)
-    return builder.model(len(surfaces))
+def model_of_surfaces(surfaces: List[Surface]) -> Model:
+    """A model with a solid for each surface, numbered as they come. The surfaces are taken out of the list, since they are as large as the model."""
+    builder, solids = _Builder(), len(surfaces)
+    for solid in range(1, solids + 1):
+        builder.add(solid, surfaces.pop(0))
+    return builder.model(solids)
 
 
 class _Builder:
