@@ -117,12 +117,18 @@ class Slopes(unittest.TestCase):
         self.bench.chamfer_edges(row, 2)
         self.assertEqual(self.bench.volume(block), 2000 - 40)
 
+    def test_strips_that_overlap(self):
+        """Slopes meet below the top where their strips have room in common."""
+        block = self.bench.block((0, 0, 0), (10, 10, 10))
+        self.bench.chamfer_edges([edge.number for edge in self.bench.face(block.top).edges], 6)
+        self.assertEqual(self.bench.volume(block), 400 + Fraction(500, 3))
+        self.assertEqual(self.bench.vertices(at=(5, 5, 9)).one().point, (5, 5, 9))
+
     def test_what_is_refused(self):
         block = self.bench.block((0, 0, 0), (10, 10, 10))
         corner = self.edges(*(((0, 0, 0), end) for end in ((10, 0, 0), (0, 10, 0), (0, 0, 10))))
         self.refused('NoEdge', 99, [1, 99], 2)
         self.refused('OffLattice', 2, corner, 3)    # (the factor that makes the slopes' corner whole)
-        self.refused('Meets', 1, [edge.number for edge in self.bench.face(block.top).edges], 6)
         other = self.bench.block((50, 0, 0), (10, 10, 10))
         self.refused('NotAlike', other.edges[0], [block.edges[0], other.edges[0]], 2)
         self.bench.pocket(block.top, [(3, 3, 10), (7, 3, 10), (7, 7, 10), (3, 7, 10)], 4)
