@@ -1,5 +1,5 @@
 -- The line of a face in a listing.
-use Rattle.script_laws.proofs.Prelude.{◌≡◌, ◌⊎◌, inl, inr, ℕ, true, List, [], ◌∷◌, ◌++◌, map, ap, sym, ◌∙◌, arith, append_assoc, true≢false, nat_eq, nat_tests, cases_Bool, Face, Has, Model, Solid, outer, rings_of, solid_of, kind_lines, line, line_text, lines, listing, numbers_of, or_empty, text_of}
+use Rattle.script_laws.proofs.Prelude.{◌≡◌, ◌⊎◌, inl, inr, ℕ, true, List, [], ◌∷◌, ◌++◌, map, ap, refl, sym, ◌∙◌, arith, append_assoc, true≢false, nat_eq, nat_tests, cases_Bool, Face, Has, Model, Solid, outer, rings_of, solid_of, kind_lines, line, line_text, lines, listing, numbers_of, or_empty, text_of}
 use Rattle.solid_listing.proofs.Lines.{member_used}
 use Rattle.solid_walks.proofs.face_walks_laws.Above.{member}
 use Rattle.script_laws.specs.Laws.{ListsFace}
