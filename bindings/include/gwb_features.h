@@ -175,7 +175,7 @@ bool gwb_circle(int64_t diameter, int64_t grain, uint32_t n, uint32_t circle, in
 enum gwb_kind gwb_drill(gwb *g, uint32_t face, const gwb_point *center, int64_t radius, uint32_t n, int64_t depth, gwb_outline_made *made,
                         uint32_t *sides, gwb_point *points, gwb_refusal *why);
 /** A pocket, a boss and a drilled hole by a vector, which may lean, in place of a length: into the solid, of a boss out of it. Not possible besides:
- * ALONG_PLANE, with the face, where the vector lies in it or points the other way; OFF_LATTICE where its normal is out of range. */
+ * ALONG_PLANE, with the face, where the vector lies in it or points the other way. */
 enum gwb_kind gwb_pocket_along(gwb *g, uint32_t face, const gwb_point *points, size_t n, const gwb_point *along, gwb_outline_made *made,
                                uint32_t *sides, gwb_refusal *why);
 enum gwb_kind gwb_boss_along(gwb *g, uint32_t face, const gwb_point *points, size_t n, const gwb_point *along, gwb_outline_made *made,
@@ -215,8 +215,8 @@ enum gwb_kind gwb_shoulder_along(gwb *g, uint32_t face, uint32_t edge, int64_t w
  * faces bend inwards the room is filled. Refused: NoEdge. Not possible besides: FLAT_EDGE. */
 enum gwb_kind gwb_chamfer(gwb *g, uint32_t edge, int64_t width, int64_t other, uint32_t *face, gwb_refusal *why);
 /** The same of `n` edges at once, all as far into the faces on both sides: where two or three of the edges that end at a vertex are among them, their
- * slopes meet there. `faces` has the slope of each. Refused: as a chamfer. Not possible: as a chamfer; NO_CORNER; NOT_ALIKE. GWB_NO_CALL where a
- * number stands twice, or `n` is 0. */
+ * slopes meet there. `faces` has the slope of each, 0 where others leave nothing of it. Refused: as a chamfer. Not possible: as a chamfer; NO_CORNER;
+ * NOT_ALIKE. GWB_NO_CALL where a number stands twice, or `n` is 0. */
 enum gwb_kind gwb_chamfer_edges(gwb *g, const uint32_t *edges, size_t n, int64_t width, uint32_t *faces, gwb_refusal *why);
 
 /** The numerator divided by the denominator. */

@@ -380,8 +380,8 @@ class FeatureMethods(Methods):
         return self._sloped('chamfer', [number], number, wide, far)[0]
 
     def chamfer_edges(self, edges: Sequence[arguments.Edge], width: Length) -> Tuple[int, ...]:
-        """Different edges become sloping faces at once, which begin so far from them in the faces on both sides: the face of each. Where two or three
-        of the edges that end at a vertex are among them, their slopes meet there.
+        """Different edges become sloping faces at once, which begin so far from them in the faces on both sides: the face of each, 0 where others leave
+        nothing of it. Where two or three of the edges that end at a vertex are among them, their slopes meet there.
 
         Refused: as chamfer is; NoCorner: slopes of edges that end at a vertex don't meet in one point, or more than three edges end there; NotAlike: an
         edge is of another solid than the first, or bends the other way.
