@@ -192,6 +192,66 @@ static Measures measures_of(const Workbench &bench, Solid solid)
     return {narrow(bench.six_volumes(solid)), count.vertices, count.edges, count.faces};
 }
 
+// ---- what was met
+
+// A point times its scale, and what lies apart from it, as whole numbers: all of them are small here.
+struct Met {
+    Cube at{};
+    std::int64_t scale = 0;
+
+    explicit Met(const gwb_hit_row &hit) : at{narrow(hit.point[0]), narrow(hit.point[1]), narrow(hit.point[2])}, scale(narrow(hit.scale)) {}
+    [[nodiscard]] Cube from(Point point) const { return {at[0] - scale * point.x, at[1] - scale * point.y, at[2] - scale * point.z}; }
+    [[nodiscard]] bool is_whole() const { return at[0] % scale == 0 && at[1] % scale == 0 && at[2] % scale == 0; }
+};
+
+static Cube way(Point a, Point b) { return {b.x - a.x, b.y - a.y, b.z - a.z}; }
+static Cube cross(const Cube &a, const Cube &b) { return {a[1] * b[2] - a[2] * b[1], a[2] * b[0] - a[0] * b[2], a[0] * b[1] - a[1] * b[0]}; }
+static std::int64_t dot(const Cube &a, const Cube &b) { return a[0] * b[0] + a[1] * b[1] + a[2] * b[2]; }
+static bool is_zero(const Cube &a) { return a == Cube{}; }
+
+// The solid of a thing that has a point: none where that isn't so. A face is looked at by its first corner that isn't straight.
+static Solid solid_of(const Workbench &bench, const gwb_hit_row &hit)
+{
+    const Met met(hit);
+    const auto start = [&](HalfEdge half) { return bench.vertex(bench.start_of(half)); };
+    if (hit.kind == GWB_VERTEX && is_zero(met.from(bench.vertex(Vertex(hit.number)))))
+        return bench.face(bench.face_of(*bench.around(Vertex(hit.number)).begin())).solid;
+    if (hit.kind == GWB_EDGE) {
+        const HalfEdge half = plus(Edge(hit.number));
+        const Cube along = way(start(half), start(half.twin())), to = met.from(start(half)), back = met.from(start(half.twin()));
+        return is_zero(cross(along, to)) && dot(along, to) > 0 && dot(along, back) < 0 ? bench.face(bench.face_of(half)).solid : Solid();
+    }
+    for (HalfEdge half : hit.kind == GWB_FACE ? bench.half_edges(bench.face(Face(hit.number)).outer_loop) : std::vector<HalfEdge>())
+        if (const Point at = start(half); true)
+            if (const Cube across = cross(way(at, start(half.twin())), way(at, start(bench.previous(half)))); !is_zero(across))
+                return dot(across, met.from(at)) == 0 ? bench.face(Face(hit.number)).solid : Solid();
+    return Solid();
+}
+
+static void check_met(const Workbench &bench, const Failure &why, const std::vector<Solid> &solids, bool is_whole, const std::string &name)
+{
+    const Met met(why.hit);
+    check(met.scale > 0 && met.is_whole() == is_whole, name + ": where it was");
+    check(met.scale > 0 && std::count(solids.begin(), solids.end(), solid_of(bench, why.hit)) == 1, name + ": what was met has the point");
+    outcomes["met " + std::string(why.hit.kind == GWB_VERTEX ? "a vertex" : why.hit.kind == GWB_EDGE ? "an edge" : "a face")]++;
+}
+
+// Whether cubes touch themselves near a point: at a corner of the cube that it lies in.
+static bool touch_at(const Cubes &cubes, const Met &met)
+{
+    for (std::int64_t place = 0; place < 8; place++) {
+        Cube point{};
+        for (std::size_t axis = 0; axis < 3; axis++) {
+            const std::int64_t low = met.at[axis] / met.scale - (met.at[axis] % met.scale < 0 ? 1 : 0);
+            point[axis] = low + ((place >> axis & 1) != 0 && met.at[axis] % met.scale != 0 ? 1 : 0);
+        }
+        const Eighths corner = corner_at(cubes, point);
+        if (!is_one_piece(corner, true) || !is_one_piece(corner, false))
+            return true;
+    }
+    return false;
+}
+
 // ---- random parts
 
 enum class Operation { unite, subtract, intersect };
@@ -280,6 +340,10 @@ private:
         const bool is_empty = why.is(Misfit::nothing_left) && wanted.empty(), meets = why.is(Misfit::meets) && touches_itself(wanted);
         check((is_empty || meets) && why.value == solid_.number(), name + " is refused: " + why.name());
         check(bench_.listing() == before, name + " that is refused changes nothing");
+        if (why.is(Misfit::meets)) {
+            check_met(bench_, why, solids, Met(why.hit).is_whole(), name);
+            check(touch_at(wanted, Met(why.hit)), name + ": what is made touches itself there");
+        }
         for (std::size_t at = 1; at < solids.size(); at++)
             kill_solid(bench_, solids[at]);
     }
@@ -367,6 +431,8 @@ static void try_factors()
             const Result<Merger> made = combined(attempt, operation, {prism, block});
             check(!made && made.error().is(Misfit::off_lattice) && made.error().value == factor, std::string(made.error().name()) + ": the least factor");
             check(bench.listing() == before, "what is off the lattice changes nothing");
+            check_met(bench, made.error(), {prism, block}, false, "a corner off the lattice");
+            check(std::string(made.error().text()).find("X times") != std::string::npos, "by which factor");
             outcomes[made.error().name()]++;
         }
         scale(bench, factor);
@@ -388,7 +454,8 @@ static void try_large_factors()
         const Solid all = unite(bench, prisms);
         const Solid block = bench.block({at, -1, -1}, {length, 80, 8});
         const Failure why = subtract(attempt, all, {block}).error();
-        check(why.is(Misfit::off_lattice) && why.value == 0, "a factor that passes what can be said");
+        check(why.is(Misfit::off_lattice) && why.value == 0 && why.hit.cause == 0, "a factor that passes what can be said");
+        check_met(bench, why, {all, block}, false, "one of its corners");
         outcomes["OffLattice by no number"]++;
     }
 }

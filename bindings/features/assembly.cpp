@@ -8,7 +8,8 @@ namespace {
 /// A closed surface of regions put together: sides, what follows each in its loop, and the mate of each.
 class Assembly {
 public:
-    Assembly(const Held &held, const std::vector<Sheet> &regions, AllNames &names) : held_(held), regions_(regions), names_(names)
+    Assembly(const Held &held, const std::vector<Sheet> &regions, AllNames &names, const Failure &why)
+        : held_(held), regions_(regions), names_(names), why_(why)
     {
         for (const Sheet &region : regions_)
             starts_.push_back(mapped(region.cycles, [&](const Cycle &cycle) { return put(cycle, &region); }));
@@ -16,11 +17,11 @@ public:
             put(cycle, nullptr);
     }
 
-    /// The model of a solid, without the rest, once. Throws `why` where the surface isn't closed, or faces lie back to back at an edge.
-    Combined made(Solid solid, const Failure &why)
+    /// The model of a solid, without the rest, once.
+    Combined made(Solid solid)
     {
         pair_whole();
-        require(pair_along_lines(), why);
+        pair_along_lines();
         std::vector<HalfEdge> beyond;
         for (Placed &placed : sides_)
             if ((placed.goes_on = divides(placed)) && placed.region == nullptr)
@@ -75,20 +76,20 @@ private:
     }
 
     /// The other sides are cut where the sides on one line end, and pair up.
-    bool pair_along_lines()
+    void pair_along_lines()
     {
         std::map<std::pair<Vector, Vector>, Row> lines;
         for (Placed &placed : sides_)
             if (placed.mate == nullptr) {
-                if (placed.region == nullptr) // the rest's are whole, and so are their mates
-                    return false;
+                require(placed.region != nullptr, failed_at(why_, placed.side.middle())); // the rest's are whole, and so are their mates
                 const Vector way = line_of(placed.side.way());
                 lines[{way, cross(placed.side.start, way)}].push_back(&placed);
             }
-        return all(lines, [&](const auto &line) { return pair_on_line(line.first.first, line.second); });
+        for (const auto &[line, row] : lines)
+            pair_on_line(line.first, row);
     }
 
-    bool pair_on_line(const Vector &way, const Row &line)
+    void pair_on_line(const Vector &way, const Row &line)
     {
         go_on();
         std::set<Vector> stops;
@@ -97,7 +98,8 @@ private:
         std::map<Vector, Row> parts; // by where they begin along the line
         for (Placed *placed : line)
             cut(placed, stops, parts);
-        return all(parts, [&](const auto &part) { return pair(part.second, way); });
+        for (const auto &[start, row] : parts)
+            pair(row, way);
     }
 
     /// A side becomes parts that end where sides of its line do.
@@ -116,18 +118,16 @@ private:
     }
 
     /// Mates among sides between the same two points: each that runs back with the next one round the line, which runs along; the solid lies between.
-    bool pair(Row sides, const Vector &way)
+    void pair(Row sides, const Vector &way)
     {
         if (sides.size() > 2)
             sort_round(sides, way);
         for (std::size_t at = 0; at < sides.size(); at++) {
             Placed *placed = sides[at], *following = sides[(at + 1) % sides.size()];
-            if (placed->runs_back(way) == following->runs_back(way))
-                return false;
+            require(placed->runs_back(way) != following->runs_back(way), failed_at(why_, placed->side.middle()));
             if (placed->runs_back(way))
                 placed->mate = following, following->mate = placed;
         }
-        return true;
     }
     /// Sorts sides of one line by the turn of their faces about it, counterclockwise as seen from where the way points: so do their normals, those of
     /// sides that run back turned round. They lie across the way, so that they are looked at along an axis.
@@ -247,6 +247,7 @@ private:
     const Held &held_;
     std::vector<Sheet> regions_;
     AllNames &names_;
+    const Failure &why_;
     std::deque<Placed> sides_; // which stay where they are
     std::vector<Row> starts_;
 };
@@ -338,7 +339,7 @@ std::vector<Face> Combined::marked(std::size_t mark) const
 
 Combined assembled(const Held &held, const std::vector<Sheet> &regions, AllNames &names, Solid solid, const Failure &why)
 {
-    return Assembly(held, regions, names).made(solid, why);
+    return Assembly(held, regions, names, why).made(solid);
 }
 
 } // namespace gwb_session::sheets

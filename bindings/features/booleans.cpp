@@ -1,5 +1,6 @@
 #include "booleans.hpp"
 #include "arrangement.hpp"
+#include "places.hpp"
 #include "points.hpp"
 
 namespace gwb_session::booleans {
@@ -94,14 +95,17 @@ Sources join_faces(Bench &bench, Solid solid)
     const std::vector<Sheet> sheets = sheets_of(before);
     require_flat(sheets);
     const arrangement::IsWithin is_nothing = [](points::Number, const ScaledPoint &) { return false; };
-    const auto regions = arrangement::made_of({sheets, {}}, made_by(Operation::unite), arrangement::Joins::all, is_nothing, why);
-    const Held held(bench, before, false);
-    AllNames names(bench);
-    const Combined found = assembled(held, regions, names, solid, why);
-    if (found.model.edges.size() == before.edges.size())
+    const Result<Combined> found = tried([&] {
+        const auto regions = arrangement::made_of({sheets, {}}, made_by(Operation::unite), arrangement::Joins::all, is_nothing, why);
+        AllNames names(bench);
+        return assembled(Held(bench, before, false), regions, names, solid, why);
+    });
+    if (!found)
+        throw places::told(found.error(), {&before});
+    if (found->model.edges.size() == before.edges.size())
         return {};
-    make_anew(bench, found.model);
-    return sources_of(found.regions);
+    make_anew(bench, found->model);
+    return sources_of(found->regions);
 }
 
 void tell(const Sources &sources, std::vector<std::uint32_t> &list)

@@ -1,4 +1,5 @@
 #include "combining.hpp"
+#include "places.hpp"
 
 namespace gwb_session::combining {
 
@@ -96,6 +97,14 @@ std::optional<Box> shared_by(const std::vector<Sheet> &part, const std::vector<M
     return found;
 }
 
+std::vector<const Model *> all_of(const Model &part, const std::vector<Model> &others)
+{
+    std::vector<const Model *> all = {&part};
+    for (const Model &other : others)
+        all.push_back(&other);
+    return all;
+}
+
 /// A part of a solid with what is laid on its faces, which may be the faces of other solids. Not possible: NothingLeft; what `lay` says; what the
 /// caller says where what comes of them meets or touches itself near a box as nothing did before.
 Combined combined(const Bench &bench, const Model &part, const Box &box, const std::vector<Model> &others, AllNames &names, const Failure &why, const Lay &lay)
@@ -104,15 +113,13 @@ Combined combined(const Bench &bench, const Model &part, const Box &box, const s
     if (regions.empty() && all(bench.faces(part.solid), [&](Face face) { return part.faces.count(face) != 0; }))
         throw impossible(Misfit::nothing_left, part.solid.number());
     Model all = part;
-    std::vector<const Model *> before = {&part};
-    for (const Model &other : others) {
+    for (const Model &other : others)
         all.take_in(other);
-        before.push_back(&other);
-    }
     const Held held(bench, std::move(all));
     Combined found = assembled(held, regions, names, part.solid, why);
     const std::optional<Box> shared = shared_by(sheets, others, box);
-    require(!shared || !touch_anew(before, {&found.model}, *shared), why);
+    if (const std::optional<ScaledPoint> point = shared ? touch_anew(all_of(part, others), {&found.model}, *shared) : std::nullopt)
+        throw failed_at(why, *point);
     return found;
 }
 
@@ -225,12 +232,17 @@ Combined make_near(Bench &bench, Solid solid, const Box &box, const std::vector<
         const Part part = part_near(bench, surface, solid, box, wanted);
         AllNames names(bench);
         std::optional<Combined> found;
+        std::optional<Failure> failure;
         try {
             found = combined(bench, part.model, box, others, names, why, lay);
         } catch (const FarInTheWay &) {
             more = part.loops_with_runs();
             continue;
+        } catch (const Failure &thrown) { // (which is told when it is caught: nothing may be thrown meanwhile)
+            failure = thrown;
         }
+        if (failure)
+            throw places::told(*failure, all_of(part.model, others));
         const auto operators = found->beyond.empty() ? operators_for(bench, surface, part, *found, names) : std::nullopt;
         if (!operators && !(more = wanted_besides(bench, part, *found)).empty())
             continue;

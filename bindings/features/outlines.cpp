@@ -6,23 +6,27 @@ namespace {
 
 using Owners = std::vector<Number>;
 
-/// The least common multiple of scales: the greatest value stands for all that are larger.
+/// The least common multiple of the scales of points: the greatest value stands for all that are larger.
 class Factor {
 public:
-    void take(Wide scale)
+    void take(const points::Points &points, Number point)
     {
-        const Wide step = scale / greatest_divisor(value_, scale);
+        const Wide scale = points.scale(point), step = scale / greatest_divisor(value_, scale);
         value_ = step > greatest / value_ ? greatest : value_ * step;
+        if (at_.scale == 0 && !points.is_fine(point))
+            at_ = points.at(point);
     }
     void require_one() const
     {
-        const gwb_hit_row hit = met_factor(GWB_CAUSE_CORNER_FRACTION, value_);
-        require(value_ == 1, impossible(Misfit::off_lattice, hit.number, hit));
+        if (value_ != 1)
+            throw impossible(Misfit::off_lattice, value_ <= UINT32_MAX ? static_cast<std::uint32_t>(value_) : 0,
+                             at_.met_at(value_ <= UINT32_MAX ? met(GWB_CAUSE_CORNER_FRACTION) : gwb_hit_row{}));
     }
 
 private:
     static constexpr Wide greatest = Wide{1} << 62;
     Wide value_ = 1;
+    ScaledPoint at_{{}, 0}; ///< one of the points: none where the scale is 0
 };
 
 /// What bounds all faces of one name, as sides between whole points. A point that isn't whole is passed over where one side goes straight on there.
@@ -42,7 +46,7 @@ public:
     {
         for (const auto &[point, ends] : between_)
             if (!ends.go_on_straight())
-                factor.take(all_.points.scale(point));
+                factor.take(all_.points, point);
     }
 
     void put_regions(std::vector<Sheet> &found, const Failure &why)

@@ -48,6 +48,13 @@ bool Points::Before::operator()(const FinePoint &a, const FinePoint &b) const
     return false;
 }
 
+Failure Points::failed_between(const Failure &why, Number one, Number other) const
+{
+    if (is_fine(one) && is_fine(other))
+        return why;
+    return failed_at(why, is_fine(one) ? at(other) : is_fine(other) ? at(one) : at(one).between(at(other)));
+}
+
 bool Points::comes_before(Number one, Number other) const
 {
     if (is_fine(one) || is_fine(other))

@@ -32,7 +32,8 @@ public:
             return;
         }
         put_rims();
-        require(rims_.size() <= 2 || in_.size() == 1, why_);
+        if (rims_.size() > 2 && in_.size() > 1)
+            throw touched();
         if (rims_.size() == 2 && turns::same_turn(rims_[0].normal, negative(rims_[1].normal), axes_)) {
             if (rims_[0].bound.owner != rims_[1].bound.owner)
                 found.seams.push_back({std::move(rims_[0].bound), std::move(rims_[1].bound)});
@@ -92,10 +93,14 @@ private:
     void pass(const Turned &one)
     {
         bool &is_in = is_within(one.solid);
-        require(is_in == one.wing.is_left, why_); // else the solid touches itself here
+        if (is_in != one.wing.is_left) // the solid touches itself here
+            throw touched();
         is_in = !is_in;
         within_.pass(one.solid, is_in);
     }
+
+    /// Why nothing is made, where something touches itself at the piece.
+    [[nodiscard]] Failure touched() const { return all_.points.failed_between(why_, piece_->from, piece_->to); }
 
     /// The piece as the side of a face that is made of those wings, at one angle. What is made there has the least face's name, and of several in one plane
     /// looks as those do that bound it.

@@ -60,8 +60,8 @@ public:
     /// A point within, half way between two corners that are next to each other along an axis.
     [[nodiscard]] std::optional<ScaledPoint> inner_point() const;
 
-    /// Whether a part of a side in the plane lies within.
-    [[nodiscard]] bool has_part(const Side &side) const;
+    /// A point within of a side in the plane: none where no part of the side lies within.
+    [[nodiscard]] std::optional<ScaledPoint> part_of(const Side &side) const;
 
     /// Where a ray from a point off its plane meets it.
     [[nodiscard]] Place hit(const ScaledPoint &start, const Vector &ray) const;
@@ -78,6 +78,7 @@ private:
     [[nodiscard]] bool is_within(const ScaledPoint &one, const ScaledPoint &next) const { return one < next && locate(one.between(next)) == Place::inside; }
     /// The first part between stops that lies within.
     [[nodiscard]] std::optional<Span> first_within(const std::vector<ScaledPoint> &stops) const;
+
     Axes axes_;
 };
 

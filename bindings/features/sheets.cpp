@@ -20,7 +20,7 @@ std::vector<Cycle> cycles_of(const std::vector<Side> &sides, Axes axes, const Fa
     const auto starts_before = [](const Side &one, const Side &other) { return one.start < other.start; };
     const auto next = [&](const Side &side) { // the first of those that leave its end, clockwise from the way back
         const auto [first, last] = std::equal_range(sides.begin(), sides.end(), side.turned(), starts_before);
-        require(first != last, why);
+        require(first != last, failed_at(why, {side.end}));
         const auto found = std::min_element(first, last, [&, back = negative(way_in(side))](const Side &one, const Side &other) {
             return comes_before(back, way_out(one), way_out(other), axes);
         });
@@ -62,7 +62,7 @@ std::vector<std::vector<Cycle>> regions_of(const std::vector<Side> &sides, const
             const auto off = std::find_if(hole.begin(), hole.end(), [&](const Side &side) { return place(side) != Place::on; });
             return off != hole.end() && place(*off) == Place::inside;
         });
-        require(around != found.rend(), why);
+        require(around != found.rend(), failed_at(why, {hole[0].start}));
         around->push_back(hole);
     }
     return found;

@@ -74,6 +74,13 @@ struct ScaledPoint {
     friend bool operator<(const ScaledPoint &a, const ScaledPoint &b) { return a.compare(b) < 0; }
 };
 
+/// A failure with the point at which something was met.
+inline Failure failed_at(Failure why, const ScaledPoint &point)
+{
+    why.hit = point.met_at(why.hit);
+    return why;
+}
+
 /// The point that lies so far along a way as a fraction says.
 constexpr ScaledPoint on_way(const Vector &start, const Vector &way, Wide numerator, Wide denominator)
 {
@@ -98,6 +105,7 @@ struct Side {
 
     [[nodiscard]] bool is_old() const { return half != HalfEdge(); }
     [[nodiscard]] Vector way() const { return subtract(end, start); }
+    [[nodiscard]] ScaledPoint middle() const { return {add(start, end), 2}; }
     [[nodiscard]] Side turned() const { return {end, start, is_old() ? half.twin() : half}; }
     /// Whether a point lies on it between its ends.
     [[nodiscard]] bool passes(const Vector &at) const { return at != start && reduced(subtract(at, start)) == reduced(subtract(end, at)); }

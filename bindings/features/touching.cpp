@@ -22,7 +22,7 @@ public:
         std::map<Vector, std::size_t> first;
         for (const auto &[vertex, row] : vertices_.rows)
             if (const auto [old, is_new] = first.emplace(row.side.start, vertex); !is_new)
-                found.insert({Kind::equal_points, old->second, vertex});
+                put({Kind::equal_points, old->second, vertex}, {row.side.start});
         compare_edges();
         for (const Sheet &face : faces_) {
             go_on();
@@ -31,9 +31,17 @@ public:
         }
     }
 
-    std::set<Finding> found;
+    std::map<Finding, ScaledPoint> found; ///< where they do
 
 private:
+    void put(const Finding &finding, const ScaledPoint &point) { found.emplace(finding, point); }
+    /// Where two sides cross that have this vector across.
+    static ScaledPoint crossing(const Side &one, const Side &other, const Vector &across)
+    {
+        const auto far = [&](const Vector &at) { return cross(other.way(), subtract(at, other.start))[widest(across)]; };
+        return divided(one, far(one.start), far(one.end));
+    }
+
     /// Edges or vertices as sides, by their numbers, with the faces that they are of.
     struct NearSides {
         struct Row {
@@ -76,13 +84,13 @@ private:
                 const Vector across = cross(side.way(), beside.way());
                 const bool is_flat = !is_zero(across) && dot(across, subtract(beside.start, side.start)) == 0;
                 if (edge < other && std::minmax(side.start, side.end) == std::minmax(beside.start, beside.end))
-                    found.insert({Kind::equal_edges, edge, other});
+                    put({Kind::equal_edges, edge, other}, side.middle());
                 if (edge < other && is_flat && side.crosses(beside, flat_axes(across)))
-                    found.insert({Kind::edges_cross, edge, other});
+                    put({Kind::edges_cross, edge, other}, crossing(side, beside, across));
             }
             for (std::size_t vertex : vertices_.boxes.meeting(box_of(side)))
                 if (side.passes(vertices_.rows.at(vertex).side.start))
-                    found.insert({Kind::vertex_on_edge, vertex, edge});
+                    put({Kind::vertex_on_edge, vertex, edge}, {vertices_.rows.at(vertex).side.start});
         }
     }
 
@@ -91,7 +99,7 @@ private:
         for (std::size_t vertex : vertices_.boxes.meeting(face.box)) {
             const auto &[side, faces] = vertices_.rows.at(vertex);
             if (faces.count(own) == 0 && face.height({side.start}) == 0 && face.locate({side.start}) == Place::inside)
-                found.insert({Kind::vertex_on_face, vertex, own.number()});
+                put({Kind::vertex_on_face, vertex, own.number()}, {side.start});
         }
         for (std::size_t edge : edges_.boxes.meeting(face.box)) {
             const auto &[side, faces] = edges_.rows.at(edge);
@@ -99,9 +107,9 @@ private:
                 continue;
             const Wide before = face.height({side.start}), after = face.height({side.end});
             if (sign(before) * sign(after) < 0 && face.locate(divided(side, before, after)) == Place::inside)
-                found.insert({Kind::edge_through_face, edge, own.number()});
-            else if (before == 0 && after == 0 && face.has_part(side))
-                found.insert({Kind::edge_along_face, edge, own.number()});
+                put({Kind::edge_through_face, edge, own.number()}, divided(side, before, after));
+            else if (const auto within = before == 0 && after == 0 ? face.part_of(side) : std::nullopt)
+                put({Kind::edge_along_face, edge, own.number()}, *within);
         }
     }
 
@@ -116,7 +124,7 @@ private:
         for (std::size_t at : beside)
             if (inner && faces_[at].locate(*inner) == Place::inside) {
                 const auto [first, second] = std::minmax(one.owners[0], faces_[at].owners[0]);
-                found.insert({Kind::faces_overlap, first.number(), second.number()});
+                put({Kind::faces_overlap, first.number(), second.number()}, *inner);
             }
     }
 
@@ -129,16 +137,16 @@ private:
 
 } // namespace
 
-bool touch_anew(const std::vector<const Model *> &before, const std::vector<const Model *> &after, const Box &box)
+std::optional<ScaledPoint> touch_anew(const std::vector<const Model *> &before, const std::vector<const Model *> &after, const Box &box)
 {
-    std::set<Findings::Finding> found;
+    std::map<Findings::Finding, ScaledPoint> found;
     for (const Model *model : after)
         found.merge(Findings(*model, box).found);
     for (const Model *model : before)
         if (!found.empty())
-            for (const Findings::Finding &known : Findings(*model, box).found)
+            for (const auto &[known, point] : Findings(*model, box).found)
                 found.erase(known);
-    return !found.empty();
+    return found.empty() ? std::nullopt : std::optional(found.begin()->second);
 }
 
 } // namespace gwb_session::touching

@@ -144,10 +144,10 @@ private:
     {
         const bool is_first = all_.spot(solid_, piece.from).what == Spot::corner;
         const Number end = is_first ? piece.from : piece.to;
-        require(is_first || all_.spot(solid_, end).what == Spot::corner, why_);
-        const std::optional<bool> told = cones::is_within(all_, solid_, end, is_first ? piece.way : negative(piece.way));
-        require(told.has_value(), why_);
-        return *told;
+        if (is_first || all_.spot(solid_, end).what == Spot::corner)
+            if (const std::optional<bool> told = cones::is_within(all_, solid_, end, is_first ? piece.way : negative(piece.way)))
+                return *told;
+        throw all_.points.failed_between(why_, end, end);
     }
 
     /// Writes down what is known of the pieces, and forgets it for the next solid.

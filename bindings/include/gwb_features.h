@@ -115,7 +115,9 @@ enum gwb_kind gwb_trim(gwb *g, uint32_t solid, const gwb_cut_plane *plane, gwb_r
  *
  * Refused: NoSolid; NotFlat, with the face. Not possible: OFF_LATTICE: a corner of what is made wouldn't be whole; X is the least factor by which all must be
  * scaled, or 0 where it passes 2^32 - 1. MEETS: what is made, or one of them where they meet, would touch itself; X is the first solid. NOTHING_LEFT, with the
- * first solid. All solids are combined at once, so their order doesn't matter, and what would lie between them on the way isn't asked for. */
+ * first solid. All solids are combined at once, so their order doesn't matter, and what would lie between them on the way isn't asked for. Of OFF_LATTICE and
+ * MEETS gwb_hit tells where, one such point, and what of the solids lies there: a vertex, else an edge, else a face; so it does of features that are made alike:
+ * notch, pad, slot, groove, shoulder, chamfers. */
 
 /** The first of the `n` solids becomes all of them together; the others go. GWB_NO_CALL where a number stands twice, or `n` is below 2. */
 enum gwb_kind gwb_union(gwb *g, const uint32_t *solids, size_t n, gwb_refusal *why);

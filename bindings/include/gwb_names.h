@@ -166,7 +166,7 @@ enum gwb_cause {
     GWB_CAUSE_DEPTH_FRACTION = 10,
     /** a point would not be whole: all must be Y times as large */
     GWB_CAUSE_POINT_FRACTION = 11,
-    /** a corner of what is made would not be whole: all must be Y times as large */
+    /** a corner of what is made would not be whole: all must be X times as large */
     GWB_CAUSE_CORNER_FRACTION = 12,
     /** all points of the outline lie in one line */
     GWB_CAUSE_POINTS_IN_LINE = 13,
@@ -392,7 +392,7 @@ static inline const char *gwb_cause_text(uint32_t number)
     case GWB_CAUSE_NO_SCALE: return "the vector of this depth is whole at no scale, since its length is irrational";
     case GWB_CAUSE_DEPTH_FRACTION: return "the vector of this depth would not be whole: all must be Y times as large";
     case GWB_CAUSE_POINT_FRACTION: return "a point would not be whole: all must be Y times as large";
-    case GWB_CAUSE_CORNER_FRACTION: return "a corner of what is made would not be whole: all must be Y times as large";
+    case GWB_CAUSE_CORNER_FRACTION: return "a corner of what is made would not be whole: all must be X times as large";
     case GWB_CAUSE_POINTS_IN_LINE: return "all points of the outline lie in one line";
     case GWB_CAUSE_AREAS_CANCEL: return "the outline crosses itself, and its parts have equal areas";
     case GWB_CAUSE_OFF_FACE: return "point X of the outline lies off the plane of face Y";

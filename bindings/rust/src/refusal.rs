@@ -92,7 +92,7 @@ Cause {
     NoScale = 9: "the vector of this depth is whole at no scale, since its length is irrational",
     DepthFraction = 10: "the vector of this depth would not be whole: all must be Y times as large",
     PointFraction = 11: "a point would not be whole: all must be Y times as large",
-    CornerFraction = 12: "a corner of what is made would not be whole: all must be Y times as large",
+    CornerFraction = 12: "a corner of what is made would not be whole: all must be X times as large",
     PointsInLine = 13: "all points of the outline lie in one line",
     AreasCancel = 14: "the outline crosses itself, and its parts have equal areas",
     OffFace = 15: "point X of the outline lies off the plane of face Y",

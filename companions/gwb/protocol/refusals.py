@@ -171,7 +171,7 @@ CAUSES: Dict[int, Tuple[str, str]] = {
     9: ('NoScale', 'the vector of this depth is whole at no scale, since its length is irrational'),
     10: ('DepthFraction', 'the vector of this depth would not be whole: all must be Y times as large'),
     11: ('PointFraction', 'a point would not be whole: all must be Y times as large'),
-    12: ('CornerFraction', 'a corner of what is made would not be whole: all must be Y times as large'),
+    12: ('CornerFraction', 'a corner of what is made would not be whole: all must be X times as large'),
     13: ('PointsInLine', 'all points of the outline lie in one line'),
     14: ('AreasCancel', 'the outline crosses itself, and its parts have equal areas'),
     15: ('OffFace', 'points[X] lies off the plane of face Y'),
