@@ -29,7 +29,7 @@ C_NAMES = {('drill', 'n'): 'sides', ('drill_along', 'n'): 'sides'}
 CPP_CALLS = {'unite': 'union'}
 # Python's names, where they are others, and then the arguments too; what it takes by name besides; and arguments that it has otherwise.
 PYTHON_CALLS = {'kill_solid': ('delete',), 'move_solid': ('move', 'turn', 'mirror'), 'copy_solid': ('copy',), 'split_solid': ('split',),
-                'find_faces': ('faces',), 'find_edges': ('edges',), **{f'{name}_along': (name,) for name in BY_VECTORS}}
+                'find_faces': ('faces',), 'find_edges': ('edges',), 'find_crossings': ('crossings',), **{f'{name}_along': (name,) for name in BY_VECTORS}}
 PYTHON_BESIDES = {'solid', 'top', 'above', 'keep', 'scale', 'refine', 'diameter', 'circle', 'within', 'times', 'to'}
 PYTHON_ARGUMENTS: Dict[Tuple[str, str], Arguments] = {
     ('pattern_around', 'degrees'): ('quarters',), ('polyhedron', 'faces'): ('corners', 'sizes'),

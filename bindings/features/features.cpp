@@ -5,6 +5,7 @@
 #include "booleans.hpp"
 #include "circles.hpp"
 #include "components.hpp"
+#include "crossings.hpp"
 #include "cuts.hpp"
 #include "drilling.hpp"
 #include "models.hpp"
@@ -589,6 +590,17 @@ gwb_kind gwb_find_faces(const gwb *g, const gwb_face_query *query, uint32_t *buf
 gwb_kind gwb_find_edges(const gwb *g, const gwb_edge_query *query, uint32_t *buf, size_t room, size_t *found, gwb_refusal *why)
 {
     return sought(g, *query, selection::edges, buf, room, found, why);
+}
+
+gwb_kind gwb_find_crossings(const gwb *g, uint32_t solid, uint32_t other, gwb_crossing *buf, size_t room, size_t *found, gwb_refusal *why)
+{
+    return looked_at(g, why, [&](const Bench &bench) {
+        const Solid own = given<Solid>(solid);
+        *found = rows(crossings::all(bench, own, other != 0 ? std::optional(given<Solid>(other)) : std::nullopt), buf, room, [](const crossings::Crossing &of) {
+            const gwb_hit_row at = of.point.met_at({});
+            return gwb_crossing{of.first.number(), of.second.number(), {at.point[0], at.point[1], at.point[2]}, at.scale};
+        });
+    });
 }
 
 gwb_kind gwb_off_lattice(const gwb *g, uint32_t solid, const gwb_cut_plane *plane, size_t most, gwb_advice **advice, gwb_refusal *why)

@@ -12,13 +12,6 @@ ScaledPoint point_of(const gwb_hit_row &row)
     return {{part(row.point[0]), part(row.point[1]), part(row.point[2])}, part(row.scale)};
 }
 
-bool lies_on(const ScaledPoint &point, const Side &side)
-{
-    const Vector along = side.way(), to = subtract(point.at, times(side.start, point.scale));
-    const auto is_flat = [&](std::size_t one, std::size_t other) { return compare_products(along[one], to[other], along[other], to[one]) == 0; };
-    return is_flat(0, 1) && is_flat(1, 2) && is_flat(2, 0) && ScaledPoint{side.start}.compare(point) * point.compare({side.end}) >= 0;
-}
-
 std::optional<Vertex> vertex_at(const Model &model, const ScaledPoint &point)
 {
     const auto found = std::find_if(model.vertices.begin(), model.vertices.end(), [&](const auto &row) { return point.compare({row.second}) == 0; });
@@ -29,7 +22,7 @@ std::optional<Edge> edge_at(const Model &model, const ScaledPoint &point)
 {
     const auto found = std::find_if(model.edges.begin(), model.edges.end(), [&](const auto &row) {
         go_on();
-        return !is_run(plus(row.first)) && lies_on(point, model.side(plus(row.first)));
+        return !is_run(plus(row.first)) && model.side(plus(row.first)).has(point);
     });
     return found != model.edges.end() ? std::optional(found->first) : std::nullopt;
 }

@@ -70,11 +70,12 @@ public:
     /// The parts of a line within, along which a plane runs on both of whose sides it lies: those that have some of a part in common, where one is given.
     [[nodiscard]] std::vector<Span> cut_by(const Plane &other, const std::optional<Span> &part = {}) const;
 
+    /// The points of sides in a plane, or where they cross it, in their order along the line.
+    [[nodiscard]] std::vector<ScaledPoint> stops_on(const Plane &other) const;
+
 private:
     /// Its sides, and of runs what tells how they lie to a plane.
     [[nodiscard]] std::vector<Side> beside(const Plane &other) const;
-    /// The points of sides in a plane, or where they cross it, in their order along the line.
-    [[nodiscard]] std::vector<ScaledPoint> stops_on(const Plane &other) const;
     [[nodiscard]] bool is_within(const ScaledPoint &one, const ScaledPoint &next) const { return one < next && locate(one.between(next)) == Place::inside; }
     /// The first part between stops that lies within.
     [[nodiscard]] std::optional<Span> first_within(const std::vector<ScaledPoint> &stops) const;

@@ -112,6 +112,14 @@ struct Side {
     friend bool operator<(const Side &a, const Side &b) { return std::tie(a.start, a.end, a.half) < std::tie(b.start, b.end, b.half); }
     friend bool operator==(const Side &a, const Side &b) { return a.start == b.start && a.end == b.end && a.half == b.half; }
 
+    /// Whether a point lies on it, its ends included.
+    [[nodiscard]] bool has(const ScaledPoint &point) const
+    {
+        const Vector along = way(), to = subtract(point.at, times(start, point.scale));
+        const auto is_flat = [&](std::size_t one, std::size_t other) { return compare_products(along[one], to[other], along[other], to[one]) == 0; };
+        return is_flat(0, 1) && is_flat(1, 2) && is_flat(2, 0) && ScaledPoint{start}.compare(point) * point.compare({end}) >= 0;
+    }
+
     // Against a point or a side of the same plane, which is seen by these axes:
 
     /// Positive where the point lies left of the side's line, negative right of it, zero on it.

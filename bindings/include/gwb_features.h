@@ -252,6 +252,16 @@ typedef struct gwb_edge_query {
 /** The same of edges. Refused: NoFace; NoSolid. GWB_NO_CALL also where one of two faces is 0. */
 enum gwb_kind gwb_find_edges(const gwb *g, const gwb_edge_query *query, uint32_t *buf, size_t room, size_t *found, gwb_refusal *why);
 
+/** Two faces that cross or touch, and a point at which they do. */
+typedef struct gwb_crossing {
+    uint32_t first, second;   /**< of one solid the lesser one first, of two that of the first one */
+    gwb_wide point[3], scale; /**< coordinates times the scale */
+} gwb_crossing;
+/** Writes the pairs of faces of a solid that have a point in common which lies on no edge and no vertex of both, rising, as far as there is room; where `other`
+ * isn't 0, those of a face of the solid and one of the other that have any point in common. A reader, in time n log n and by how many faces lie near each
+ * other. Refused: NoSolid; NotFlat, with a face. */
+enum gwb_kind gwb_find_crossings(const gwb *g, uint32_t solid, uint32_t other, gwb_crossing *rows, size_t room, size_t *found, gwb_refusal *why);
+
 /** A plane beside another one. */
 typedef struct gwb_near_plane {
     gwb_cut_plane plane;

@@ -117,18 +117,18 @@ Answer<Policy, Merger> combine(Commands<Policy> &bench, const char *command, Cal
 template <class T> const T *pointer(const std::optional<T> &value) { return value ? &*value : nullptr; }
 
 /// What a query finds, which is asked for twice.
-template <class Kind, class Policy, class Query, class Call>
+template <class Kind, class Row = std::uint32_t, class Policy, class Query, class Call>
 Answer<Policy, std::vector<Kind>> found(const Commands<Policy> &bench, const char *reader, const Query &query, Call call)
 {
-    std::vector<std::uint32_t> numbers;
+    std::vector<Row> rows;
     std::size_t count = 64;
-    while (count > numbers.size()) {
-        numbers.resize(count);
+    while (count > rows.size()) {
+        rows.resize(count);
         gwb_refusal why{};
-        if (const gwb_kind kind = call(bench.handle(), &query, numbers.data(), numbers.size(), &count, &why); kind != GWB_OK)
+        if (const gwb_kind kind = call(bench.handle(), &query, rows.data(), rows.size(), &count, &why); kind != GWB_OK)
             return Policy::template failed<std::vector<Kind>>(reader, bench.feature_failure(kind, why));
     }
-    return std::vector<Kind>(numbers.data(), numbers.data() + count);
+    return std::vector<Kind>(rows.data(), rows.data() + count);
 }
 
 } // namespace features
@@ -497,6 +497,19 @@ template <class Policy> Answer<Policy, std::vector<Edge>> find_edges(const Comma
     const gwb_edge_query row = {query.solid.value_or(Solid()).number(), {one.number(), other.number()}, features::pointer(query.along),
                                 features::pointer(query.length)};
     return features::found<Edge>(bench, "find_edges", row, gwb_find_edges);
+}
+
+/// The pairs of faces of a solid that have a point in common which lies on no edge or vertex of both, with such a point, rising; or of a face of it and one of
+/// another that have any. Refused: NoSolid; NotFlat.
+template <class Policy>
+Answer<Policy, std::vector<Crossing>> find_crossings(const Commands<Policy> &bench, Solid solid, std::optional<Solid> other = {})
+{
+    if (other == Solid()) // (for gwb_find_crossings it would be none)
+        return Policy::template failed<std::vector<Crossing>>("find_crossings", {Problem::refused, GWB_WHY_NO_SOLID, 0});
+    const auto call = [other](const gwb *g, const Solid *own, gwb_crossing *rows, std::size_t room, std::size_t *count, gwb_refusal *why) {
+        return gwb_find_crossings(g, own->number(), other.value_or(Solid()).number(), rows, room, count, why);
+    };
+    return features::found<Crossing, gwb_crossing>(bench, "find_crossings", solid, call);
 }
 
 /// What is to be said of a cut whose points aren't whole.

@@ -104,6 +104,14 @@ struct Merger {
     operator Solid() const { return solid; }
 };
 
+/// Two faces that cross or touch, and a point at which they do: coordinates times the scale.
+struct Crossing {
+    explicit Crossing(const gwb_crossing &row) : first(row.first), second(row.second), point{row.point[0], row.point[1], row.point[2]}, scale(row.scale) {}
+    Face first, second;
+    std::array<gwb_wide, 3> point;
+    gwb_wide scale;
+};
+
 /// What split_solid and cut make: the solid above the plane, and the faces that close both parts.
 struct Split {
     Solid above;

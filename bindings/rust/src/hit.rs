@@ -35,7 +35,7 @@ pub struct Hit {
 }
 
 /// A fraction in lowest terms; the denominator is above zero.
-fn lowest(numerator: i128, denominator: i128) -> Fraction {
+pub(crate) fn lowest(numerator: i128, denominator: i128) -> Fraction {
     let (mut divisor, mut rest) = (denominator, numerator.unsigned_abs() as i128);
     while rest != 0 {
         (divisor, rest) = (rest, divisor % rest);

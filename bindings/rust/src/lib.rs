@@ -59,7 +59,7 @@ pub use operators::Operators;
 pub use readers::{Numbers, Readers, Shared};
 pub use refusal::{Cause, Misfit, Refusal};
 pub use rows::{Block, Counts, EdgeRow, FaceRow, HalfEdgeRow, Lamina, NewFace, NewSolid, Plane, Point};
-pub use selection::{EdgeQuery, FaceQuery};
+pub use selection::{Crossing, EdgeQuery, FaceQuery};
 pub use session::Session;
 
 /// The version of the library that is linked: 3.0.0 is `(3, 0, 0)`.

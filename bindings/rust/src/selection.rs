@@ -1,5 +1,7 @@
 //! Faces and edges by where they lie, exactly.
 use crate::features::told;
+use crate::hit::lowest;
+use crate::off_lattice::Fraction;
 use crate::readers::number_of;
 use crate::{Edge, Error, Face, Id, Point, Readers, Solid};
 use gwb_sys::{Gwb, Refusal};
@@ -43,6 +45,18 @@ pub struct EdgeQuery {
     pub length: Option<[u64; 2]>,
 }
 
+/// Two faces that cross or touch.
+#[derive(Clone, Copy, Debug, PartialEq, Eq)]
+#[non_exhaustive]
+pub struct Crossing {
+    /// Of one solid the face of the lesser number, of two that of the first one.
+    pub first: Face,
+    /// The other one.
+    pub second: Face,
+    /// A point that both have.
+    pub point: [Fraction; 3],
+}
+
 fn pointer<T>(value: &Option<T>) -> *const T {
     value.as_ref().map_or(null(), |value| value)
 }
@@ -84,13 +98,36 @@ impl Readers {
         self.sought(|g, buf, room, count, why| unsafe { gwb_sys::gwb_find_edges(g, &row, buf, room, count, why) })
     }
 
-    /// What a query finds, which is asked for again where there is more than room.
+    /// The pairs of faces of a solid that have a point in common which lies on no edge or vertex of both, rising; or of a face of it and one of another solid
+    /// that have any.
+    ///
+    /// # Errors
+    /// [`Error::Refused`] with `NoSolid` or `NotFlat`; [`Error::Memory`]; [`Error::Stopped`].
+    pub fn find_crossings(&self, solid: Solid, other: Option<Solid>) -> Result<Vec<Crossing>, Error> {
+        let beyond = number_of(other).ok_or(NO_SOLID)?;
+        let found: Vec<gwb_sys::Crossing> =
+            self.rows(|g, buf, room, count, why| unsafe { gwb_sys::gwb_find_crossings(g, solid.0, beyond, buf, room, count, why) })?;
+        let crossing = |row: gwb_sys::Crossing| Crossing {
+            first: Face(row.first),
+            second: Face(row.second),
+            point: row.point.map(|part| lowest(part.into(), row.scale.into())),
+        };
+        Ok(found.into_iter().map(crossing).collect())
+    }
+
+    /// The numbers that a query finds.
     fn sought<N: Id>(&self, call: impl Fn(*mut Gwb, *mut u32, usize, *mut usize, *mut Refusal) -> u32) -> Result<Vec<N>, Error> {
+        Ok(self.rows(call)?.into_iter().map(N::from_number).collect())
+    }
+
+    /// What a query finds, which is asked for again where there is more than room.
+    fn rows<Row: Clone + Default>(&self, call: impl Fn(*mut Gwb, *mut Row, usize, *mut usize, *mut Refusal) -> u32) -> Result<Vec<Row>, Error> {
         let (mut found, mut count, mut why) = (Vec::new(), 64, Refusal::default());
         while count > found.len() {
-            found.resize(count, 0);
+            found.resize(count, Row::default());
             told(call(self.handle(), found.as_mut_ptr(), found.len(), &mut count, &mut why), why)?;
         }
-        Ok(found.into_iter().take(count).map(N::from_number).collect())
+        found.truncate(count);
+        Ok(found)
     }
 }

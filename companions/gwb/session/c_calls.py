@@ -26,6 +26,7 @@ CutPlane, Ratio = _struct(a=LENGTH, b=LENGTH, c=LENGTH, d=LENGTH), _struct(numer
 _WORDS, _ROWS, _POINT, _PLANE, _RATIO, _MOTION, _PAIR = map(ctypes.POINTER, (WORD, LENGTH, Point, CutPlane, Ratio, Motion, Pair))
 HitRow = _struct(cause=WORD, kind=WORD, number=WORD, point=Wide * 3, scale=Wide)
 EdgeCut, NearPlane = _struct(edge=WORD, numerators=Wide * 3, denominators=Wide * 3), _struct(plane=CutPlane, is_parallel=ctypes.c_bool, moved=ctypes.c_double)
+CrossingRow = _struct(first=WORD, second=WORD, point=Wide * 3, scale=Wide)
 FaceQuery = _struct(solid=WORD, plane=_PLANE, normal=_POINT, containing=_POINT, area=_RATIO)
 EdgeQuery = _struct(solid=WORD, between=WORD * 2, along=_POINT, length=_RATIO)
 _TEXT, _HANDLE, _REFUSAL, _SIZES = ctypes.c_char_p, *map(ctypes.POINTER, (Handle, Refusal, SIZE))
@@ -62,6 +63,7 @@ _FEATURES: Dict[str, List[Any]] = {
     **{name + ending: [*taken, reach] for ending, reach in (('', LENGTH), ('_along', _POINT)) for name, taken in _SHAPED.items()},
     'chamfer': [WORD, LENGTH, LENGTH, _WORDS],
     'cut': [WORD, _PLANE, WORD], 'trim': [WORD, _PLANE], 'off_lattice': [WORD, _PLANE, SIZE, ctypes.POINTER(ADDRESS)],
+    'find_crossings': [WORD, WORD, ctypes.POINTER(CrossingRow), SIZE, _SIZES],
     **{name: [ctypes.POINTER(query), _WORDS, SIZE, _SIZES] for name, query in (('find_faces', FaceQuery), ('find_edges', EdgeQuery))}}
 # Of each call by its export what it returns, and all that it takes.
 PROTOTYPES: Dict[str, Tuple[Any, List[Any]]] = {

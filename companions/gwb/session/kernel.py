@@ -22,7 +22,7 @@ from ..protocol.refusals import ADVICE, CAUSES, MISFITS
 from ..protocol.replies import Reply
 from .c_calls import (ADDRESS, IMPOSSIBLE, MEMORY, NO_CALL, OK, REFUSED, SIZE, WORD, CutPlane, EdgeCut, HitRow, NearPlane, Pair, Refusal, rows,
                       whole)
-from .lengths import Lengths
+from .lengths import ExactPlace, Lengths
 from .library import Library, filled
 from .notes import Notes
 from .results import Numbers
@@ -278,15 +278,20 @@ class Kernel:
         self.give(word, number, rows(points), len(points), *more, made, along, *beside)
         return made.first, made.second, tuple(along)
 
-    def find(self, word: str, query: Any) -> List[int]:
-        """The faces or edges that are sought, rising. A complaint is raised."""
+    def find(self, word: str, *query: Any, kind: Any = WORD) -> List[Any]:
+        """What is sought, rising: by default numbers of faces or edges. A complaint is raised."""
         count = SIZE()
 
         def write(found: Any, room: int) -> int:
-            self._ask(word, query, found, room, count)
+            self._ask(word, *query, found, room, count)
             return count.value
 
-        return list(filled(WORD, write))
+        return list(filled(kind, write))
+
+    def exact_point(self, point: Any, scale: int) -> ExactPlace:
+        """A point in millimetres, of coordinates in steps times the scale."""
+        x, y, z = (self.lengths.out(Fraction(whole(part), scale)) for part in point)
+        return (x, y, z)
 
     def load(self, model: Model) -> None:
         """Makes what a model has, which isn't empty, with its numbers."""
@@ -344,8 +349,7 @@ class Kernel:
         if hit.number and hit.kind < len(THINGS):
             error.hit = THINGS[hit.kind], hit.number
         if scale := whole(hit.scale):
-            x, y, z = (self.lengths.out(Fraction(whole(part), scale)) for part in hit.point)
-            error.point = (x, y, z)
+            error.point = self.exact_point(hit.point, scale)
         return error
 
 

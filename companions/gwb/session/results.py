@@ -33,6 +33,14 @@ class NewFace(NamedTuple):
     loop: int
 
 
+class FaceCrossing(NamedTuple):
+    """Two faces that cross or touch: of one solid the lesser number first, of two the face of the first; and a point that both have, in millimetres."""
+
+    first: int
+    second: int
+    point: ExactPlace
+
+
 class Lamina(NamedTuple):
     """What lamina makes: the face that has the points in their order, the one at its back, edge i from point i on."""
 

@@ -10,11 +10,11 @@ from ..geometry import sections, solid_measures
 from ..geometry.plane_figures import Exact
 from . import arguments
 from .bench import Methods
-from .c_calls import LENGTH, WORD, CutPlane, EdgeQuery, FaceQuery, Point, ratio, whole
+from .c_calls import LENGTH, WORD, CrossingRow, CutPlane, EdgeQuery, FaceQuery, Point, ratio, whole
 from .kernel import OffLattice
 from .lengths import ExactPlace, Lengths, direction, place, plain
 from .reading import EdgePart, FacePart, Found, LoopPart, Selection, SolidPart, VertexPart
-from .results import Plane
+from .results import FaceCrossing, Plane
 
 # How many tilted planes are named beside a cut off the lattice.
 _MOST_TILTED = 3
@@ -164,6 +164,17 @@ class Reading(Methods):
         numbers = self._kernel.lines.numbers('vertex') if solid is None else self.solid(solid).vertices.numbers
         fitting = [number for number in numbers if spot is None or self._kernel.lines.vertex(number) == spot]
         return self._selected(VertexPart, fitting, solid=solid, at=at)
+
+    def crossings(self, solid: arguments.Solid, other: Optional[arguments.Solid] = None) -> List[FaceCrossing]:
+        """The pairs of faces of a solid that have a point in common which lies on no edge or vertex of both, rising; or of a face of the solid and one of
+        the other that have any. Refused: NoSolid; NotFlat, with a face.
+
+        >>> bench.crossings(block)
+        []
+        """
+        number = self._number('solid', solid)
+        rows = self._kernel.find('find_crossings', number, 0 if other is None else self._number('other', other, 'solid'), kind=CrossingRow)
+        return [FaceCrossing(row.first, row.second, self._kernel.exact_point(row.point, whole(row.scale))) for row in rows]
 
     def bounding_box(self, solid: arguments.Solid) -> solid_measures.BoundingBox:
         """The least box with sides along the axes around the solid. Refused: NoSolid.

@@ -225,6 +225,8 @@ rows! {
     OutlineMade { face: u32, of_loop: u32 }
     /// What a feature met that was refused or isn't possible.
     HitRow { cause: u32, kind: u32, number: u32, point: [Wide; 3], scale: Wide }
+    /// Two faces that cross or touch, and a point at which they do.
+    Crossing { first: u32, second: u32, point: [Wide; 3], scale: Wide }
     /// A vertex, and where it lies.
     VertexRow { vertex: u32, point: Point }
     /// A face or an edge that is new or gone, and the one that it was split from, or joined to.
@@ -399,6 +401,9 @@ extern "C" {
     ) -> u32;
     pub fn gwb_find_faces(g: *const Gwb, query: *const FaceQuery, buf: *mut u32, room: usize, found: *mut usize, why: *mut Refusal) -> u32;
     pub fn gwb_find_edges(g: *const Gwb, query: *const EdgeQuery, buf: *mut u32, room: usize, found: *mut usize, why: *mut Refusal) -> u32;
+    pub fn gwb_find_crossings(
+        g: *const Gwb, solid: u32, other: u32, rows: *mut Crossing, room: usize, found: *mut usize, why: *mut Refusal,
+    ) -> u32;
     pub fn gwb_cut(g: *mut Gwb, solid: u32, plane: *const CutPlane, above: u32, why: *mut Refusal) -> u32;
     pub fn gwb_trim(g: *mut Gwb, solid: u32, plane: *const CutPlane, why: *mut Refusal) -> u32;
     pub fn gwb_union(g: *mut Gwb, solids: *const u32, n: usize, why: *mut Refusal) -> u32;
