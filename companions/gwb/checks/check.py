@@ -1,6 +1,6 @@
 """Looks for slips that gwb doesn't: where the geometry of a sound model isn't that of solids."""
 
-from typing import Dict, Iterator, List, Mapping, NamedTuple, Optional
+from typing import Callable, Dict, Iterator, List, Mapping, NamedTuple, Optional
 
 from ..geometry.model import Model
 from ..geometry.vectors import Vector, ZERO
@@ -30,14 +30,14 @@ class Report(NamedTuple):
         yield f'{count or "no"} finding{"" if count == 1 else "s"}'
 
 
-def check(model: Model, between: bool = False, slivers: Optional[int] = None) -> Report:
+def check(model: Model, between: bool = False, slivers: Optional[int] = None, are_apart: Callable[[int], bool] = lambda solid: False) -> Report:
     """Looks at each face, and at each solid by itself; with `between` for solids that share room too, with `slivers` for faces and solids that
-    are more than so many times as long as they are wide or thick."""
+    are more than so many times as long as they are wide or thick. `are_apart` says of a solid whether it is known that no two of its faces cross or touch."""
     known = flat_faces(model)
     normals, flat = known
     findings = list(_face_findings(model, normals, flat))
     findings += [finding for solid in model.solids if not is_star(model, solid, normals)
-                 for finding in SolidCheck(model, solid, known).findings()]
+                 for finding in SolidCheck(model, solid, known, are_apart(solid)).findings()]
     if slivers is not None:
         findings += sliver_findings(model, slivers)
     if between:

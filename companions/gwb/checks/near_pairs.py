@@ -50,6 +50,16 @@ def near_pairs(model: Model, normals: Mapping[int, Vector], convex: Optional[Map
     return found
 
 
+def own_pairs(model: Model, normals: Mapping[int, Vector], convex: Optional[Mapping[int, bool]] = None) -> NearPairs:
+    """The same where no two faces have a point in common that they don't share: pairs within one face alone."""
+    known = patches(model, normals, convex)
+    found = NearPairs([], {**{face: -face for face in model.faces}, **known.patch_of}, {}, {}, {}, {}, _open_edges(model, normals))
+    for face in normals:
+        if not known.convex[face]:
+            _put_own(found, model, face)
+    return found
+
+
 def _open_edges(model: Model, normals: Mapping[int, Vector]) -> Set[int]:
     """The edges that have no face beside them whose normal is given."""
     if len(normals) == len(model.faces):

@@ -18,7 +18,7 @@ from ..geometry.triangulation import face_triangles
 from ..geometry.vectors import Vector, ZERO, cross, dot, lies_between, reduced, subtract
 from .face_checks import FlatFaces, flat_faces
 from .findings import CROSSING, MEETING, TOUCHING, Finding
-from .near_pairs import near_pairs
+from .near_pairs import near_pairs, own_pairs
 from .patches import shells_of_patches
 from .shell_checks import shell_findings
 
@@ -26,15 +26,15 @@ from .shell_checks import shell_findings
 class SolidCheck:
     """One solid of a model, made ready for its parts to be compared."""
 
-    def __init__(self, model: Model, solid: int, known: Optional[FlatFaces] = None) -> None:
-        """What is known of the model's faces is given where that is at hand."""
+    def __init__(self, model: Model, solid: int, known: Optional[FlatFaces] = None, apart: bool = False) -> None:
+        """What is known of the model's faces is given where that is at hand; and whether no two faces cross or touch, for what they don't share."""
         self._model = model.only(solid)
         self._solid = solid
         self._normals, convex = known or flat_faces(self._model)
         self._flat = {face: self._normals[face] for face in self._model.faces if face in convex}
         self._known_shapes: Dict[int, FlatFace] = {}
         self._inner: Dict[int, Optional[ExactVector]] = {}
-        self._pairs = near_pairs(self._model, self._flat, convex)
+        self._pairs = (own_pairs if apart else near_pairs)(self._model, self._flat, convex)
         self._shells = shells_of_patches(self._model, self._pairs.patch_of)
         self._flat_shells = {face: shell[0] for shell in self._shells if self._is_in_one_plane(shell) for face in shell}
 

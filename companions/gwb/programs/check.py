@@ -1,19 +1,42 @@
 """gwb-check: looks for slips that gwb doesn't."""
 
 from argparse import ArgumentTypeError
-from typing import Optional, Sequence
+from contextlib import contextmanager
+from fractions import Fraction
+from typing import Callable, Iterator, Optional, Sequence
 
 from ..checks.check import check
+from ..errors import CompanionError
+from ..geometry.model import Model
+from ..session.kernel import Kernel
+from ..session.library import find_path
 from .command_line import FOUND, OK, listing_parser, run
 from .given import wanted
 
 PROGRAM = 'gwb-check'
+# A model of fewer faces is looked at before the library is loaded.
+_MANY_FACES = 1000
 
 
 def _ratio(word: str) -> int:
     if not word.isdecimal() or not 1 <= int(word[:9]) <= 10 ** 8 or len(word) > 9:
         raise ArgumentTypeError(f'{word[:20]!r} is no whole number from 1 to 100,000,000')
     return int(word)
+
+
+@contextmanager
+def _told_apart(model: Model) -> Iterator[Callable[[int], bool]]:
+    """What says of solids whether none of their faces cross or touch: of large ones the library, where there is one."""
+    kernel = None
+    try:
+        if len(model.faces) >= _MANY_FACES:
+            kernel = Kernel(find_path(), Fraction(1))
+            kernel.load(model)
+    except CompanionError:
+        kernel = None
+    yield kernel.are_apart if kernel else lambda solid: False
+    if kernel:
+        kernel.close()
 
 
 def work(words: Optional[Sequence[str]]) -> int:
@@ -25,7 +48,9 @@ def work(words: Optional[Sequence[str]]) -> int:
     parser.add_argument('--between', action='store_true', help='look for solids that share room too')
     parser.add_argument('--slivers', type=_ratio, metavar='N', help='name faces and solids more than N times as long as wide or thick, by 1000 say')
     options = parser.parse_args(words)
-    report = check(wanted(options).model, options.between, options.slivers)
+    model = wanted(options).model
+    with _told_apart(model) as are_apart:
+        report = check(model, options.between, options.slivers, are_apart)
     for line in report.lines():
         print(line)
     return FOUND if report.findings else OK

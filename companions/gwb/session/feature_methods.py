@@ -132,7 +132,7 @@ class FeatureMethods(Methods):
                 if why is not None:
                     what = f'the side from points[{place - 1}] on' if place > 0 else 'the outline' if place == 0 else 'the top'
                     raise refused('profile', NUMBERS['NotFlat'], max(place, 0), f"{what} {'has no area' if 'no area' in why else 'is not flat'}")
-            if check(model).findings:
+            if check(model, are_apart=self._kernel.are_apart).findings:
                 raise Impossible('Meets', 0, 'the solid would cross or touch itself')
         far, near, *walls = made.faces
         return Profile(made.solid, far, near, tuple(walls))

@@ -20,8 +20,8 @@ from ..protocol.language import NUMBERS, first_word, refusal, with_value
 from ..protocol.listing import listing_lines
 from ..protocol.refusals import ADVICE, CAUSES, MISFITS
 from ..protocol.replies import Reply
-from .c_calls import (ADDRESS, IMPOSSIBLE, MEMORY, NO_CALL, OK, REFUSED, SIZE, WORD, CutPlane, EdgeCut, HitRow, NearPlane, Pair, Refusal, rows,
-                      whole)
+from .c_calls import (ADDRESS, IMPOSSIBLE, MEMORY, NO_CALL, OK, REFUSED, SIZE, WORD, CrossingRow, CutPlane, EdgeCut, HitRow, NearPlane, Pair, Refusal,
+                      rows, whole)
 from .lengths import ExactPlace, Lengths
 from .library import Library, filled
 from .notes import Notes
@@ -287,6 +287,13 @@ class Kernel:
             return count.value
 
         return list(filled(kind, write))
+
+    def are_apart(self, solid: int) -> bool:
+        """Whether no two faces of a solid, all of which are flat, cross or touch."""
+        try:
+            return not self.find('find_crossings', solid, 0, kind=CrossingRow)
+        except Refused:
+            return False
 
     def exact_point(self, point: Any, scale: int) -> ExactPlace:
         """A point in millimetres, of coordinates in steps times the scale."""

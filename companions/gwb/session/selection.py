@@ -173,7 +173,7 @@ class Reading(Methods):
         []
         """
         number = self._number('solid', solid)
-        rows = self._kernel.find('find_crossings', number, 0 if other is None else self._number('other', other, 'solid'), kind=CrossingRow)
+        rows = self._kernel.find('find_crossings', number, self._sought_in(other, 'other'), kind=CrossingRow)
         return [FaceCrossing(row.first, row.second, self._kernel.exact_point(row.point, whole(row.scale))) for row in rows]
 
     def bounding_box(self, solid: arguments.Solid) -> solid_measures.BoundingBox:
@@ -314,9 +314,9 @@ class Reading(Methods):
         words = [f'{name}={value!r}' for name, value in criteria.items() if value is not None]
         return Selection(kind.kind, f' with {", ".join(words)}' if words else '', [kind(self._kernel, number) for number in numbers])
 
-    def _sought_in(self, solid: Optional[arguments.Solid]) -> int:
-        """The number of a solid for a query, in which 0 stands for all."""
-        return 0 if solid is None else arguments.positive('solid', self._number('solid', solid))
+    def _sought_in(self, solid: Optional[arguments.Solid], name: str = 'solid') -> int:
+        """The number of a solid for a query, in which 0 stands for all, or none."""
+        return 0 if solid is None else arguments.positive(name, self._number(name, solid, 'solid'))
 
     def _faces(self, **faces: arguments.Face) -> Tuple[Any, ...]:
         """The faces alone, and their numbers. Refused: NoFace."""
