@@ -93,6 +93,7 @@ CASES.update(dict.fromkeys(('area', 'square_area'), ({'face': 1}, {'face': NUMBE
 CASES.update(dict.fromkeys(('length', 'square_length'), ({'edge': 1}, {'edge': HALF})))
 CASES.update(dict.fromkeys(('distance', 'square_distance'), ({'face': 1, 'other': 2}, {'face': NUMBER, 'other': NUMBER})))
 CASES.update(dict.fromkeys(('section', 'off_lattice'), ({'solid': 1, 'plane': (1, 0, 0, 0)}, {'solid': NUMBER, 'plane': PLANE})))
+CASES['crossings'] = ({'solid': 1}, {'solid': NUMBER, 'other': GIVEN})
 CASES.update(dict.fromkeys(('half_edges_array', 'triangles_array'), ({}, {'solid': GIVEN})))
 CASES['inertia'] = ({'solid': 1}, {'solid': NUMBER, 'about': (True, 1, 'abc', (0, 0), (0, 0, nan), (0, True, 0), (0, 0, None))})
 CASES['label'] = ({'thing': 1}, {'thing': (*NUMBER, 1), 'name': (1, None, b'Lid'), 'colour': (1, None, b'#FF8000', 'red', '#FF80')})
@@ -150,6 +151,7 @@ class Things(unittest.TestCase):
              'face': {'face': 'face'}, 'loop': {'loop': 'loop'}, 'edge': {'edge': 'edge'}, 'vertex': {'vertex': 'vertex'},
              'faces': {'solid': 'solid'}, 'edges': {'solid': 'solid'}, 'vertices': {'solid': 'solid'}, 'ring': {'face': 'face'}, 'sketch': {'face': 'face'},
              'pocket': {'face': 'face'}, 'boss': {'face': 'face'}, 'hole': {'face': 'face'}, 'drill': {'face': 'face'},
+             'crossings': {'solid': 'solid', 'other': 'solid'},
              **dict.fromkeys(('bounding_box', 'centroid', 'surface_area', 'inertia', 'section', 'off_lattice'), {'solid': 'solid'}),
              **dict.fromkeys(('area', 'square_area'), {'face': 'face'}), **dict.fromkeys(('length', 'square_length'), {'edge': 'edge'}),
              **dict.fromkeys(('distance', 'square_distance'), {'face': 'face', 'other': 'face'})}
