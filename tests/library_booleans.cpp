@@ -454,7 +454,7 @@ static void try_large_factors()
         const Solid all = unite(bench, prisms);
         const Solid block = bench.block({at, -1, -1}, {length, 80, 8});
         const Failure why = subtract(attempt, all, {block}).error();
-        check(why.is(Misfit::off_lattice) && why.value == 0 && why.hit.cause == 0, "a factor that passes what can be said");
+        check(why.is(Misfit::off_lattice) && why.value == 0 && why.hit.cause == GWB_CAUSE_PAST_RANGE, "a factor that passes what can be said");
         check_met(bench, why, {all, block}, false, "one of its corners");
         outcomes["OffLattice by no number"]++;
     }

@@ -20,7 +20,7 @@ public:
     {
         if (value_ != 1)
             throw impossible(Misfit::off_lattice, value_ <= UINT32_MAX ? static_cast<std::uint32_t>(value_) : 0,
-                             at_.met_at(value_ <= UINT32_MAX ? met(GWB_CAUSE_CORNER_FRACTION) : gwb_hit_row{}));
+                             at_.met_at(met(value_ <= UINT32_MAX ? GWB_CAUSE_CORNER_FRACTION : GWB_CAUSE_PAST_RANGE)));
     }
 
 private:

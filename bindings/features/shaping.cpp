@@ -13,7 +13,7 @@ enum : std::size_t { floor_mark, wall_mark };
 
 /// Something wouldn't be whole: the value is the factor that helps, or 0.
 Failure off_lattice(const gwb_hit_row &hit) { return impossible(Misfit::off_lattice, hit.number, hit); }
-Failure fraction_of_corner(Wide factor) { return off_lattice(factor <= UINT32_MAX ? met_factor(GWB_CAUSE_CORNER_FRACTION, factor) : gwb_hit_row{}); }
+Failure fraction_of_corner(Wide factor) { return off_lattice(met_factor(GWB_CAUSE_CORNER_FRACTION, factor)); }
 
 /// So far along a way from a point, as a fraction says.
 Vector whole_on_way(const Vector &start, const Vector &way, Wide numerator, Wide denominator)
