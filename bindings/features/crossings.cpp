@@ -104,7 +104,9 @@ private:
 std::optional<Near> near(const Bench &bench, const Surface &surface, Face face, const std::set<Loop> &loops)
 {
     require(surface.plane(face) != nullptr, refused(GWB_WHY_NOT_FLAT, face.number()));
-    return loops.count(bench.face(face).outer_loop) != 0 ? std::optional(Near{face, surface.shape(face, loops)}) : std::nullopt;
+    if (loops.count(bench.face(face).outer_loop) == 0)
+        return std::nullopt;
+    return Near{face, surface.shape(face, loops)};
 }
 
 } // namespace
