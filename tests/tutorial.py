@@ -1,9 +1,9 @@
 #!/usr/bin/env python3
-"""Runs the parts that docs/TUTORIAL.md builds, and compares what stands beside each step.
+"""Runs the parts that docs/TUTORIAL.md and docs/PYTHON.md build, and compares what stands beside each step.
 
     tests/tutorial.py [--write] [LIBRARY]        LIBRARY is bindings/out/libgwb.so where none is given
 
-The page's blocks in Python are run in order; one that begins with `from gwb import` begins a new part. What a block prints stands in comments behind
+A page's blocks in Python are run in order; one that begins with `from gwb import` begins a new part. What a block prints stands in comments behind
 its `print`. A block marked `text` behind it has the commands that it sent, and an image behind it shows the model that it left. --write writes the
 commands and the images anew. README.md shows examples/bracket.py, with a picture of what it leaves. The last line counts what was compared.
 """
@@ -24,7 +24,7 @@ from gwb.drawing.svg import svg_text
 from gwb.protocol.listing import model_of
 from gwb.protocol.replies import split_replies
 
-PAGE = TOP / 'docs' / 'TUTORIAL.md'
+PAGES = (TOP / 'docs' / 'TUTORIAL.md', TOP / 'docs' / 'PYTHON.md')
 PICTURES = TOP / 'docs' / 'tutorial'
 README, EXAMPLE = TOP / 'README.md', TOP / 'examples' / 'bracket.py'
 LIBRARY = TOP / 'bindings' / 'out' / 'libgwb.so'
@@ -69,7 +69,7 @@ class Part:
         self._before = self._script()
         printed = io.StringIO()
         with redirect_stdout(printed):
-            exec(compile(code, PAGE.name, 'exec'), self._names)
+            exec(compile(code, 'a page', 'exec'), self._names)
         wanted = _PRINTED.findall(code)
         found = printed.getvalue().splitlines()
         return '' if found == wanted else f'{code.splitlines()[0]!r} ..: printed {found}, not {wanted}'
@@ -137,27 +137,26 @@ def written(page: str, found: List[Tuple[Piece, str, str]]) -> str:
 
 
 def spare(found: List[Tuple[Piece, str, str]]) -> Iterator[str]:
-    """The files beside the page's images that it doesn't show."""
+    """The files beside the pages' images that none of them shows."""
     shown = {piece.text for piece, _, _ in found if piece.kind == 'image'}
-    yield from (f'docs/tutorial/{path.name}: the page does not show it' for path in sorted(PICTURES.glob('*')) if path.name not in shown)
+    yield from (f'docs/tutorial/{path.name}: no page shows it' for path in sorted(PICTURES.glob('*')) if path.name not in shown)
 
 
 def main() -> int:
     given = command_line(__doc__, '--write', library=LIBRARY)
     os.environ['GWB'] = str(there(given.library, 'library'))
-    found = tried()
-    if given.write:
-        PAGE.write_text(written(PAGE.read_text(), found))
-        found = tried()
+    for page in PAGES if given.write else ():
+        page.write_text(written(page.read_text(), tried(page)))
+    found = [piece for page in PAGES for piece in tried(page)]
     with tempfile.TemporaryDirectory() as folder, within(folder):
         first = list(example())
     return told([*first, *(why for _, why, _ in found), *spare(found)])
 
 
-def tried() -> List[Tuple[Piece, str, str]]:
-    """All pieces of the page, compared, in a folder where exported files may stand."""
+def tried(page: Path) -> List[Tuple[Piece, str, str]]:
+    """All pieces of a page, compared, in a folder where exported files may stand."""
     with tempfile.TemporaryDirectory() as folder, within(folder):
-        return list(compared(PAGE.read_text()))
+        return list(compared(page.read_text()))
 
 
 if __name__ == '__main__':
