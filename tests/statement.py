@@ -49,7 +49,13 @@ FURTHER = (('call_lists/src/laws.rt', 'marks_lead_back'), ('reached_models/src/l
 SHARED_TITLE = 'Larger commands'
 SHARED_TEXT = """Here are the definitions that the contracts of `make_all` and `run` take by name: when a lamina, a block, a sweep, a glue and a split are refused, which
 of these conditions are tested before memory is asked for, what models the commands make, and by which operators."""
+SHARED_ANCHOR = '#larger-commands'
+SHARED_SAYS = 'when a lamina, a block, a sweep, a glue and a split are refused, and what they make'
 WIDTH = 150
+# No line of the page is longer.
+LONGEST = 156
+# Where a longer one is broken at the earliest.
+INDENT = 20
 # So many lines has what the page quotes at most: a law, or a law with all that it rests on.
 SHORT = 12
 # What the standard library says of bytes that are read and written, and the words of it that contracts of runs use.
@@ -57,33 +63,62 @@ KNOWN_BYTES = 'rattle/std/specs/Io/KnownBytes.antt'
 BYTES = ('Appends', 'Consumes', 'IsAtEnd')
 HEAD = """# Statements
 
-Who checks a proof by a machine trusts the prover, and reads only *what* was proved: the theorem and the definitions of its words. This page lists what
-there is to read for each main theorem. [PROOFS.md](PROOFS.md) says in plain words what they mean, and [explains the signs](PROOFS.md#how-to-read-a-statement).
+Made by `tests/statement.py --write` from the sources; edit nothing here.
 
-The theorems are, in this order: `make_all`, which answers a list of calls; `run`, which answers a script; the laws of what C does with handles; laws of
-marks, of the models that operators make, and of convex solids; and the laws of `answers`, which speak only of the text of scripts and replies. Of each
-theorem the page has
+If a machine checked a proof, you trust the prover and read only *what* was proved: the theorem and the definitions that it uses. This page lists what
+there is to read for each main theorem. [PROOFS.md](PROOFS.md) explains the promises and [the signs](PROOFS.md#how-to-read-a-statement).
 
-- its contract; where that only names a law, the law too, and the definitions that it rests on if all of this is 12 lines or less
-- how many definitions it rests on, which types of the code they use, and a checksum (*Sum*), which changes when the statement changes
-- the names of these definitions, by their files, in the order in which they are used
+## The theorems
+"""
+BELOW = """## How to read a chapter
 
-Some definitions are taken *by name*: the page names them, but not what they rest on.
+Each chapter has
 
-- `make_all` and `run` take the definitions of the larger commands by name, which the last chapter lists.
-- The laws of handles take `Tells` and `IsWhole` by name, which the first chapter lists, and `new_journal`, which is a new session.
-- The laws of marks, models and convex solids take by name what the first chapter lists, and the larger commands.
-- The laws of scripts take `answers` by name, all that is written for a script: you can read them without its definition. Those of a run also take `Outs`,
-  `output_of`, `summary_of` and `new_journal`.
+- what the theorem says, and its contract; the law, if the contract only names one; the definitions below that, if all fits in 12 lines
+- *To read*: how many definitions the theorem leads to; then their names, by their files, in the order in which they are used
+- *Not followed further*: definitions that the chapter names, but not what they use in their turn
+- the types of the code that the definitions use, and *Sum*, a checksum that changes when the statement changes
 
-This command writes each theorem and its definitions as one page, of which *Sum* is the checksum:
+These are not followed further:
+
+- in `make_all` and `run` the definitions of the larger commands, which the last chapter lists
+- in the laws of handles `Tells` and `IsWhole` (listed in the first chapter) and `new_journal` (a new session)
+- in the laws of marks, models and convex solids what the first chapter lists, and the larger commands
+- in the laws of scripts `answers`, all that is written for a script: you can read them without its definition; in those of a run also `Outs`,
+  `output_of`, `summary_of` and `new_journal`
+
+In a text, a backslash at the end of a line means that the text goes on below. This command writes each theorem and its definitions as one page, of which
+*Sum* is the checksum:
 
     tests/statement.py --pages FOLDER
 
-If a reader or a writer is a list of bytes, a theorem says exactly what was read or written. If it is a file or a pipe, the contract sees no bytes (`None`):
-then `Appends`, `Consumes` and `IsAtEnd` below hold trivially, so the theorem promises nothing about the bytes:
+If a reader or a writer is a list of bytes, a theorem says exactly what was read or written. Of a file or a pipe the contract sees no bytes (`None`): then
+`Appends`, `Consumes` and `IsAtEnd` always hold, so `run` promises nothing about the bytes:
 """
-MADE = 'Made by `tests/statement.py --write` from the sources; edit nothing here.'
+# What a theorem says, where the documentation in the code speaks of several at once, or says it only in part.
+SAYS = {
+    'answer_script': 'A run that ends well answers each line in turn, and where no reply is `memory`, it writes `answers` of what it read.',
+    'HandlesMakeCalls': 'Using an open handle is the list of the calls that its exports make, so all laws of lists hold of it.',
+    'ReadersLeaveHandles': 'A reader leaves the lent session unchanged.',
+    'StepsAreMarks': 'The number of steps in a draft is a mark of it.',
+    'MarksLeadBack': 'After calls that neither end the draft nor go back before a mark, going back to the mark is done, and gives the draft as it was there.',
+    'SoundIsReached': 'A model is sound exactly if operators, each accepted in its turn, make it from the empty one.',
+    'SoundIsLinked': 'Operators, each accepted in its turn, lead from each sound model to every other.',
+    'BuildersSuffice': 'Six operators are enough to make each sound model from the empty one.',
+    'BlocksAreConvex': """A new block is strictly convex: each face is flat, no vertex of the solid lies above the plane of one of its faces, and at each
+edge the two faces bend away from each other, so each half-edge points along the cross product of its face's normal and its mate's.""",
+    'SplitsKeepStrictlyConvex': 'Both parts of a strictly convex solid are strictly convex after a split, along whatever plane.',
+    'PartsOfConvexSolidsHaveVolume': 'Both parts of a strictly convex solid have a volume greater than 0 after a split.',
+    'BuiltAreConvex': 'Whatever accepted blocks, splits, undos and redos make, in any order and number, has only strictly convex solids.',
+    'BuiltHaveVolume': 'Each solid that accepted blocks, splits, undos and redos make has a volume greater than 0.',
+    'AnsweredSo': 'An example, computed: what is written for a script of eight lines, of which one is refused and two are `undo`.',
+    'BlockLinesSpell': 'A line of the word `block` and seven numbers in decimal digits, with one blank between words, spells this block.',
+    'SplitLinesSpell': 'A line of the word `split` and six numbers in decimal digits, with one blank between words, spells this split.',
+    'VolumeLinesSpell': "A line of the word `volume` and a number in decimal digits spells the question for this solid's volume.",
+    'RepliesTell': 'A text begins with at most one reply, so answers without listings can be cut into replies in only one way.',
+    'RefusalsTell': 'The number of a refusal tells why the command was refused.',
+    'FaultsTell': 'The number of a fault tells what is wrong with the line.',
+}
 
 
 @dataclass(frozen=True)
@@ -99,6 +134,11 @@ class Theorem:
     def title(self) -> str:
         """The path by which code names it, and the law."""
         return f'{self.file.split("/")[0]}::{self.function}' + (f': {self.law}' if self.law else '')
+
+    @property
+    def name(self) -> str:
+        """The law, or the function where that is no law."""
+        return self.law or self.function
 
     @property
     def page(self) -> str:
@@ -341,14 +381,16 @@ def links(things: List[Thing], by_name: FrozenSet[str], page: str) -> List[str]:
     names = [f'`{thing.name}`' for thing in things if isinstance(thing, Definition) and is_by_name(thing, by_name)]
     kinds = [f'`{kind.crate}::{kind.name}`' for kind in types_of(things)]
     count = sum(bool(line.strip()) and not line.strip().startswith('--') for it in definitions for line in it.lines)
-    by_names = f'{len(names)} of the chapter [{SHARED_TITLE}](#{SHARED_TITLE.lower().replace(" ", "-")})' if by_name is SHARED else ', '.join(names)
-    found = [f'It rests on {several(len(definitions), "definition")}, {several(count, "line")} together.' if definitions else '',
-             f'By name: {by_names}.' if names else '', f'Types declared in code: {", ".join(kinds)}.' if kinds else '', f'Sum `{hashlib.sha256(page.encode()).hexdigest()[:12]}`.']
+    by_names = f'the {len(names)} of [{SHARED_TITLE}]({SHARED_ANCHOR})' if by_name is SHARED else ', '.join(names)
+    found = [f'To read: {several(len(definitions), "definition")}, {several(count, "line")}.' if definitions else '',
+             f'Not followed further: {by_names}.' if names else '', f'Types declared in code: {", ".join(kinds)}.' if kinds else '', f'Sum `{hashlib.sha256(page.encode()).hexdigest()[:12]}`.']
     return [*wrapped(' '.join(filter(None, found))), *([''] if definitions else []), *places(definitions)]
 
 
 def sentence(theorem: Theorem) -> str:
-    """What a theorem says: the comment of the law, or the function's documentation, of which one sentence where that is no law."""
+    """What a theorem says: its row in SAYS, the comment of the law, or the function's documentation, of which one sentence where that is no law."""
+    if theorem.name in SAYS:
+        return ' '.join(SAYS[theorem.name].splitlines())
     lines = (CRATES / theorem.file).read_text().splitlines()
     law = named(scope_of(lines), theorem.law)
     if isinstance(law, Definition) and law.comment and theorem.by_name != known():
@@ -365,15 +407,36 @@ def clauses(definitions: List[Definition]) -> List[str]:
 
 
 def short_law(theorem: Theorem) -> List[str]:
-    """A theorem's law, with all that it rests on if that is short; nothing where the law is long, or there is none."""
-    found = [it for it in things_of(theorem) if isinstance(it, Definition) and not is_by_name(it, theorem.by_name)] if theorem.law else []
+    """A theorem's law, or what its contract names first; with all that it leads to if that is short; nothing where the law is long."""
+    found = [it for it in things_of(theorem) if isinstance(it, Definition) and not is_by_name(it, theorem.by_name)]
     return clauses(found) if len(clauses(found)) <= SHORT else clauses(found[:1]) if len(clauses(found[:1])) <= SHORT else []
+
+
+def broken(line: str) -> List[str]:
+    """A line of code in lines of the page: broken before a sign, in a text behind a newline's, or at a blank."""
+    if len(line) <= LONGEST:
+        return [line]
+    signs = [found.start() + 1 for found in re.finditer(r' (?:→|×|⊎|≡) ', line[:LONGEST]) if found.start() > INDENT]
+    if signs:
+        return [line[:signs[-1]].rstrip(), *broken('    ' + line[signs[-1]:])]
+    at = line.rfind('\\n', INDENT, LONGEST - 1)
+    if at < 0:
+        at = line.rindex(' ', INDENT, LONGEST)
+        return [line[:at], *broken('    ' + line[at + 1:])]
+    return [line[:at + 2] + '\\', *broken('    ' + line[at + 2:])]
+
+
+def brief(theorem: Theorem) -> List[str]:
+    """A theorem in the list of contents: its name, and the first sentence of what it says."""
+    told_of = sentence(theorem).partition('. ')[0].rstrip('.')
+    return bullet(f'[{theorem.name}](#{theorem.name.lower()}): {told_of[:1].lower()}{told_of[1:]}.')
 
 
 def chapter(theorem: Theorem, page: str) -> List[str]:
     """What docs/STATEMENTS.md has of a theorem."""
     lines = (CRATES / theorem.file).read_text().splitlines()
-    return ['', f'## {theorem.title}', *wrapped(sentence(theorem)), *code('rust', theorem.head(lines)), *code('antt', short_law(theorem)),
+    law = [part for line in short_law(theorem) for part in broken(line)]
+    return ['', f'## {theorem.name}', *wrapped(sentence(theorem)), *code('rust', theorem.head(lines)), *code('antt', law),
             *links(things_of(theorem), theorem.by_name, page)]
 
 
@@ -401,7 +464,8 @@ def words_of_bytes() -> List[str]:
 def text_of(pages: Dict[str, str]) -> str:
     """The text of docs/STATEMENTS.md."""
     found = [line for theorem in theorems() for line in chapter(theorem, pages[theorem.page])] + shared_chapter(pages[SHARED_PAGE])
-    return '\n'.join([*HEAD.splitlines(), *code('antt', words_of_bytes()), *found, '', MADE]) + '\n'
+    contents = [line for theorem in theorems() for line in brief(theorem)] + bullet(f'[{SHARED_TITLE}]({SHARED_ANCHOR}): {SHARED_SAYS}.')
+    return '\n'.join([*HEAD.splitlines(), '', *contents, '', *BELOW.splitlines(), *code('antt', words_of_bytes()), *found]) + '\n'
 
 
 def arguments() -> argparse.Namespace:
