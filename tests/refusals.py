@@ -272,6 +272,9 @@ def findings(table: Table) -> Iterator[str]:
     """For each place what is wrong with it, or nothing."""
     names, faults = names_of(table.conditions), names_of(table.faults)
     yield '' if table.is_whole else f'{TABLE}: the numbers have gaps, or a cause is of no misfit'
+    joined = [f'{block.kind} {block.number}' for of in table.kinds for block in of for key, said in block.said.items()
+              if ' or ' in said and key not in ('happened', 'try', 'shell')]
+    yield f'{TABLE}: texts join causes by `or`: {", ".join(joined)}' if joined else ''
     yield '' if kernel_names() == names else f'{TABLE}: the conditions of crates/euler_operators are others'
     for file, make in MAKERS.items():
         yield '' if text_of(file) == make(table) else f'{file} is not the one that --write makes'

@@ -104,6 +104,27 @@ class Messages(unittest.TestCase):
         self.assertNotIn('--', str(caught.exception))
         self.assertNotIn('gwb-', ' '.join([*ADVICE.values(), *IN_PYTHON.values(), *MISFITS.values()]))
 
+    def test_where_a_union_would_touch_itself(self):
+        first, second = self.bench.block((0, 0, 0), (5, 5, 5)), self.bench.block((5, 5, 5), (5, 5, 5))
+        with self.assertRaises(Impossible) as caught:
+            self.bench.union([first, second])
+        kind, number = caught.exception.hit
+        self.assertEqual((kind, self.bench.vertex(number).point, caught.exception.point), ('vertex', (5, 5, 5), (5, 5, 5)))
+        self.assertEqual(str(caught.exception), f'Meets: solid {first.solid} would touch itself (at vertex {number})')
+
+    def test_a_slot_into_a_bore_says_what_makes_it(self):
+        plate = self.bench.block((0, 0, 0), (40, 40, 10))
+        self.bench.drill(plate.top, (20, 20, 10), radius=5, sides=16)
+        give = lambda: self.bench.slot(plate.top, (20, 20, 10), (20, 30, 10), 6, 2)  # noqa: E731
+        with self.assertRaises(Impossible) as caught:
+            give()
+        factor = caught.exception.value
+        self.assertEqual((caught.exception.cause, caught.exception.advice), ('CornerFraction', (f'refine({factor}) makes the step as fine as that',)))
+        before = self.bench.volume(plate)
+        self.bench.refine(factor)
+        give()
+        self.assertLess(self.bench.volume(plate), before)
+
     def test_a_file_off_the_lattice(self):
         corners = [(x, y, z) for z in ('0', '1.25') for x, y in (('0', '0'), ('2', '0'), ('2', '3'), ('0', '3'))]
         faces = ((1, 4, 3, 2), (5, 6, 7, 8), (1, 2, 6, 5), (2, 3, 7, 6), (3, 4, 8, 7), (4, 1, 5, 8))

@@ -202,6 +202,7 @@ ADVICE: Dict[str, str] = {
     'ComesThrough': 'hole(face, points) goes through to the far side',
     'DepthFraction': 'refine(Y) makes the step as fine as that',
     'PointFraction': 'refine(Y) makes the step as fine as that',
+    'CornerFraction': 'refine(X) makes the step as fine as that',
     'AreasCancel': 'its points in their order round the outline',
     'StripOutside': 'subtract(solid, [tool]) cuts across edges',
     'WidthFraction': 'refine(Y) makes the step as fine as that',

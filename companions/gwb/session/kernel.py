@@ -355,6 +355,8 @@ class Kernel:
             error.advised(lambda: [with_value(told, value, hit.number)])
         if hit.number and hit.kind < len(THINGS):
             error.hit = THINGS[hit.kind], hit.number
+            if not re.search(r'\bY\b', text):
+                error.args = (f'{error.args[0]} (at {THINGS[hit.kind]} {hit.number})',)
         if scale := whole(hit.scale):
             error.point = self.exact_point(hit.point, scale)
         return error

@@ -404,6 +404,7 @@ class SolidMethods(Methods):
                     raise
                 if not may_refine:
                     error.args = (f'{error.args[0]}; in a step {error.value} times finer they are multiples of it, as refine=True makes it',)
+                    error.advised(lambda: [])   # (which it says already)
                     raise
                 self._make_finer(error.value, 'what is made')
                 self._kernel.give(word, *given)
