@@ -6,6 +6,7 @@
 #include "gwb.hpp"
 #include "gwb_features.h"
 #include <map>
+#include <numeric>
 #include <tuple>
 #if !defined(__SIZEOF_INT128__)
 #error "the features take integers of 128 bits, as GCC and Clang have them"
@@ -29,11 +30,13 @@ constexpr gwb_wide wide(Wide number) { return {static_cast<std::int64_t>(number 
 
 constexpr int sign(Wide a) { return (a > 0) - (a < 0); }
 constexpr Wide magnitude(Wide a) { return a < 0 ? -a : a; }
+/// In 64 bits as soon as both fit there.
 constexpr Wide greatest_divisor(Wide a, Wide b)
 {
-    while (b != 0)
+    const auto is_long = [](Wide number) { return number != static_cast<std::int64_t>(number); };
+    while (b != 0 && (is_long(a) || is_long(b)))
         a = std::exchange(b, a % b);
-    return magnitude(a);
+    return b == 0 ? magnitude(a) : std::gcd(static_cast<std::uint64_t>(magnitude(a)), static_cast<std::uint64_t>(magnitude(b)));
 }
 
 /// The product of the magnitudes of two numbers, in 256 bits: its upper half first.
@@ -108,7 +111,11 @@ constexpr Vector reduced(const Vector &a)
     return {a[0] / parts, a[1] / parts, a[2] / parts};
 }
 /// The same, or the other way, whichever is the greater one: one for all vectors along a line.
-inline Vector line_of(const Vector &a) { return std::max(reduced(a), negative(reduced(a))); }
+inline Vector line_of(const Vector &a)
+{
+    const Vector along = reduced(a);
+    return std::max(along, negative(along));
+}
 inline bool are_parallel(const Vector &a, const Vector &b) { return line_of(a) == line_of(b); }
 
 /// The plane of the points whose height is 0; above it heights are greater.

@@ -108,7 +108,11 @@ struct Side {
     [[nodiscard]] ScaledPoint middle() const { return {add(start, end), 2}; }
     [[nodiscard]] Side turned() const { return {end, start, is_old() ? half.twin() : half}; }
     /// Whether a point lies on it between its ends.
-    [[nodiscard]] bool passes(const Vector &at) const { return at != start && reduced(subtract(at, start)) == reduced(subtract(end, at)); }
+    [[nodiscard]] bool passes(const Vector &at) const
+    {
+        const Vector before = subtract(at, start), after = subtract(end, at);
+        return is_zero(cross(before, after)) && dot(before, after) > 0;
+    }
     friend bool operator<(const Side &a, const Side &b) { return std::tie(a.start, a.end, a.half) < std::tie(b.start, b.end, b.half); }
     friend bool operator==(const Side &a, const Side &b) { return a.start == b.start && a.end == b.end && a.half == b.half; }
 
