@@ -460,6 +460,42 @@ static void try_large_factors()
     }
 }
 
+// A block, and two walls across each other that go through it: it is cut in two lines half way between whole points, on no edge of any of them.
+static void try_met_faces()
+{
+    for (std::int64_t at = 1; at <= 20; at++) {
+        Workbench bench;
+        Attempts attempt = bench.attempt();
+        const Solid block = bench.block({-at - 9, -at - 9, 0}, {40 + at, 40 + at, 4});
+        const Solid one = profile(bench, {{-at, at + 1, -at}, {-at - 9, at + 1, -at}, {-at - 9, -at, -at}, {at + 1, -at, -at}}, {0, 0, 20 + at}).solid;
+        const Solid other = profile(bench, {{-at, -at, -5}, {at + 1, at + 1, -5}, {-at, at + 1, -5}}, {0, 0, 9 + at}).solid;
+        const std::string before = bench.listing();
+        const Failure why = intersect(attempt, {block, one, other}).error();
+        check(why.is(Misfit::off_lattice) && why.value == 2, std::string(why.name()) + ": half way between whole points");
+        check(bench.listing() == before && why.hit.kind == GWB_FACE, "faces of three meet there");
+        check_met(bench, why, {block, one, other}, false, "where faces of three meet");
+    }
+}
+
+// Blocks that touch in a corner of both, and a block that is touched by the tip of another solid.
+static void try_met_vertices()
+{
+    for (std::int64_t at = 1; at <= 20; at++) {
+        Workbench bench;
+        Attempts attempt = bench.attempt();
+        const Solid block = bench.block({0, 0, 0}, {at + 4, at + 4, at}), beside = bench.block({at + 4, at + 4, at}, {1, 2, 3});
+        const std::vector<Point> corners = {{at, 2, at}, {at + 1, 2, at + 1}, {at, 3, at + 1}, {at - 1, 1, at + 1}};
+        const Solid tip = polyhedron(bench, corners, {0, 2, 1, 0, 1, 3, 1, 2, 3, 0, 3, 2}, {3, 3, 3, 3}).solid;
+        const std::string before = bench.listing();
+        for (Solid other : {beside, tip}) {
+            const Failure why = unite(attempt, {block, other}).error();
+            check(why.is(Misfit::meets) && why.hit.kind == GWB_VERTEX, std::string(why.name()) + ": a corner touches");
+            check_met(bench, why, {block, other}, true, "a corner");
+        }
+        check(bench.listing() == before, "nothing has changed");
+    }
+}
+
 static void try_refusals()
 {
     for (std::int64_t at = 1; at <= 20; at++) {
@@ -596,6 +632,8 @@ int main(int argc, char **argv)
     try_parts(argc > 1 ? std::stoull(argv[1]) : 400);
     try_factors();
     try_large_factors();
+    try_met_faces();
+    try_met_vertices();
     try_refusals();
     try_twisted();
     try_orders();
@@ -605,7 +643,8 @@ int main(int argc, char **argv)
     for (const auto &[name, times] : outcomes)
         std::cout << name << ": " << times << '\n';
     if (argc <= 1)
-        for (const char *name : {"made of two", "made of several", "refused of several", "OffLattice", "OffLattice by no number", "Meets", "NothingLeft", "NotFlat", "NoSolid", "no call", "separate", "join_faces"})
+        for (const char *name : {"made of two", "made of several", "refused of several", "OffLattice", "OffLattice by no number", "Meets", "NothingLeft", "NotFlat", "NoSolid", "no call", "separate", "join_faces", "met a vertex", "met an edge",
+                                 "met a face"})
             check(outcomes[name] >= 20, std::string(name) + " is seen too seldom");
     std::cout << passed << " passed, " << failed << " failed\n";
     return failed != 0;

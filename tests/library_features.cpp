@@ -482,6 +482,7 @@ static void try_refused_memory()
         {"chamfers", [&](Workbench &bench) { (void)chamfer_edges(bench, {Edge(1), Edge(2)}, 1); }},
         {"separate", [&](Workbench &bench) { (void)separate(bench, Solid(1)); }},
         {"join_faces", [&](Workbench &bench) { (void)join_faces(bench, Solid(1)); }},
+        {"crossings", [&](Workbench &bench) { (void)find_crossings(bench, Solid(1), Solid(1)); }},
         {"scale", [&](Workbench &bench) { scale(bench, 3); }},
         {"move", [&](Workbench &bench) { move_solid(bench, Solid(1), Motion::quarter_turns(2)); }},
         {"load", [&](Workbench &bench) { bench.load("solid 9\nface 90 9 90\nloop 90 at 90\nvertex 90 1 1 1\n"); }},
@@ -536,6 +537,8 @@ static void try_stops()
         {"join_faces", [&](Workbench &bench) { (void)join_faces(bench, Solid(1)); }},
         {"scale", [&](Workbench &bench) { scale(bench, 3); }},
         {"advice", [&](Workbench &bench) { (void)off_lattice(bench, Solid(1), {2, 3, 5, -17}); }},
+        {"crossings", [&](Workbench &bench) { (void)find_crossings(bench, Solid(1)); }},
+        {"crossings of two", [&](Workbench &bench) { (void)find_crossings(bench, Solid(1), Solid(3)); }},
     };
     for (const auto &[name, feature] : features)
         for (bool is_drafting : {false, true}) {

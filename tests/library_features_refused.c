@@ -124,6 +124,15 @@ static enum gwb_kind find_edges(gwb *g)
     size_t count = 0;
     return gwb_find_edges(g, &query, numbers, 16, &count, &why);
 }
+static gwb_crossing met[64];
+static enum gwb_kind crossings_of(gwb *g, uint32_t other, size_t least)
+{
+    size_t count = 0;
+    const enum gwb_kind kind = gwb_find_crossings(g, 21, other, met, 64, &count, &why);
+    return kind == GWB_OK && count < least ? GWB_NO_CALL : kind;
+}
+static enum gwb_kind crossings_of_one(gwb *g) { return crossings_of(g, 0, 0); }
+static enum gwb_kind crossings_of_two(gwb *g) { return crossings_of(g, 22, 3); }
 /* (where there is none to be undone or redone, memory has nothing to do with it) */
 static enum gwb_kind undo(gwb *g)
 {
@@ -174,6 +183,34 @@ static enum gwb_kind intersect(gwb *g) { return gwb_intersect(g, crossing, 2, &w
 static enum gwb_kind unite_three(gwb *g) { return gwb_union(g, crossing, 3, &why); }
 static enum gwb_kind subtract_two(gwb *g) { return gwb_subtract(g, crossing[0], &crossing[1], 2, &why); }
 static enum gwb_kind intersect_three(gwb *g) { return gwb_intersect(g, crossing, 3, &why); }
+/* A Boolean that isn't possible, and what it met. */
+static enum gwb_kind not_possible(gwb *g, enum gwb_kind kind, uint32_t wanted)
+{
+    gwb_hit_row hit;
+    return kind != GWB_IMPOSSIBLE ? kind : gwb_hit(g, &hit) && hit.kind == wanted && hit.number != 0 && hit.scale.low != 0 ? GWB_OK : GWB_NO_CALL;
+}
+/* (they touch in a corner of both) */
+static enum gwb_kind two_that_touch(gwb *g)
+{
+    return gwb_block(g, 21, 30, 30, 30, 2, 2, 2) == GWB_OK ? gwb_block(g, 22, 32, 32, 32, 2, 2, 2) : GWB_NO_CALL;
+}
+/* (a wedge, whose slope is cut between whole points by edges of the block) */
+static enum gwb_kind wedge_and_block(gwb *g)
+{
+    static const gwb_point wedge[] = {{30, 30, 30}, {37, 30, 30}, {30, 30, 33}}, far = {0, 9, 0};
+    const enum gwb_kind kind = gwb_profile(g, 21, wedge, 3, &far, &profile, numbers, &why);
+    return kind == GWB_OK ? gwb_block(g, 22, 32, 28, 28, 9, 13, 9) : kind;
+}
+/* (walls across each other, and a block through which they go: faces of all three meet half way between whole points) */
+static enum gwb_kind block_and_walls(gwb *g)
+{
+    static const gwb_point one[] = {{28, 33, 20}, {21, 33, 20}, {21, 28, 20}, {33, 28, 20}}, other[] = {{28, 28, 21}, {33, 33, 21}, {28, 33, 21}}, up = {0, 0, 20};
+    const bool is_made = gwb_block(g, 21, 20, 20, 28, 20, 20, 4) == GWB_OK && gwb_profile(g, 22, one, 4, &up, &profile, numbers, &why) == GWB_OK;
+    return is_made ? gwb_profile(g, 23, other, 3, &up, &profile, numbers, &why) : GWB_NO_CALL;
+}
+static enum gwb_kind meet_vertex(gwb *g) { return not_possible(g, gwb_union(g, crossing, 2, &why), GWB_VERTEX); }
+static enum gwb_kind meet_edge(gwb *g) { return not_possible(g, gwb_subtract(g, crossing[0], &crossing[1], 1, &why), GWB_EDGE); }
+static enum gwb_kind meet_face(gwb *g) { return not_possible(g, gwb_intersect(g, crossing, 3, &why), GWB_FACE); }
 static enum gwb_kind separate(gwb *g) { return gwb_separate(g, crossing[0], &why); }
 static enum gwb_kind join_faces(gwb *g) { return gwb_join_faces(g, beside[0], &why); }
 static enum gwb_kind advice(gwb *g)
@@ -207,6 +244,9 @@ static const struct feature {
     {"union of two that cross", unite_crossing, two_that_cross}, {"subtract", subtract, two_that_cross}, {"intersect", intersect, two_that_cross},
     {"union of three", unite_three, three_that_cross}, {"subtract two", subtract_two, three_that_cross},
     {"intersect three", intersect_three, three_that_cross},
+    {"union that meets a vertex", meet_vertex, two_that_touch}, {"subtract that meets an edge", meet_edge, wedge_and_block},
+    {"intersect that meets a face", meet_face, block_and_walls},
+    {"crossings", crossings_of_one, two_that_cross}, {"crossings of two", crossings_of_two, two_that_cross},
     {"separate", separate, two_apart}, {"join_faces", join_faces, two_glued}, {"renumber", renumber, NULL}, {"undo", undo, NULL},
     {"redo", redo, NULL}, {"line", line, NULL}, {"compare", compare, NULL}
 };

@@ -101,7 +101,7 @@ class Session:
         one = lambda: next(left)  # noqa: E731
         try:
             made = _CALLS[word](self, one, left)
-            is_step = word not in ('faces', 'edges', 'off_lattice') and (word, len(numbers)) != ('glue_all', 1)
+            is_step = word not in ('faces', 'edges', 'crossings', 'off_lattice') and (word, len(numbers)) != ('glue_all', 1)
             self.steps, self.is_undone = self.steps + is_step, word == 'undo'
             return 'ok' + ''.join(f' {number}' for number in made)
         except Refused as refused:
@@ -171,6 +171,10 @@ class Session:
         asked = {0: {}, 1: {'between': tuple(numbers)}, 2: {'along': numbers}, 3: {'length': _ratio(numbers)}}[what]
         return [edge.number for edge in self.bench.edges(solid=solid or None, **asked)]
 
+    def crossings(self, solid: int, other: int) -> List[object]:
+        """Pairs of faces, and where they meet."""
+        return [part for first, second, point in self.bench.crossings(solid, other or None) for part in (first, second, *point)]
+
     def polyhedron(self, solid: int, count: int, size: int, numbers: List[int]) -> List[int]:
         """The first vertex and the first face of a solid of so many points, and of faces of this size."""
         corners = numbers[3 * count:]
@@ -220,7 +224,7 @@ def _nothing(_: object) -> List[int]:
     return []
 
 
-Call = Callable[[Session, Callable[[], Any], Iterator[int]], List[int]]
+Call = Callable[[Session, Callable[[], Any], Iterator[int]], Sequence[object]]
 _CALLS: Dict[str, Call] = {
     'part': lambda s, n, w: s.part(), 'load': lambda s, n, w: s.load(n()), 'undo': lambda s, n, w: _nothing(s.bench.undo()), 'redo': lambda s, n, w: _nothing(s.bench.redo()),
     'draft': lambda s, n, w: s.draft(), 'commit': lambda s, n, w: s.end(True), 'abandon': lambda s, n, w: s.end(False),
@@ -261,7 +265,8 @@ _CALLS: Dict[str, Call] = {
     'separate': lambda s, n, w: [number for solid in [n()] for number in s.counted([one for part in s.bench.separate(solid) for one in (solid, part)])],
     'join_faces': lambda s, n, w: _nothing(s.bench.join_faces(n())),
     'off_lattice': lambda s, n, w: [number for said in [s.bench.off_lattice(n(), _four(w))] for number in (len(said.crossings), said.factor)],
-    'faces': lambda s, n, w: s.faces(n(), n(), list(w)), 'edges': lambda s, n, w: s.edges(n(), n(), list(w))}
+    'faces': lambda s, n, w: s.faces(n(), n(), list(w)), 'edges': lambda s, n, w: s.edges(n(), n(), list(w)),
+    'crossings': lambda s, n, w: s.crossings(n(), n())}
 
 
 class Author:
@@ -420,7 +425,9 @@ class Author:
     def _query(self) -> Tuple[str, List[int]]:
         number, face = self._face()
         solid = self._random.choice([0, 0, self._any_solid()])
-        word = self._random.choice(['faces', 'edges', 'off_lattice'])
+        word = self._random.choice(['faces', 'edges', 'crossings', 'off_lattice'])
+        if word == 'crossings':
+            return word, [self._any_solid(), solid]
         if word == 'off_lattice':
             return word, [self._any_solid(), *self._plane()]
         if word == 'faces':

@@ -15,6 +15,7 @@ static gwb_profile_made profile;
 static gwb_point corners[MOST_WORDS];
 static char text[1 << 20];
 static uint32_t made[MOST_NUMBERS], others[MOST_NUMBERS], edges[MOST_NUMBERS], turned[MOST_NUMBERS];
+static gwb_crossing crossings[MOST_NUMBERS];
 
 /* ---- the words of a line after the first one: numbers, taken one after another */
 
@@ -88,6 +89,12 @@ static void put_part(int64_t part, int64_t scale)
         printf("/%lld", (long long)(scale / common));
 }
 
+static void put_place(const gwb_wide *place, gwb_wide scale)
+{
+    for (size_t axis = 0; axis < 3; axis++)
+        put_part((int64_t)place[axis].low, (int64_t)scale.low);
+}
+
 /* Why a feature isn't possible: the cause, the thing that was met, and where. */
 static void put_misfit(void)
 {
@@ -100,10 +107,10 @@ static void put_misfit(void)
         printf(" %s", gwb_cause_name(hit.cause));
     if (hit.number != 0 && hit.kind <= GWB_VERTEX)
         printf(" %s %u", things[hit.kind], (unsigned)hit.number);
-    if (hit.scale.low != 0)
-        printf(" at");
-    for (size_t axis = 0; axis < 3 && hit.scale.low != 0; axis++)
-        put_part((int64_t)hit.point[axis].low, (int64_t)hit.scale.low);
+    if (hit.scale.low == 0)
+        return;
+    printf(" at");
+    put_place(hit.point, hit.scale);
 }
 
 /* Whether a line was accepted. If not, its refusal is told. */
@@ -239,6 +246,18 @@ static void find_edges(void)
     query.length = what == 3 ? &length : NULL;
     if (is_well(gwb_find_edges(&g, &query, made, MOST_NUMBERS, &count, &why)))
         put(made, count);
+}
+
+/* Pairs of faces, and where they meet. */
+static void find_crossings(uint32_t solid)
+{
+    size_t count = 0;
+    if (!is_well(gwb_find_crossings(&g, solid, name(), crossings, MOST_NUMBERS, &count, &why)))
+        return;
+    for (size_t i = 0; i < count; i++) {
+        put((const uint32_t[]){crossings[i].first, crossings[i].second}, 2);
+        put_place(crossings[i].point, crossings[i].scale);
+    }
 }
 
 /* ---- the commands */
@@ -514,6 +533,8 @@ static void give(const char *word)
         subtract(of);
     else if (strcmp(word, "drill") == 0 || strcmp(word, "drill_along") == 0)
         drill(of, strcmp(word, "drill_along") == 0);
+    else if (strcmp(word, "crossings") == 0)
+        find_crossings(of);
     else if (strcmp(word, "shoulder") == 0)
         shoulder(of);
     else if (strcmp(word, "chamfer") == 0)

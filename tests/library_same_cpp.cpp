@@ -99,7 +99,7 @@ private:
             {"glue_all", &Given::glue_all}, {"split", &Given::split},     {"off_lattice", &Given::off_lattice}, {"cut", &Given::cut},
             {"trim", &Given::trim},         {"union", &Given::unite},     {"load", &Given::load},       {"advice", &Given::advice},
             {"subtract", &Given::subtract}, {"intersect", &Given::intersect}, {"separate", &Given::separate}, {"join_faces", &Given::join_faces},
-            {"faces", &Given::faces},       {"edges", &Given::edges},     {"renumber", &Given::renumber},
+            {"faces", &Given::faces},       {"edges", &Given::edges},     {"crossings", &Given::crossings}, {"renumber", &Given::renumber},
             {"polyhedron", &Given::polyhedron},     {"pattern_around", &Given::pattern_around}, {"chamfer_edges", &Given::chamfer_edges}};
         return all;
     }
@@ -121,11 +121,15 @@ private:
         std::cout << failure.name() << ' ' << failure.value << (hit.cause != 0 ? " " : "") << gwb_cause_name(hit.cause);
         if (hit.number != 0 && hit.kind < things.size())
             std::cout << ' ' << things[hit.kind] << ' ' << hit.number;
-        const std::int64_t scale = narrow(hit.scale);
-        if (scale != 0)
+        if (narrow(hit.scale) != 0) {
             std::cout << " at";
-        for (std::size_t axis = 0; axis < 3 && scale != 0; axis++) {
-            const std::int64_t part = narrow(hit.point[axis]), common = std::gcd(part, scale);
+            put_place(hit.point, narrow(hit.scale));
+        }
+    }
+    template <class Place> static void put_place(const Place &place, std::int64_t scale)
+    {
+        for (gwb_wide times : place) {
+            const std::int64_t part = narrow(times), common = std::gcd(part, scale);
             std::cout << ' ' << part / common << (common != scale ? "/" + std::to_string(scale / common) : "");
         }
     }
@@ -522,6 +526,17 @@ private:
         const Result<std::vector<Face>> found = find_faces(*attempt_, query);
         if (is_well(found))
             put(*found);
+    }
+    void crossings(Words &words)
+    {
+        const auto solid = words.name<Solid>(), other = words.name<Solid>();
+        const auto found = find_crossings(*attempt_, solid, other != Solid() ? std::optional(other) : std::nullopt); // (0 stands for none)
+        if (!is_well(found))
+            return;
+        for (const Crossing &crossing : *found) {
+            std::cout << ' ' << crossing.first.number() << ' ' << crossing.second.number();
+            put_place(crossing.point, narrow(crossing.scale));
+        }
     }
     void edges(Words &words)
     {

@@ -1,6 +1,6 @@
 //! A program of features, by the crate `gwb`: reads it line by line, and writes what each line gives. tests/library_same.py compares it with the same
 //! program in other languages.
-use gwb::{Edge, EdgeQuery, Error, Face, FaceQuery, Hit, Hole, Id, Met, Motion, Notch, Pocket, Point, Readers, Session, Solid};
+use gwb::{Crossing, Edge, EdgeQuery, Error, Face, FaceQuery, Hit, Hole, Id, Met, Motion, Notch, Pocket, Point, Readers, Session, Solid};
 use std::collections::BTreeSet;
 use std::io::{self, BufRead, Lines, StdinLock};
 
@@ -83,8 +83,17 @@ fn read(readers: &Readers, word: &str, words: &mut Words) -> Option<Result<Strin
         }
         "faces" => readers.find_faces(&faces(words)).map(|found| told(&found)),
         "edges" => readers.find_edges(&edges(words)).map(|found| told(&found)),
+        "crossings" => {
+            let (solid, other) = (words.name(), Some(words.name()).filter(|&other| other != Solid(0)));
+            readers.find_crossings(solid, other).map(|found| found.iter().map(crossing).collect())
+        }
         _ => return None,
     })
+}
+
+fn crossing(of: &Crossing) -> String {
+    let [x, y, z] = of.point;
+    told(&[of.first, of.second]) + &format!(" {x} {y} {z}")
 }
 
 fn faces(words: &mut Words) -> FaceQuery {

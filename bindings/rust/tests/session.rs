@@ -530,6 +530,7 @@ fn a_record_and_a_stop() {
     let (changes, outline) = (session.changes(), [[1, 1, 4], [3, 1, 4], [3, 3, 4]]);
     assert_eq!(session.pocket(Face(1), &outline, 2).map(drop), Err(Error::Stopped));
     assert_eq!(session.off_lattice(block, [2, 0, 0, -3], 3).map(drop), Err(Error::Stopped));
+    assert_eq!(session.find_crossings(block, None), Err(Error::Stopped));
     flag.store(false, Ordering::Relaxed);
     assert!(session.pocket(Face(1), &outline, 2).is_ok() && session.changes() > changes);
     session.stop_when(None);
