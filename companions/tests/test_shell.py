@@ -291,7 +291,7 @@ class Cures(unittest.TestCase):
     def test_the_rows_are_those_of_the_page(self):
         page = (REPOSITORY / 'docs' / 'SCRIPT.md').read_text(encoding='utf-8').split('\n## Commands\n')[1].split('\n## ')[0]
         found = {}
-        for section in page.split('\n### ')[1:]:
+        for section in re.split(r'\n####? ', page)[1:]:
             head, _, body = section.partition('\n')
             told = re.search(r'Refused:(.*?)(?:From (?:nothing|the)|```)', ' '.join(body.split()))
             numbers = tuple(dict.fromkeys(map(int, re.findall(r'\b(\d+) [A-Z][a-z][a-zA-Z]+', told[1])))) if told else ()
