@@ -76,11 +76,34 @@ std::vector<Solid> row_of_blocks(Workbench &bench, std::int64_t n, std::int64_t 
 void unite_row(Workbench &bench, std::int64_t n) { unite(bench, row_of_blocks(bench, n, 2)); }
 void glue_row(Workbench &bench, std::int64_t n) { glue_all(bench, row_of_blocks(bench, n, 0)); }
 
+/// The slopes of each so many edges of the far face of a comb with n teeth, made at once.
+void slopes(Workbench &bench, std::int64_t n, std::size_t each)
+{
+    std::vector<Point> outline;
+    for (std::int64_t at = 20 * n; at > 0; at -= 20)
+        outline.insert(outline.end(), {{at, 30, 0}, {at - 10, 30, 0}, {at - 10, 10, 0}, {at - 20, 10, 0}});
+    outline.insert(outline.end(), {{0, 0, 0}, {20 * n, 0, 0}});
+    const Profile comb = profile(bench, outline, {0, 0, 50});
+    std::vector<Edge> edges;
+    for (std::size_t at = 0; at < outline.size(); at += each) {
+        EdgeQuery query;
+        query.between = {comb.far, comb.sides[at]};
+        edges.push_back(find_edges(bench, query).front());
+    }
+    chamfer_edges(bench, edges, 2);
+}
+
+void chamfer_teeth(Workbench &bench, std::int64_t n) { slopes(bench, n, 4); }
+
+/// Each slope meets those beside it; as many edges in all as there are teeth in the row above.
+void chamfer_rim(Workbench &bench, std::int64_t n) { slopes(bench, n / 4, 1); }
+
 struct Row {
     const char *name;
     void (*make)(Workbench &bench, std::int64_t n);
 };
-constexpr Row rows[] = {{"notches", notches}, {"slots", slots}, {"pockets", pockets}, {"union", unite_row}, {"glue_all", glue_row}};
+constexpr Row rows[] = {{"notches", notches}, {"slots", slots},    {"pockets", pockets},     {"union", unite_row},
+                        {"glue_all", glue_row}, {"teeth", chamfer_teeth}, {"rim", chamfer_rim}};
 
 void measure(const Row &row, const std::vector<std::int64_t> &sizes)
 {
