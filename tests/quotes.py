@@ -1,21 +1,22 @@
 #!/usr/bin/env python3
-"""Compares the statements that docs/PROOFS.md quotes with the sources that they stand in.
+"""Compares what docs/PROOFS.md and docs/CONTRIBUTING.md quote with the sources that it stands in.
 
-    tests/quotes.py [--write]        --write puts what the sources say into the page
+    tests/quotes.py [--write]        --write puts what the sources say into the pages
 
 A quotation is a block whose fence says where it is from, as ```rust low_euler/src/applying.rt apply``` (a function's head with its whole
 contract, each `requires` too) or ```antt euler_laws/specs/Laws.antt InversesUndo``` (the clauses of definitions, without their types, and
-whole records and data types); more names follow, and more files with names of theirs.
-A block with no such words is no quotation, and is counted as wrong: the page has none. The last line counts the quotations.
+whole records and data types) or ```lemma lattice/proofs/Crossings.antt opposite_turned``` (with its type); more names follow, and more files with names of
+theirs. ```edit lattice/must-fail/EDIT.edit``` is a whole file. A block of `text` quotes nothing; another with no such words is counted as wrong. The last
+line counts the quotations.
 """
 import re
 import sys
 from pathlib import Path
 from typing import Iterator, List, Tuple
 
-from counts import TOP, closing, command_line, told
+from counts import TOP, command_line, told
 
-PAGE = TOP / 'docs' / 'PROOFS.md'
+PAGES = (TOP / 'docs' / 'PROOFS.md', TOP / 'docs' / 'CONTRIBUTING.md')
 BLOCK = re.compile(r'^```([^\n]*)\n(.*?)^```$', re.MULTILINE | re.DOTALL)
 
 
@@ -46,6 +47,11 @@ def clauses_of(lines: List[str], name: str) -> List[str]:
     return found
 
 
+def lemma_of(lines: List[str], name: str) -> List[str]:
+    """The type and the proof of the lemma of this name."""
+    return [line.removeprefix('pub ') for line in lines if line.startswith(f'pub {name} : ')] + clauses_of(lines, name)
+
+
 def lines_of(path: Path) -> List[str]:
     """The lines of a source."""
     if not path.is_file():
@@ -56,7 +62,9 @@ def lines_of(path: Path) -> List[str]:
 def quoted(words: List[str]) -> str:
     """What the sources say of the names."""
     kind, *places = words
-    take = {'rust': head_of, 'antt': clauses_of}[kind]
+    if kind == 'edit':
+        return ''.join(line + '\n' for line in lines_of(TOP / 'crates' / places[0]))
+    take = {'rust': head_of, 'antt': clauses_of, 'lemma': lemma_of}[kind]
     lines: List[str] = []
     found: List[str] = []
     for word in places:
@@ -71,25 +79,32 @@ def quotations(page: str) -> Iterator[Tuple[str, str, str]]:
     """Of each block its fence's words, its text, and what is to stand there."""
     for match in BLOCK.finditer(page):
         words, text = match.groups()
-        if len(words.split()) < 3 or words.split()[0] not in ('rust', 'antt'):
+        if words == 'text':
+            continue
+        if len(words.split()) < (2 if words.startswith('edit ') else 3) or words.split()[0] not in ('rust', 'antt', 'lemma', 'edit'):
             raise Missing(f'a block that begins {text.splitlines()[0]!r} does not say where it is from')
         yield words, text, quoted(words.split())
 
 
+def wrong(page: Path, write: bool) -> Iterator[str]:
+    """Of each quotation of a page what is wrong with it, or nothing; they are copied anew first where that is asked for."""
+    text = page.read_text()
+    try:
+        found = list(quotations(text))
+    except Missing as error:
+        yield f'{page.name}: {error}'
+        return
+    if write:
+        for words, old, wanted in found:
+            text = text.replace(f'```{words}\n{old}```', f'```{words}\n{wanted}```')
+        page.write_text(text)
+        found = list(quotations(text))
+    yield from ('' if old == wanted else f'{page.name}: {words}: the source says something else' for words, old, wanted in found)
+
+
 def main() -> int:
     given = command_line(__doc__, '--write')
-    page = PAGE.read_text()
-    try:
-        found = list(quotations(page))
-    except Missing as error:
-        print(f'{PAGE.name}: {error}', closing(0, 1), sep='\n')
-        return 1
-    if given.write:
-        for words, text, wanted in found:
-            page = page.replace(f'```{words}\n{text}```', f'```{words}\n{wanted}```')
-        PAGE.write_text(page)
-        found = list(quotations(page))
-    return told('' if text == wanted else f'{PAGE.name}: {words}: the source says something else' for words, text, wanted in found)
+    return told(it for page in PAGES for it in wrong(page, given.write))
 
 
 if __name__ == '__main__':
