@@ -49,7 +49,7 @@ class Pages(unittest.TestCase):
         for script in (script for script in examples() if script.stem in stored_models()):
             outcome = run('view', str(script.with_suffix('.expected')))
             self.assertEqual((outcome.status, [line for line in outcome.err.splitlines() if 'changed the model after this listing' not in line]), (0, []))
-            self.assertLess(len(outcome.out) - len(json.dumps(data_of(outcome.out))), 112_000)
+            self.assertLess(len(outcome.out) - len(json.dumps(data_of(outcome.out))), 117_000)
             self.assertNotRegex(outcome.out, r'https?:|src=|@import|fetch\(|<link')
             self.assertTrue(outcome.out.isascii())
 
