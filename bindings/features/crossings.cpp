@@ -1,4 +1,5 @@
 #include "crossings.hpp"
+#include <numeric>
 
 namespace gwb_session::crossings {
 
@@ -9,6 +10,43 @@ struct Near {
     Face face;
     Shape shape;
 };
+
+bool is_in(const ScaledPoint &point, const Box &box)
+{
+    for (std::size_t axis = 0; axis < 3; axis++)
+        if (point.at[axis] < box.low[axis] * point.scale || point.at[axis] > box.high[axis] * point.scale)
+            return false;
+    return true;
+}
+
+std::size_t count_sides(const Shape &shape)
+{
+    return std::accumulate(shape.sides.begin(), shape.sides.end(), std::size_t{0},
+                           [](std::size_t sum, const Side &side) { return sum + (side.run != nullptr ? side.run->size() : 1); });
+}
+
+std::vector<Side> sides_near(const Shape &shape, const Box &box)
+{
+    std::vector<Side> found;
+    for (const Side &side : shape.sides)
+        if (side.run != nullptr)
+            append(found, side.run->meeting(box));
+        else if (box_of(side).meets(box))
+            found.push_back(side);
+    return found;
+}
+
+/// The points of a plane at which a face's sides near a box start, or pass it.
+std::vector<ScaledPoint> stops_on(const Plane &plane, const Shape &shape, const Box &box)
+{
+    std::vector<ScaledPoint> stops;
+    for (const Side &side : sides_near(shape, box)) {
+        const Wide before = plane.height(side.start), after = plane.height(side.end);
+        if (before == 0 || sign(before) * sign(after) < 0)
+            stops.push_back(divided(side, before, after));
+    }
+    return stops;
+}
 
 /// The points at which a side is cut by others of its plane, and its ends, in their order.
 std::vector<ScaledPoint> stops_along(const Side &side, const std::vector<Side> &others, Axes axes)
@@ -26,18 +64,20 @@ std::vector<ScaledPoint> stops_along(const Side &side, const std::vector<Side> &
     return stops;
 }
 
-/// Two faces of one workbench.
+/// Two faces of one workbench. The one with fewer sides is asked first: most points lie outside it.
 class Both {
 public:
-    Both(const Bench &bench, const Near &one, const Near &two) : bench_(bench), one_(one), two_(two) {}
+    Both(const Bench &bench, const Near &one, const Near &two)
+        : bench_(bench), one_(count_sides(one.shape) <= count_sides(two.shape) ? one : two), two_(&one_ == &one ? two : one) {}
 
     /// A point that both have, on no edge or vertex that is of both: none where there is none.
     [[nodiscard]] std::optional<ScaledPoint> common() const
     {
         if (are_parallel(one_.shape.plane.across, two_.shape.plane.across))
             return one_.shape.height({two_.shape.sides[0].start}) == 0 ? common_in_plane() : std::nullopt;
-        std::vector<ScaledPoint> stops = one_.shape.stops_on(two_.shape.plane);
-        append(stops, two_.shape.stops_on(one_.shape.plane));
+        std::vector<ScaledPoint> stops = stops_on(two_.shape.plane, one_.shape, two_.shape.box);
+        append(stops, stops_on(one_.shape.plane, two_.shape, one_.shape.box));
+        stops = filtered(stops, [&](const ScaledPoint &point) { return is_in(point, one_.shape.box) && is_in(point, two_.shape.box); });
         std::sort(stops.begin(), stops.end());
         return first_of(stops);
     }
@@ -85,9 +125,8 @@ private:
     }
     [[nodiscard]] std::optional<ScaledPoint> common_on_sides(const Shape &own, const Shape &other) const
     {
-        const auto beside = [](const Shape &of, const Box &box) { return filtered(without_runs(of.sides), [&](const Side &side) { return box_of(side).meets(box); }); };
-        const std::vector<Side> others = beside(other, own.box);
-        for (const Side &side : beside(own, other.box)) {
+        const std::vector<Side> others = sides_near(other, own.box);
+        for (const Side &side : sides_near(own, other.box)) {
             go_on();
             const auto near = filtered(others, [&](const Side &of) { return box_of(of).meets(box_of(side)); });
             if (const std::optional<ScaledPoint> point = first_of(stops_along(side, near, flat_axes(own.plane.across))))
