@@ -47,22 +47,28 @@ void __verbose_terminate_handler() { std::abort(); }
 } // namespace __gnu_cxx
 extern "C" [[noreturn]] void __cxa_pure_virtual() { std::abort(); }
 
-// What is thrown is small, one at a time, so it needs no memory, and the pool that the C++ library keeps for it isn't brought along. A second one while
-// one is thrown would be written over it: then the program ends.
+// What is thrown is small and needs no memory, so the pool that the C++ library keeps for it isn't brought along. It has its place before it is made: what is
+// thrown while that goes on, as where memory is refused, has another one.
 extern "C" {
-static thread_local union {
-    long double aligned;
-    char bytes[512];
-} thrown;
-static thread_local bool is_thrown;
+static thread_local struct {
+    alignas(long double) char bytes[512];
+    bool is_taken;
+} thrown[4];
+static constexpr std::size_t before_thrown = 256; // what the C++ library puts there, and more
 void *__cxa_allocate_exception(std::size_t size) noexcept
 {
-    constexpr std::size_t header = 256; // what the C++ library puts before it, and more
-    if (size > sizeof thrown - header || std::exchange(is_thrown, true))
-        std::abort();
-    for (char &byte : thrown.bytes)
-        byte = 0;
-    return thrown.bytes + header;
+    for (auto &place : thrown)
+        if (size <= sizeof place.bytes - before_thrown && !std::exchange(place.is_taken, true)) {
+            for (char &byte : place.bytes)
+                byte = 0;
+            return place.bytes + before_thrown;
+        }
+    std::abort();
 }
-void __cxa_free_exception(void *) noexcept { is_thrown = false; }
+void __cxa_free_exception(void *freed) noexcept
+{
+    for (auto &place : thrown)
+        if (place.bytes + before_thrown == freed)
+            place.is_taken = false;
+}
 }
