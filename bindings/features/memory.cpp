@@ -48,27 +48,27 @@ void __verbose_terminate_handler() { std::abort(); }
 extern "C" [[noreturn]] void __cxa_pure_virtual() { std::abort(); }
 
 // What is thrown is small and needs no memory, so the pool that the C++ library keeps for it isn't brought along. It has its place before it is made: what is
-// thrown while that goes on, as where memory is refused, has another one.
+// thrown while that goes on, as where memory is refused, has the other one. (More would not fit what threads have for libraries that come later.)
 extern "C" {
 static thread_local struct {
-    alignas(long double) char bytes[512];
-    bool is_taken;
-} thrown[4];
-static constexpr std::size_t before_thrown = 256; // what the C++ library puts there, and more
+    alignas(long double) char bytes[2][256];
+    bool is_taken[2];
+} thrown;
+static constexpr std::size_t before_thrown = 144; // what the C++ library puts there, and more
 void *__cxa_allocate_exception(std::size_t size) noexcept
 {
-    for (auto &place : thrown)
-        if (size <= sizeof place.bytes - before_thrown && !std::exchange(place.is_taken, true)) {
-            for (char &byte : place.bytes)
+    for (std::size_t at : {0, 1})
+        if (size <= sizeof thrown.bytes[at] - before_thrown && !std::exchange(thrown.is_taken[at], true)) {
+            for (char &byte : thrown.bytes[at])
                 byte = 0;
-            return place.bytes + before_thrown;
+            return thrown.bytes[at] + before_thrown;
         }
     std::abort();
 }
 void __cxa_free_exception(void *freed) noexcept
 {
-    for (auto &place : thrown)
-        if (place.bytes + before_thrown == freed)
-            place.is_taken = false;
+    for (std::size_t at : {0, 1})
+        if (thrown.bytes[at] + before_thrown == freed)
+            thrown.is_taken[at] = false;
 }
 }
