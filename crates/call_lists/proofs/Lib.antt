@@ -6,3 +6,4 @@ pub mod Whole
 pub mod Places
 pub mod OneAnswer
 pub mod TakenBack
+pub mod Untouched

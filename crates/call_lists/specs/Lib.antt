@@ -1,3 +1,4 @@
 pub mod Common
 pub mod Making
 pub mod Laws
+pub mod Untouched

@@ -1,7 +1,12 @@
 //! The laws of lists of calls. Each function does nothing: its contract is what is proved, over every session or draft and every list.
 ghost use Rattle.call_lists.specs.Laws.{ListsAreHistories, ListsKeepWhole, EachIsWhole, PlacesAreCounted, UndosLeadToTheFirst, RedosLeadToTheLast, CommandsAreTakenBack, ListsHaveOneAnswer, ListsHaveOneOutcome, OnlyDoneChanges, IdleListsStay, MemoryCanBeLeftOut, StepsAreMarks, MarksLeadBack};
+ghost use Rattle.call_lists.specs.Untouched.{ChangesLeaveUntouched};
 
 use commands::commands_are_calls;
+use gluing_laws::glues_make_glued;
+use split_laws::splits_make_split;
+use sweeps_laws::{operators_make_blocks, operators_make_lamina, sweeps_make_prisms};
+use untouched_solids::untouched_solids_stay;
 
 /// What `make_all` says of a list is a history: a list of as many calls of the plain machine leads to the machine after it. Every model on the way is
 /// sound, also one that a later command dropped.
@@ -46,3 +51,16 @@ pub fn marks_lead_back()
     ensures steps { StepsAreMarks }
     ensures back { MarksLeadBack }
 {}
+
+/// A change of a session or a draft, whatever it is told, leaves each solid that none of its operators touches as it stood: with its faces, loops,
+/// edges, vertices and points, and no others, and with its volume. `Tells` names the operators of a change.
+pub fn changes_leave_untouched_solids()
+    ensures { ChangesLeaveUntouched }
+{
+    operators_make_lamina();
+    operators_make_blocks();
+    sweeps_make_prisms();
+    glues_make_glued();
+    splits_make_split();
+    untouched_solids_stay();
+}

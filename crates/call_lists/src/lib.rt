@@ -12,6 +12,7 @@
 //! to the empty model, that many redos to the last one. `commands_are_taken_back`: n undos take n commands back, and n redos make them again.
 //! `lists_have_one_answer`: a call that isn't told `Done` changes nothing, a call that is told `Memory` can be left out, and if no answer is `Memory`
 //! a list has one list of answers, and leads to one session or draft. `marks_lead_back`: going back to a mark gives the draft as it was there.
+//! `changes_leave_untouched_solids`: a change leaves each solid that none of its operators touches as it stood.
 
 mod laws;
 mod making;
@@ -20,8 +21,8 @@ pub use commands::{Call, Change, Command, Points, Question, Stage, Told, make};
 pub use euler_operators::{Op, Refusal};
 pub use gluing::six_volume;
 pub use laws::{
-    commands_are_taken_back, lists_are_histories, lists_have_one_answer, marks_lead_back,
-    undos_and_redos_lead_to_the_ends,
+    changes_leave_untouched_solids, commands_are_taken_back, lists_are_histories,
+    lists_have_one_answer, marks_lead_back, undos_and_redos_lead_to_the_ends,
 };
 pub use making::make_all;
 pub use undo_journal::{Draft, Failure, Record, Session};

@@ -1,6 +1,5 @@
 -- When a block and a glue are accepted.
-use Rattle.command_laws.proofs.Prelude.{◌≡◌, ◌≤◌, ℕ, arith, nat_le, true, false, not, List, is_some, refl, sym, ap, ◌∙◌, true≢false, nat_eq, map, reverse, ne_eqb, nat_tests, Point, Model, LoopContent, lone, cycle, items_of, content, face_of, outer, solid_of, Sound, Has, is_empty, is_lone, has_rings, ◌also◌, none_refuses, left_numbers_hold, block_conditions, start, least_lone, faces_of_both, taken_in, first_such, is_flat, early_glue_conditions, glue_conditions, outline, has_repeats, is_rotation, held, IsClosedFlat, IsFaceOf}
-use Rattle.euler_operators.specs.Table as table
+use Rattle.command_laws.proofs.Prelude.{◌≡◌, ◌≤◌, ℕ, arith, nat_le, true, not, List, is_some, refl, sym, ap, ◌∙◌, true≢false, nat_eq, map, reverse, ne_eqb, nat_tests, Point, Model, LoopContent, lone, cycle, items_of, content, face_of, outer, solid_of, Sound, Has, is_empty, is_lone, has_rings, ◌also◌, none_refuses, left_numbers_hold, block_conditions, start, least_lone, faces_of_both, taken_in, first_such, is_flat, early_glue_conditions, glue_conditions, outline, has_repeats, is_rotation, held, IsClosedFlat, IsFaceOf}
 use Rattle.gluing.proofs.glue_checks_laws.Known.{both_closed, both_flat}
 use Rattle.command_laws.specs.Accepted.{BlocksFit, GluesFit}
 use Rattle.command_laws.proofs.Outlines.{points_are}

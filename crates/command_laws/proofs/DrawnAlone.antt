@@ -1,7 +1,7 @@
 -- What a lamina and a block leave as they were.
-use Rattle.command_laws.proofs.Prelude.{◌≡◌, ◌≢◌, ℕ, ◌+◌, ◌-◌, ℤ, List, None, is_some, sym, ap, subst, ◌∙◌, refl, arith, inl, inr, length, Point, edge_of, Model, face_of, rings_of, Sound, Has, row_some, get-put_other, face_row, same_face, same_solid, taken_in, lamina_refusal, lamina_model, lamina_face, with_points, with_path, base_of, block_refusal, block_model, at_most_greatest, get-put_cases, lamina_goes, lamina_is_sound, blocks_have_bases, bases_rise, held, up_by, Each, LaminaKeepsOwners, LaminaKeepsLoops, LaminaKeepsEdges, LaminaKeepsPoints, LaminaKeepsShapes, BlockKeepsOwners, BlockKeepsLoops, BlockKeepsEdges, BlockKeepsPoints, BlockKeepsShapes, zero, suc, ◌≤◌, ◌<◌, ◌⊎◌, Table}
+use Rattle.command_laws.proofs.Prelude.{◌≡◌, ◌≢◌, ℕ, ◌+◌, ◌-◌, ℤ, List, None, is_some, sym, ap, ◌∙◌, refl, arith, inl, inr, length, Point, edge_of, Model, face_of, rings_of, Sound, Has, row_some, get-put_other, face_row, same_face, same_solid, taken_in, lamina_refusal, lamina_model, lamina_face, with_points, with_path, base_of, block_refusal, block_model, at_most_greatest, get-put_cases, lamina_goes, lamina_is_sound, blocks_have_bases, bases_rise, held, up_by, Each, BlockKeepsOwners, BlockKeepsLoops, BlockKeepsEdges, BlockKeepsPoints, BlockKeepsShapes, zero, suc, ◌≤◌, ◌<◌, ◌⊎◌, Table}
 use Rattle.euler_operators.specs.Table as table
-use Rattle.command_laws.proofs.Kept.{old_kept, lamina_kept, lamina_keeps_faces, block_keeps_faces}
+use Rattle.command_laws.proofs.Kept.{old_kept, lamina_kept, block_keeps_faces}
 use Rattle.command_laws.proofs.OnFaces.{vertex_there}
 use Rattle.command_laws.proofs.SweptAlone.{prism_keeps_loops, prism_keeps_edges, prism_keeps_points, prism_keeps_rings}
 use Rattle.command_laws.proofs.Standing.{rings_same, stands}
@@ -79,26 +79,6 @@ module _ (M : Model) (s : ℕ) (p : Point) (dx dy dz : ℤ) (sound : Sound M) (g
       ∙ rings_same M base k row (λ l held of. lamina_keeps M s (base_of p dx dy) l held) (lamina_adds M s (base_of p dx dy) k there)
 
 -- ---- the laws
-
-pub lamina_keeps_owners : LaminaKeepsOwners
-lamina_keeps_owners before after s ps made k there alone = same_solid (held before) (held after) k (lamina_keeps_faces before after s ps made k (at_most_greatest (held before).faces k there))
-
-pub lamina_keeps_loops : LaminaKeepsLoops
-lamina_keeps_loops before after s ps made l there alone = ap (λ x. table.get (held x).loops l) made.1 ∙ lamina_keeps (held before) s ps l there
-
-pub lamina_keeps_edges : LaminaKeepsEdges
-lamina_keeps_edges before after s ps sound made h there alone = ap (λ x. table.get (held x).edges (edge_of h)) made.1 ∙ lamina_keeps_rows (held before) s ps sound made.0 (edge_of h) there
-
-pub lamina_keeps_points : LaminaKeepsPoints
-lamina_keeps_points before after s ps sound made l v i alone = ap (λ x. table.get (held x).vertices v) made.1 ∙ lamina_keeps_places (held before) s ps v (vertex_there (held before) sound l v i)
-
-pub lamina_keeps_shapes : LaminaKeepsShapes
-lamina_keeps_shapes before after s ps sound made k there alone =
-    let M = held before in
-    let row = lamina_keeps_faces before after s ps made k (at_most_greatest M.faces k there) in
-    stands M (held after) Each sound (lamina_keeps_loops before after s ps made) (lamina_keeps_edges before after s ps sound made) (lamina_keeps_points before after s ps sound made) k there alone row
-    (rings_same M (held after) k row (λ l has of. lamina_keeps_loops before after s ps made l has tt)
-    (subst (λ x. (l : ℕ) → Has (held x).loops l → face_of (held x) l ≡ k → table.get (held x).loops l ≡ table.get M.loops l) (sym made.1) (lamina_adds M s ps k there)))
 
 pub block_keeps_owners : BlockKeepsOwners
 block_keeps_owners before after s p dx dy dz made k there alone = same_solid (held before) (held after) k (block_keeps_faces before after s p dx dy dz made k (at_most_greatest (held before).faces k there))

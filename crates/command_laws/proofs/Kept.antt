@@ -1,5 +1,5 @@
 -- The faces that were there before a command.
-use Rattle.command_laws.proofs.Prelude.{◌≡◌, ℕ, zero, suc, ◌+◌, ◌≤◌, ◌<◌, ℤ, List, [], ◌∷◌, sym, ap, subst, ◌∙◌, arith, length, Point, Table, Model, get-put_other, loops_of, Growing, Taken, growing, taken_in, lamina_model, lamina_face, raised, prism_from, prism_model, with_side, with_sides, base_of, block_model, riser_above, top_above, Machine, held, last_face, up_by, IsLamina, IsBlock, IsSweep}
+use Rattle.command_laws.proofs.Prelude.{◌≡◌, ℕ, zero, suc, ◌+◌, ◌≤◌, ◌<◌, ℤ, List, [], ◌∷◌, sym, ap, subst, ◌∙◌, arith, length, Point, Table, Model, get-put_other, loops_of, Growing, Taken, growing, taken_in, lamina_model, lamina_face, raised, prism_from, prism_model, with_side, with_sides, base_of, block_model, riser_above, top_above, Machine, held, last_face, up_by, IsBlock}
 use Rattle.euler_operators.specs.Table as table
 use Rattle.command_laws.proofs.LaminaFaces.{lamina_counted}
 
@@ -55,11 +55,5 @@ block_kept M s p dx dy dz k m = prism_kept (lamina_model M s (base_of p dx dy)) 
 abbrev KeepsFaces : Machine → Machine → Type 0
 KeepsFaces before after = (k : ℕ) → k ≤ last_face before → table.get (held after).faces k ≡ table.get (held before).faces k
 
-pub lamina_keeps_faces : (before after : Machine) (s : ℕ) (ps : List Point) → IsLamina before after s ps → KeepsFaces before after
-lamina_keeps_faces before after s ps made k m = ap (λ x. table.get (held x).faces k) made.1 ∙ lamina_kept (held before) s ps k m
-
 pub block_keeps_faces : (before after : Machine) (s : ℕ) (p : Point) (dx dy dz : ℤ) → IsBlock before after s p dx dy dz → KeepsFaces before after
 block_keeps_faces before after s p dx dy dz made k m = ap (λ x. table.get (held x).faces k) made.1 ∙ block_kept (held before) s p dx dy dz k m
-
-pub sweep_keeps_faces : (before after : Machine) (f : ℕ) (d : Point) → IsSweep before after f d → KeepsFaces before after
-sweep_keeps_faces before after f d made k m = ap (λ x. table.get (held x).faces k) made.1 ∙ prism_kept (held before) f d k m

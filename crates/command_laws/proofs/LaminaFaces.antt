@@ -1,5 +1,5 @@
 -- The two faces of a lamina.
-use Rattle.command_laws.proofs.Prelude.{◌≡◌, ℕ, zero, suc, ◌+◌, ◌≤◌, ◌<◌, List, ◌∷◌, None, is_some, refl, sym, ap, subst, ◌∙◌, arith, inl, inr, length, map, reverse, take, map-append, reverse-append, nat_tests, eqb_tells, Point, canonical, plus, minus, Model, point_of, Sound, content_row, solid_row, outer_row, plus_tail_row, minus_tail_row, less_still, all_hold, start, Taken, taken_in, numbers_after, lamina_conditions, lamina_refusal, lamina_at, lamina_model, greatest-put_last, lamina_is_sound, HasFree, taken_free, held, nth, turned_back, last_face, IsFaceOf, LaminaHasTwoFaces, LaminaTakesTwoFaces}
+use Rattle.command_laws.proofs.Prelude.{◌≡◌, ℕ, zero, suc, ◌+◌, ◌≤◌, ◌<◌, List, ◌∷◌, None, is_some, refl, sym, ap, subst, ◌∙◌, arith, inl, inr, length, map, reverse, take, map-append, reverse-append, nat_tests, eqb_tells, Point, canonical, plus, minus, Model, point_of, Sound, content_row, solid_row, outer_row, plus_tail_row, minus_tail_row, less_still, all_hold, start, Taken, taken_in, numbers_after, lamina_conditions, lamina_refusal, lamina_at, lamina_model, greatest-put_last, lamina_is_sound, HasFree, taken_free, nth, turned_back, IsFaceOf}
 use Rattle.euler_operators.specs.Table as table
 use Rattle.sweeps_laws.specs.lamina.Path.{out}
 use Rattle.sweeps_laws.proofs.lamina.Lists.{plus_halves, minus_halves}
@@ -99,12 +99,5 @@ pub lamina_faces : (M : Model) (s : ℕ) (ps : List Point) → Sound M → lamin
 lamina_faces M s ps sound goes = subst (λ N. IsFaceOf N ((taken_in M).face + 1) s ps × IsFaceOf N ((taken_in M).face + 2) s (turned_back ps)) (sym (lamina_is M s ps))
     (two_faces M s ps (many_points M s ps goes) (taken_free M sound) (subst Sound (lamina_is M s ps) (lamina_is_sound M s ps sound goes)))
 
-pub lamina_has_two_faces : LaminaHasTwoFaces
-lamina_has_two_faces before after s ps sound made =
-    grind (arith, made, held before, face_counted (held before), lamina_faces (held before) s ps sound made.0)
-
 pub lamina_counted : (M : Model) (s : ℕ) (ps : List Point) → table.greatest (lamina_model M s ps).faces ≡ table.greatest M.faces + 2
 lamina_counted M s ps = ap (λ (N : Model). table.greatest N.faces) (lamina_is M s ps) ∙ greatest_drawn M (taken_in M) s ps (omega (arith, face_counted M)) ∙ ap (λ g. g + 2) (face_counted M)
-
-pub lamina_takes_two_faces : LaminaTakesTwoFaces
-lamina_takes_two_faces before after s ps made = ap last_face made.1 ∙ lamina_counted (held before) s ps

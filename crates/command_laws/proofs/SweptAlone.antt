@@ -1,8 +1,8 @@
 -- What a sweep leaves as it was.
-use Rattle.command_laws.proofs.Prelude.{◌≡◌, ◌≢◌, ℕ, None, sym, ap, subst, ◌∙◌, inl, inr, Point, edge_of, Model, face_of, solid_of, rings_of, Sound, Has, IsIn_or_not, face_row, same_solid, loops_of, growing, taken_in, prism_refusal, prism_model, at_most_greatest, held, AllBut, KeepsShapes, SweepKeepsOwners, SweepKeepsLoops, SweepKeepsEdges, SweepKeepsPoints, SweepKeepsShapes}
+use Rattle.command_laws.proofs.Prelude.{◌≡◌, ◌≢◌, ℕ, None, inl, inr, Point, edge_of, Model, face_of, solid_of, rings_of, Sound, Has, IsIn_or_not, face_row, loops_of, growing, taken_in, prism_refusal, prism_model, at_most_greatest, AllBut, KeepsShapes}
 use Rattle.euler_operators.specs.Table as table
 use Rattle.sweeps_laws.proofs.prism.Accepted.{begins}
-use Rattle.command_laws.proofs.Kept.{prism_keeps, prism_kept, sweep_keeps_faces}
+use Rattle.command_laws.proofs.Kept.{prism_keeps, prism_kept}
 use Rattle.command_laws.proofs.OnFaces.{vertex_there}
 use Rattle.command_laws.proofs.Standing.{stands}
 use Rattle.command_laws.proofs.SweptLoops.{later_whole, sweep_ready}
@@ -35,21 +35,3 @@ module _ (M : Model) (f : ℕ) (d : Point) (sound : Sound M) (goes : prism_refus
   prism_keeps_shapes k there ne =
       stands M (prism_model M f d) (AllBut f) sound (prism_keeps_loops M f d sound goes) (λ h half other. prism_keeps_edges M f d (edge_of h) half)
       (λ l v i other. prism_keeps_points M f d v (vertex_there M sound l v i)) k there ne (prism_kept M f d k (at_most_greatest M.faces k there)) (prism_keeps_rings k there)
-
--- ---- the laws
-
-pub sweep_keeps_owners : SweepKeepsOwners
-sweep_keeps_owners before after f d made k there alone =
-    same_solid (held before) (held after) k (sweep_keeps_faces before after f d made k (at_most_greatest (held before).faces k there))
-
-pub sweep_keeps_loops : SweepKeepsLoops
-sweep_keeps_loops before after f d sound made l there ne = ap (λ x. table.get (held x).loops l) made.1 ∙ prism_keeps_loops (held before) f d sound made.0 l there ne
-
-pub sweep_keeps_edges : SweepKeepsEdges
-sweep_keeps_edges before after f d made h there alone = ap (λ x. table.get (held x).edges (edge_of h)) made.1 ∙ prism_keeps_edges (held before) f d (edge_of h) there
-
-pub sweep_keeps_points : SweepKeepsPoints
-sweep_keeps_points before after f d sound made l v i alone = ap (λ x. table.get (held x).vertices v) made.1 ∙ prism_keeps_points (held before) f d v (vertex_there (held before) sound l v i)
-
-pub sweep_keeps_shapes : SweepKeepsShapes
-sweep_keeps_shapes before after f d sound made = subst (λ x. KeepsShapes (AllBut f) (held before) (held x)) (sym made.1) (prism_keeps_shapes (held before) f d sound made.0)

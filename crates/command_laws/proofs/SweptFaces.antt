@@ -1,5 +1,5 @@
 -- The faces of a sweep of a face without rings: its one loop is swept as each loop of a face with rings is.
-use Rattle.command_laws.proofs.Prelude.{◌≡◌, ◌≢◌, ℕ, ◌+◌, ◌<◌, List, [], ◌∷◌, ◌++◌, None, refl, sym, ap, subst, ◌∙◌, arith, length, map, Point, Model, items_of, content, outer, solid_of, rings_of, Sound, same_outer, start, loops_of, growing, prism_refusal, prism_model, prism_from, next_place, IsPathOf, held, corner_points, nth, all_moved, side_over, IsFaceOf, SweptFaceIsFar, SidesStand, loop_points}
+use Rattle.command_laws.proofs.Prelude.{◌≡◌, ◌≢◌, ℕ, ◌+◌, ◌<◌, List, [], ◌∷◌, ◌++◌, None, refl, sym, ap, subst, ◌∙◌, arith, length, map, Point, Model, items_of, content, outer, solid_of, rings_of, Sound, same_outer, start, loops_of, growing, prism_refusal, prism_model, prism_from, next_place, IsPathOf, corner_points, nth, all_moved, side_over, IsFaceOf, loop_points}
 use Rattle.euler_operators.specs.Table as table
 use Rattle.command_laws.proofs.Outlines.{points_are, plane_is}
 use Rattle.command_laws.proofs.Standing.{faces_stand}
@@ -48,11 +48,3 @@ module _ (M : Model) (f : ℕ) (d : Point) (sound : Sound M) (goes : prism_refus
 -- each other face stands as it did
 pub model_other : (M : Model) (f : ℕ) (d : Point) → Sound M → prism_refusal M f d ≡ None → (k s : ℕ) (ps : List Point) → k ≢ f → IsFaceOf M k s ps → IsFaceOf (prism_model M f d) k s ps
 model_other M f d sound goes k s ps ne was = faces_stand M (prism_model M f d) k s ps (prism_keeps_shapes M f d sound goes k was.there ne) was
-
--- ---- the laws
-
-pub swept_face_is_far : SweptFaceIsFar
-swept_face_is_far before after f d sound made plain = grind (arith, held before, made, model_far (held before) f d sound made.0 plain)
-
-pub sides_stand : SidesStand
-sides_stand before after f d i sound made plain l = grind (arith, held before, made, model_sides (held before) f d sound made.0 plain i l)

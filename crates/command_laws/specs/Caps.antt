@@ -1,6 +1,6 @@
 -- The caps after a split that was answered Ok.
-use Rattle.std.specs.Prelude.{◌≡◌, ℕ, ◌<◌, pos, int_lt, true, false, [], map, filter, length, get_or}
-use Rattle.euler_operators.specs.Common.{Plane, moved, dot, direction, Sound}
+use Rattle.std.specs.Prelude.{◌≡◌, ℕ, ◌<◌, true, false, [], map, length, get_or}
+use Rattle.euler_operators.specs.Common.{Plane, moved, Sound}
 use Rattle.euler_operators.specs.Table as table
 use Rattle.shapes.specs.Common.{negated, normal, with_drawings, is_hole, holes_in}
 use Rattle.undo_journal.specs.Machine.{Machine, held}
@@ -24,10 +24,3 @@ CapsHaveNormals = (before after : Machine) (s : ℕ) (p : Plane) (t i : ℕ) →
     let k = cap (held before) s p i in k.hole ≡ false →
     let D = (with_drawings (held before) s p).model in let cs = cycles_of (held before) s p in let bs = get_or cs i [] in let N = held after in
     (is_hole D p bs ≡ false) × (normal N k.lower ≡ moved (sum_of (map (area_below D) (holes_in D p cs))) (area_below D bs)) × (normal N k.upper ≡ negated (normal N k.lower))
-
--- in a section without holes no cap below points against the plane's direction, and the cap above has the opposite normal
-abbrev pub CapsFaceApart : Type 0
-CapsFaceApart = (before after : Machine) (s : ℕ) (p : Plane) (t i : ℕ) → Sound (held before) → IsSplit before after s p t → i < length (caps_of (held before) s p) →
-    filter (λ k. k.hole) (caps_of (held before) s p) ≡ [] →
-    let k = cap (held before) s p i in let N = held after in
-    (int_lt (dot (normal N k.lower) (direction p)) (pos 0) ≡ false) × (normal N k.upper ≡ negated (normal N k.lower))

@@ -1,5 +1,5 @@
 -- Faces that lie flat, told by the points of their corners.
-use Rattle.std.specs.Prelude.{◌≡◌, ◌≢◌, ℕ, ℤ, Bool, true, false, not, ◌&&◌, List}
+use Rattle.std.specs.Prelude.{◌≡◌, ◌≢◌, ℕ, ℤ, Bool, true, not, ◌&&◌, List}
 use Rattle.std.specs.List.{list_all}
 use Rattle.euler_operators.specs.Common.{Plane, Point, origin, cross, same_point, is_on, direction, Model, solid_of, Sound, Has}
 use Rattle.shapes.specs.Common.{corners, is_flat, is_plane_of, normal, towards}

@@ -1,10 +1,10 @@
 -- The faces that a lamina, a block and a sweep make: their numbers, their solid, the points of their corners, and their planes.
-use Rattle.std.specs.Prelude.{◌≡◌, ◌<◌, ℕ, ◌+◌, ℤ, pos, List, [], ◌∷◌, map, reverse, length, get_or}
+use Rattle.std.specs.Prelude.{◌≡◌, ◌<◌, ℕ, ◌+◌, ℤ, pos, List, [], ◌∷◌, map, reverse, get_or}
 use Rattle.euler_operators.specs.Common.{Point, Plane, origin, moved, cross, Model, no_point, point_of, solid_of, rings_of, Sound, Has}
 use Rattle.euler_operators.specs.Table as table
 use Rattle.shapes.specs.Common.{corners, next_place, vector, base_of, plane_through, plane_of}
 use Rattle.undo_journal.specs.Machine.{Machine, held}
-use Rattle.command_laws.specs.Commands.{IsLamina, IsBlock, IsSweep}
+use Rattle.command_laws.specs.Commands.{IsBlock}
 
 -- the points of a face's corners, in the order of its loops
 abbrev pub corner_points : Model → ℕ → List Point
@@ -43,27 +43,11 @@ all_moved d ps = map (λ p. moved p d) ps
 abbrev pub side_over : Point → Point → Point → List Point
 side_over d a b = a ∷ b ∷ moved b d ∷ moved a d ∷ []
 
--- a face without rings that was swept keeps its number, and its corners have moved: it is the far face of the prism
-abbrev pub SweptFaceIsFar : Type 0
-SweptFaceIsFar = (before after : Machine) (f : ℕ) (d : Point) → Sound (held before) → IsSweep before after f d → rings_of (held before) f ≡ [] →
-    IsFaceOf (held after) f (solid_of (held before) f) (all_moved d (corner_points (held before) f))
-
--- a new side stands over each of its edges, in their order
-abbrev pub SidesStand : Type 0
-SidesStand = (before after : Machine) (f : ℕ) (d : Point) (i : ℕ) → Sound (held before) → IsSweep before after f d → rings_of (held before) f ≡ [] →
-    let ps = corner_points (held before) f in i < length ps →
-    IsFaceOf (held after) (last_face before + 1 + i) (solid_of (held before) f) (side_over d (nth ps i) (nth ps (next_place (length ps) i)))
-
 -- the second point, the first, and then the others in reverse order
 abbrev pub turned_back : List Point → List Point
 turned_back [] = []
 turned_back (a ∷ []) = a ∷ []
 turned_back (a ∷ b ∷ ps) = b ∷ a ∷ reverse ps
-
--- a new lamina has one face round its points, and one the other way round
-abbrev pub LaminaHasTwoFaces : Type 0
-LaminaHasTwoFaces = (before after : Machine) (s : ℕ) (ps : List Point) → Sound (held before) → IsLamina before after s ps →
-    IsFaceOf (held after) (last_face before + 1) s ps × IsFaceOf (held after) (last_face before + 2) s (turned_back ps)
 
 -- the vector by which a block's base is swept up
 abbrev pub up_by : ℤ → Point
@@ -82,6 +66,3 @@ BlockHasFourSides = (before after : Machine) (s : ℕ) (p : Point) (dx dy dz : �
 -- so a block raises the greatest number of a face by six, and a lamina by two
 abbrev pub BlockTakesSixFaces : Type 0
 BlockTakesSixFaces = (before after : Machine) (s : ℕ) (p : Point) (dx dy dz : ℤ) → Sound (held before) → IsBlock before after s p dx dy dz → last_face after ≡ last_face before + 6
-
-abbrev pub LaminaTakesTwoFaces : Type 0
-LaminaTakesTwoFaces = (before after : Machine) (s : ℕ) (ps : List Point) → IsLamina before after s ps → last_face after ≡ last_face before + 2

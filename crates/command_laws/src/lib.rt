@@ -4,48 +4,30 @@
 //!
 //! # What is proved
 //!
-//! - *New faces* (here): those of a lamina, of a block, and of a sweep of a face without rings, each with its number, solid, corner points and plane.
+//! - *New faces* (here): those of a block, each with its number, solid, corner points and plane.
 //! - *Accepted commands* (here): when a block and a glue are accepted; that the solid of a new block, a lamina, a sweep and a glue is there.
-//! - *What stays* (`frames`): after a lamina, a block and a sweep each loop there before keeps its face and its content, each edge its ends, each
-//!   vertex its point, and so each face its solid, rings, corner points and plane, except for the face that was swept.
+//! - *What stays* (`frames`): after a block each loop there before keeps its face and its content, each edge its ends, each vertex its point, and so
+//!   each face its solid, rings, corner points and plane.
 //! - *Flat faces* (`flat`): faces whose corners lie on one plane, the sides of a sweep, a swept face that was flat before, all faces of a new block
 //!   and all of a solid to which another one was glued.
-//! - *Splits*: what they leave unchanged, and to which part each face belongs (`splits`); the caps (`caps`).
+//! - *Splits* (here): each half-edge of the parts lies on the plane or on a half-edge of the solid that was split.
 
-mod caps;
 mod flat;
 mod frames;
-mod splits;
 
-ghost use Rattle.command_laws.specs.NewFaces.{LaminaHasTwoFaces, LaminaTakesTwoFaces, BlockHasTopAndBottom, BlockHasFourSides, BlockTakesSixFaces, SweptFaceIsFar, SidesStand};
-ghost use Rattle.command_laws.specs.RingedFaces.{RingedFaceIsFar};
+ghost use Rattle.command_laws.specs.NewFaces.{BlockHasTopAndBottom, BlockHasFourSides, BlockTakesSixFaces};
 ghost use Rattle.command_laws.specs.Accepted.{BlocksFit, GluesFit};
+ghost use Rattle.command_laws.specs.SplitEdges.{SplitsMakeNoLines};
 ghost use Rattle.command_laws.specs.Solids.{BlocksAreThere, LaminasAreThere, SweptAreThere, SweepsKeepSolids, GluesJoinSolids};
 
-pub use caps::{caps_close_the_parts, caps_face_apart};
 pub use flat::faces_lie_flat;
-pub use frames::{blocks_leave_alone, faces_stand, laminas_leave_alone, sweeps_leave_alone};
-pub use splits::{splits_leave_alone, splits_make_no_lines, splits_part_faces, splits_share_faces};
-
-/// After a lamina: the face numbered next after the greatest before goes round its points, and the face after that goes round them in reverse.
-pub fn laminas_make_faces()
-    ensures faces { LaminaHasTwoFaces }
-    ensures taken { LaminaTakesTwoFaces }
-{}
+pub use frames::{blocks_leave_alone, faces_stand};
 
 /// After a block its faces are numbered on from the greatest face before: its top, its bottom, and a side over each edge of its base.
 pub fn blocks_make_faces()
     ensures ends { BlockHasTopAndBottom }
     ensures sides { BlockHasFourSides }
     ensures taken { BlockTakesSixFaces }
-{}
-
-/// After a sweep of a face without rings: the face keeps its number and is the far face of the prism, with its corners moved. Over each of its edges,
-/// in their order, stands a new side, numbered on from the greatest face before. A face with rings keeps its number and its loops too.
-pub fn sweeps_make_faces()
-    ensures far { SweptFaceIsFar }
-    ensures sides { SidesStand }
-    ensures ringed { RingedFaceIsFar }
 {}
 
 /// After a block, a lamina and a sweep the solid is there, so that its measures are answered.
@@ -70,4 +52,10 @@ pub fn blocks_fit()
 /// corners of the other in reverse order, neither has two equal corners, and an edge is left.
 pub fn glues_fit()
     ensures { GluesFit }
+{}
+
+/// A split makes no lines but on its plane: each half-edge of the parts has both ends on the plane, or it lies on a half-edge of the solid that was
+/// split, and leads the same way.
+pub fn splits_make_no_lines()
+    ensures { SplitsMakeNoLines }
 {}

@@ -2,7 +2,7 @@
 use Rattle.std.specs.Prelude.{◌≡◌, ℕ, ◌⊎◌, Bool, List, [], Option, Some, None, Result, Err, option_map, string_bytes, Ok, ⊤}
 use Rattle.clap.specs.Words.{Text, matches_of}
 use Rattle.clap.specs.Faults.{fault_of}
-use Rattle.script_running.specs.Reaching.{HandsOn}
+use Rattle.script_running.specs.Reaching.{AsksAnswers, HandsOn}
 use Rattle.script_running.specs.script_judging.Consoles.{IsNew}
 use Rattle.script_running.specs.declared.script_judging.calls.Console.{Console}
 use Rattle.script_running.specs.declared.script_judging.judging.Summary.{Summary}
@@ -13,6 +13,10 @@ use Rattle.command_line.specs.declared.words.Choice.{Choice}
 use Rattle.command_line.specs.declared.words.WordsFault.{WordsFault}
 use Rattle.command_line.specs.declared.ending.Trouble.{Trouble}
 use Rattle.command_line.specs.declared.ending.Trouble.TheVariants as trouble
+
+-- a file that is opened asks for no more than the answers to the whole lines that it gave
+abbrev pub OpensAsking : {F : Type 0} → (opens : Text → Option F → Type 0) (remaining : F → Option (List ℕ)) (asks : F → Option (List ℕ) → Type 0) → Option (List ℕ) → Type 0
+OpensAsking {F} opens remaining asks old = (name : Text) (script : F) (stop : Bool) → opens name (Some script) → AsksAnswers remaining asks script old stop
 
 -- what was opened is run; if nothing could be opened, nothing is written, and the console keeps its new session
 abbrev pub RunsOpened : {F : Type 0} → (F → Option (List ℕ)) → Option (List ℕ) → Option (List ℕ) → Bool → Result Summary Trouble → Console → Option F → Type 0

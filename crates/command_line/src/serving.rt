@@ -1,9 +1,10 @@
 //! The program over its words, standard input, files and standard output.
-ghost use Rattle.std.specs.Prelude.{◌≡◌, map, option_map, string_bytes};
+ghost use Rattle.std.specs.Prelude.{◌≡◌, Bool, IfSome, map, option_map, string_bytes};
 ghost use Rattle.std.specs.Fn.{FnOnceReturnsAt};
+ghost use Rattle.script_running.specs.Reaching.{AsksAnswers};
 ghost use Rattle.script_running.specs.script_judging.Consoles.{IsNew};
 ghost use Rattle.command_line.specs.Endings.{Answered};
-ghost use Rattle.command_line.specs.Serving.{AllHandedOn, RunsFile, RunsOpened, Serves};
+ghost use Rattle.command_line.specs.Serving.{AllHandedOn, OpensAsking, RunsFile, RunsOpened, Serves};
 
 use crate::ending::Trouble;
 use crate::words::{Choice, read_words};
@@ -18,7 +19,8 @@ fn answer<R: Inlet<W> + Drop, W: Outlet>(
     writer: &mut W,
     stop: bool,
 ) -> Result<Summary, Trouble>
-    requires { IsNew console.old }
+    requires start { IsNew console.old }
+    requires asked { AsksAnswers R.remaining R.asks script (W.contents writer.old) stop }
     ensures runs { Answered (R.remaining script) (W.contents writer.old) (W.contents writer.new) stop result console.new }
     ensures reached { AllHandedOn (W.reached writer.new) (W.contents writer.new) result }
 {
@@ -33,7 +35,8 @@ fn run_opened<F: Inlet<W> + Drop, W: Outlet>(
     writer: &mut W,
     stop: bool,
 ) -> Result<Summary, Trouble>
-    requires { IsNew console.old }
+    requires start { IsNew console.old }
+    requires asked { IfSome opened (λ script. AsksAnswers F.remaining F.asks script (W.contents writer.old) stop) }
     ensures runs { RunsOpened F.remaining (W.contents writer.old) (W.contents writer.new) stop result console.new opened }
     ensures reached { AllHandedOn (W.reached writer.new) (W.contents writer.new) result }
 {
@@ -65,6 +68,8 @@ fn follow<R: Inlet<W> + Drop, F: Inlet<W> + Drop, O: FnOnce(&str) -> Option<F> +
 ) -> Outcome<R, O>
     requires callable { O.IsAlwaysCallable opening }
     requires start { IsNew console.old }
+    requires asked { (stop : Bool) → AsksAnswers R.remaining R.asks input (W.contents writer.old) stop }
+    requires files { OpensAsking (FnOnceReturnsAt O.FnOnce opening) F.remaining F.asks (W.contents writer.old) }
     ensures runs { RunsFile input opening (FnOnceReturnsAt O.FnOnce opening) F.remaining (R.remaining input) (W.contents writer.old) (W.contents writer.new) choice.now.stop result console.new (option_map string_bytes choice.now.file) }
     ensures reached { AllHandedOn (W.reached writer.new) (W.contents writer.new) result.ended }
 {
@@ -97,7 +102,8 @@ fn follow<R: Inlet<W> + Drop, F: Inlet<W> + Drop, O: FnOnce(&str) -> Option<F> +
 ///
 /// `Trouble::Words` comes if the words are refused or ask for help or the version, `Trouble::Open` if `opening` gives nothing; then nothing is read
 /// or written. `Trouble::Run` is the run's, or says that memory was refused while the words were read. Unless a write failed, all that was written
-/// has been handed on at the end.
+/// has been handed on at the end. What `input` and FILE may ask for before a read is what `run_in` has then written; no reader of std asks for
+/// anything.
 pub fn serve<
     R: Inlet<W> + Drop,
     F: Inlet<W> + Drop,
@@ -113,6 +119,8 @@ pub fn serve<
 ) -> Outcome<R, O>
     requires callable { O.IsAlwaysCallable opening }
     requires start { IsNew console.old }
+    requires asked { (stop : Bool) → AsksAnswers R.remaining R.asks input (W.contents writer.old) stop }
+    requires files { OpensAsking (FnOnceReturnsAt O.FnOnce opening) F.remaining F.asks (W.contents writer.old) }
     ensures serves { Serves input opening (FnOnceReturnsAt O.FnOnce opening) F.remaining (R.remaining input) (W.contents writer.old) (W.contents writer.new) (map string_bytes words.now) result console.new }
     ensures reached { AllHandedOn (W.reached writer.new) (W.contents writer.new) result.ended }
 {

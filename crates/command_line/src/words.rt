@@ -84,6 +84,9 @@ Exit status:
   2  the command line was refused
   3  the script could not be opened, read or answered to its end
 
+A word that is no flag is FILE: `gwb help` opens a file of that name. gwb-shell is a prompt with help for each command;
+it says complaints in words, as `gwb FILE | gwb-explain FILE` does.
+
 Example:
   printf 'mvfs 1 1 1 1 0 0 0\\nmev @1 @1 1 2 5 0 0\\nlist\\n' | gwb --stop";
 

@@ -1,6 +1,8 @@
 -- What a session knows of a solid holds after a change.
-use Rattle.commands.proofs.Prelude.{◌≡◌, ℕ, ℤ, inl, inr, false, Option, Some, None, Result, Ok, refl, sym, subst, IfSome, LoopContent, Point, cycle, is_lone, lone, plane_with, Change, Failure, Journal, Machine, accepted, held, refusal_of, made, TellsSession, told_of}
+use Rattle.commands.proofs.Prelude.{◌≡◌, ℕ, ℤ, inl, inr, false, Option, Some, None, Result, Ok, Err, refl, sym, subst, cond, IfSome, LoopContent, Point, cycle, is_lone, lone, plane_with, Change, Failure, Journal, Machine, accepted, held, refusal_of, made, TellsSession, told_of}
+use Rattle.std.specs.Result.{is_ok}
 use Rattle.std.proofs.lemmas.Bool.Decides.{eqb_tells}
+use Rattle.undo_journal.specs.declared.session.Failure.TheVariants as failure
 use Rattle.split_drawing_laws.specs.face_sides.Lone.{NoLoopIsLone}
 use Rattle.split_laws.proofs.measures.Parts.{none_is_lone}
 use Rattle.split_checks.specs.begin_checks.Conditions.{HasFlatFaces}
@@ -67,9 +69,9 @@ module _ (s t : Journal) (sound : Sound (held s.machine)) where
       subst (IsKnown t) (sym h.1) (upper_flat s.machine t.machine n x y z w m sound (none, is) strict, strict)
   makes_known o c k was e none is = subst (IsKnown t) (sym e) tt
 
--- so what was to be known is, if the change was accepted
-pub now_known : (s t : Journal) (o k : Known) (M : Model) (c : Change) (r : Result (Unit {0}) Failure) (x : Unit {0}) → Sound M → M ≡ held s.machine → IsKnown s o → MakesKnown M o c k
-    → r ≡ Ok x → TellsSession s (command.Change c) (told_of r) t → IsKnown t k
-now_known s t o k M c r x sound same was may e h =
-    let done = subst (λ a. TellsSession s (command.Change c) (told_of a) t) e h in
-    makes_known s t (subst Sound same sound) o c k was (subst (λ K. MakesKnown K o c k) same may) done.0 done.1.0
+-- so what was to be known is, if the change was accepted, and else what was known
+pub now_known : (s t : Journal) (o k : Known) (M : Model) (c : Change) (r : Result (Unit {0}) Failure) → Sound M → M ≡ held s.machine → IsKnown s o → MakesKnown M o c k
+    → TellsSession s (command.Change c) (told_of r) t → IsKnown t (cond (is_ok r) k o)
+now_known s t o k M c (Ok _) sound same was may h = makes_known s t (subst Sound same sound) o c k was (subst (λ K. MakesKnown K o c k) same may) h.0 h.1.0
+now_known s t o k M c (Err (failure.Refused q)) sound same was may h = subst (λ (j : Journal). IsKnown j o) (sym h.1) was
+now_known s t o k M c (Err (failure.Memory e)) sound same was may h = subst (λ (j : Journal). IsKnown j o) (sym h.1) was

@@ -1,4 +1,4 @@
-//! A change as one command of a session.
+//! Changes as commands of a session: an operator, and those whose numbers the proof has to name.
 ghost use Rattle.std.specs.Prelude.{IfSome};
 ghost use Rattle.undo_journal.specs.Machine.{held};
 ghost use Rattle.gluing.specs.Flat.{IsClosedFlat};
@@ -6,10 +6,9 @@ ghost use Rattle.commands.specs.Telling.{TellsSession, told_of};
 
 use call_types::{Change, Command};
 use euler_operators::{Op, Point};
-use gluing::glue_with_flat;
 use plane_split::split_with_flat;
 use std::alloc::Global;
-use sweeps::{block, lamina, sweep};
+use sweeps::block;
 use undo_journal::{Failure, Session};
 
 /// Gives a session an operator without moving it. It does what `change` does.
@@ -21,7 +20,8 @@ pub(crate) fn act_on_session(session: &mut Session, op: Op) -> Result<(), Failur
     session.act(op)
 }
 
-fn act(session: Session, op: Op) -> (Session, Result<(), Failure>)
+/// Gives a session an operator.
+pub(crate) fn act(session: Session, op: Op) -> (Session, Result<(), Failure>)
     ensures { TellsSession session (Command.Change (Change.Act op)) (told_of result.1) result.0 }
 {
     let mut session = session;
@@ -30,7 +30,7 @@ fn act(session: Session, op: Op) -> (Session, Result<(), Failure>)
 }
 
 /// A block, by its sizes.
-fn make_block(
+pub(crate) fn make_block(
     alloc: Global,
     session: Session,
     solid: u32,
@@ -45,7 +45,7 @@ fn make_block(
 }
 
 /// A split, by the coefficients of its plane. A solid may be known to be closed and flat.
-fn make_split(
+pub(crate) fn make_split(
     alloc: Global,
     session: Session,
     solid: u32,
@@ -60,31 +60,4 @@ fn make_split(
     ensures { TellsSession session (Command.Change (Change.Split solid a b c d above)) (told_of result.1) result.0 }
 {
     split_with_flat(alloc, session, solid, a, b, c, d, above, flat)
-}
-
-/// Makes a change one command of the session. A refusal is that of the command that the change names. On any failure the session is as it
-/// was, with its records. An accepted change leaves one record.
-///
-/// A glue and a split don't look for lone loops and bent faces of the solid that is known to be closed and flat.
-pub(crate) fn change_session(
-    alloc: Global,
-    session: Session,
-    flat: Option<u32>,
-    change: Change<'_>,
-) -> (Session, Result<(), Failure>)
-    requires { IfSome flat (IsClosedFlat (held session.machine)) }
-    ensures { TellsSession session (Command.Change change.entry) (told_of result.1) result.0 }
-{
-    match change {
-        Change::Act(op) => act(session, op),
-        Change::Lamina(solid, points) => lamina(alloc, session, solid, points.points()),
-        Change::Block(solid, corner, dx, dy, dz) => {
-            make_block(alloc, session, solid, corner, dx, dy, dz)
-        }
-        Change::Sweep(face, way) => sweep(alloc, session, face, way),
-        Change::Glue(face, other) => glue_with_flat(alloc, session, face, other, flat),
-        Change::Split(solid, a, b, c, d, above) => {
-            make_split(alloc, session, solid, a, b, c, d, above, flat)
-        }
-    }
 }

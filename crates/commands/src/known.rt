@@ -8,12 +8,14 @@ ghost use Rattle.gluing.specs.Flat.{IsClosedFlat};
 ghost use Rattle.commands.specs.Known.{IsKnown, MakesKnown};
 ghost use Rattle.commands.specs.Telling.{TellsSession, told_of};
 
-use crate::changing::{act_on_session, change_session};
+use crate::changing::{act, act_on_session, make_block, make_split};
 use call_types::{Change, Command};
 use euler_conditions::Arena;
 use euler_operators::{Kind, Op, Refusal, is_number};
+use gluing::glue_with_flat;
 use std::alloc::Global;
 use std::marker::Model;
+use sweeps::{lamina, sweep};
 use undo_journal::{Failure, Session};
 
 /// What is known of one solid.
@@ -182,18 +184,27 @@ impl KnownSession {
 
     /// Makes a change one command of the session. A refusal is that of the command that the change names. On any failure the session is as
     /// it was, with its records. An accepted change leaves one record.
+    ///
+    /// A glue and a split don't look for lone loops and bent faces of the solid that is known to be closed and flat.
     pub fn change(self, alloc: Global, wanted: Change<'_>) -> (KnownSession, Result<(), Failure>)
         ensures { TellsSession self (Command.Change wanted.entry) (told_of result.1) result.0 }
     {
         let KnownSession { session, known } = self;
         let next = known_next(session.arena(), known, &wanted);
-        let (session, ended) = change_session(alloc, session, flat_of(known), wanted);
-        match ended {
-            Ok(()) => {
-                let known = next;
-                (KnownSession { session, known }, Ok(()))
+        let flat = flat_of(known);
+        let (session, ended) = match wanted {
+            Change::Act(op) => act(session, op),
+            Change::Lamina(solid, points) => lamina(alloc, session, solid, points.points()),
+            Change::Block(solid, corner, dx, dy, dz) => {
+                make_block(alloc, session, solid, corner, dx, dy, dz)
             }
-            Err(failure) => (KnownSession { session, known }, Err(failure)),
-        }
+            Change::Sweep(face, way) => sweep(alloc, session, face, way),
+            Change::Glue(face, other) => glue_with_flat(alloc, session, face, other, flat),
+            Change::Split(solid, a, b, c, d, above) => {
+                make_split(alloc, session, solid, a, b, c, d, above, flat)
+            }
+        };
+        let known = if ended.is_ok() { next } else { known };
+        (KnownSession { session, known }, ended)
     }
 }

@@ -1,9 +1,9 @@
 #![tactic(auto)]
 //! Commands: the one way in which an operator, a larger command, a question, undo, redo and a draft reach a session.
 //!
-//! Commands and calls are defined in `call_types`, and their answers in `told`. `changing` makes a change one command of a session, and `drafting` makes it steps of a
-//! draft; `asking` answers a question. `known` holds a session and what it knows of one of its solids; `stage` holds that or a draft of its next
-//! command, and `making` makes calls of any kind on it.
+//! Commands and calls are defined in `call_types`, and their answers in `told`. `known` holds a session and what it knows of one of its solids, and
+//! makes a change one command of it, with what `changing` has; `drafting` makes it steps of a draft; `asking` answers a question. `stage` holds such a
+//! session or a draft of its next command, and `making` makes calls of any kind on it.
 //!
 //! # What is proved
 //!
@@ -30,6 +30,6 @@ pub use call_types::{Call, Change, Command, Points, Question};
 pub use drafting::change_in;
 pub use known::KnownSession;
 pub use laws::{commands_are_calls, larger_commands_take_steps};
-pub use making::{act, change, give, give_in, make, moved};
+pub use making::{act, make};
 pub use stage::{OpenDraft, Stage};
-pub use told::{Told, outcome};
+pub use told::Told;

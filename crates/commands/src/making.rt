@@ -13,7 +13,7 @@ use std::alloc::Global;
 use undo_journal::{Draft, Failure};
 
 /// The answer to an undo or redo that ended with this result.
-pub fn moved(ended: Result<(), Refusal>) -> Told
+fn moved(ended: Result<(), Refusal>) -> Told
     ensures { result ≡ told_of_move ended }
 {
     match ended {
@@ -39,7 +39,7 @@ fn redo(session: KnownSession) -> (KnownSession, Told)
 }
 
 /// Gives a session a command. A command that isn't done leaves the session as it was, with its records.
-pub fn give(alloc: Global, session: KnownSession, command: Command<'_>) -> (KnownSession, Told)
+fn give(alloc: Global, session: KnownSession, command: Command<'_>) -> (KnownSession, Told)
     ensures { TellsSession session command.entry result.1 result.0 }
 {
     match command {
@@ -56,25 +56,8 @@ pub fn give(alloc: Global, session: KnownSession, command: Command<'_>) -> (Know
     }
 }
 
-/// Makes a change as `make` makes it, without the other answers that a call may have.
-pub fn change(alloc: Global, stage: Stage, wanted: Change<'_>) -> (Stage, Result<(), Failure>)
-    ensures { Tells stage (Call.Give (Command.Change wanted.entry)) (told_of result.1) result.0 }
-{
-    match stage {
-        Stage::Session(session) => {
-            let (session, ended) = session.change(alloc, wanted);
-            (Stage::Session(session), ended)
-        }
-        Stage::Drafting(drafting) => {
-            let mut drafting = drafting;
-            let ended = change_in(alloc, &mut drafting.draft, wanted);
-            (Stage::Drafting(drafting), ended)
-        }
-    }
-}
-
 /// Gives a draft a command: a change as steps, or a question. A command that isn't done leaves the draft as it was, and it goes on.
-pub fn give_in(alloc: Global, draft: &mut Draft, command: Command<'_>) -> Told
+fn give_in(alloc: Global, draft: &mut Draft, command: Command<'_>) -> Told
     ensures { TellsDraft draft.old command.entry result draft.new }
 {
     match command {

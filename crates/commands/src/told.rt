@@ -30,7 +30,7 @@ pub enum Told {
 }
 
 /// The answer to a change that ended with this result.
-pub fn outcome(ended: Result<(), Failure>) -> Told
+pub(crate) fn outcome(ended: Result<(), Failure>) -> Told
     ensures { result ≡ told_of ended }
 {
     match ended {

@@ -1,3 +1,1 @@
-pub mod Turning
-mod Staying
-mod Going
+pub mod Going

@@ -1,32 +1,9 @@
 -- What C's calls do to the session behind a handle.
-use Rattle.std.specs.Prelude.{◌≡◌, ◌⊎◌, ◌-◌, ◌^◌, ℕ, Bool, true, false, cond, List, length, Option, Some, None}
-use Rattle.session_slots.specs.Common.{Model, Answer, taken_in, taken_of, Question, asked, status_of, refusal_in, counts_in, volume_in, plane_in, joined, joined_plane, answer_after, shown, is_draft, text_in, spoken, lacks_said, Slot_notes, laid_over, WritesOne, Stage}
-use Rattle.handles.specs.Uses.{HandleGoes, asks, line_asked}
+use Rattle.std.specs.Prelude.{◌≡◌, ◌⊎◌, ◌-◌, ◌^◌, ℕ, List, length, Option, Some, None}
+use Rattle.session_slots.specs.Common.{Model, Answer, taken_in, taken_of, Question, asked, status_of, refusal_in, counts_in, volume_in, plane_in, joined, joined_plane, answer_after, shown, text_in, laid_over, WritesOne, Stage}
 use Rattle.session_slots.specs.declared.{answers.Refused.Refused, answers.Counts.Counts, answers.Wide.Wide, answers.PlaneRow.PlaneRow, slot.Slot.Slot}
 use Rattle.gwb_c.specs.FreshNumbers.{fresh_in}
 use Rattle.gwb_c.specs.declared.fresh.Range.{Range}
-
--- C is told only a number, and nothing has changed; or R leads to a slot, and C is told the kind of its answer
-abbrev pub Unless : Bool → ℕ → (Slot → Slot → Type 0) → Slot → Option Slot → ℕ → Type 0
-Unless true n R x new kind = (new ≡ Some x) × (kind ≡ n)
-Unless false n R x new kind = (y : Slot) × (new ≡ Some y) × (kind ≡ status_of y.console.answer) × R x y
-
--- what C is told of a call that the session or draft doesn't have
-abbrev pub lacking : Option Stage → ℕ
-lacking o = cond (is_draft o) 11 12
-
--- the call is made, if the session or the draft has it; a closed handle stays as it is
-abbrev pub Calls : (Option Stage → Bool) → (Slot → Slot → Type 0) → Option Slot → Option Slot → ℕ → Type 0
-Calls without R None new kind = (new ≡ None) × (kind ≡ 9)
-Calls without R (Some x) new kind = Unless (without x.console.stage) (lacking x.console.stage) R x new kind
-
--- each session and each draft has the call
-abbrev pub none : Option Stage → Bool
-none o = false
-
--- the line is answered, unless it spells undo or redo in a draft
-abbrev pub Hears : Option Slot → List ℕ → Option Slot → ℕ → Type 0
-Hears old line new kind = HandleGoes old (asks (line_asked line)) new kind × Calls (lacks_said (spoken line)) (λ x y. Slot_notes x line y) old new kind
 
 -- a number that the session or the draft tells; a closed handle tells the greatest 64-bit number
 abbrev pub Numbers : (Stage → ℕ) → Option Slot → ℕ → Type 0

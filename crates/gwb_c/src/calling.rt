@@ -3,11 +3,12 @@ ghost use Rattle.std.specs.Prelude.{◌≡◌};
 ghost use Rattle.handles.specs.Uses.{HandleGoes, skips};
 ghost use Rattle.gwb_c.specs.Calls.{Does};
 
-use crate::told::{CLOSED, NO_CALL, lacking};
-use session_slots::{Call, Gwb, lacks, make, put, status, take};
+use crate::told::{CLOSED, NO_CALL};
+use script_running::make;
+use session_slots::{Call, Gwb, counted_in, note, put, take};
 use std::alloc::Global;
 
-/// Makes a call, if the session or draft has it.
+/// Makes a call, and keeps its answer and the greatest numbers in use before it. A call that the session or draft doesn't have changes nothing.
 #[inline(always)]
 pub(crate) fn call(alloc: Global, gwb: &mut Gwb, wanted: Call<'_>) -> u32
     ensures { Does gwb.old.kept.value wanted.entry gwb.new.kept.value result }
@@ -15,14 +16,11 @@ pub(crate) fn call(alloc: Global, gwb: &mut Gwb, wanted: Call<'_>) -> u32
     let Some(slot) = take(alloc, gwb) else {
         return CLOSED;
     };
-    if lacks(slot.slot(), &wanted) {
-        let kind = lacking(slot.slot());
-        put(gwb, slot);
-        return kind;
-    }
     let mut slot = slot;
-    make(alloc, slot.slot_mut(), wanted);
-    let kind = status(&slot.slot().console.answer);
+    let open = slot.slot_mut();
+    let before = counted_in(open);
+    let kind = make(alloc, &mut open.console, wanted);
+    note(open, before, kind);
     put(gwb, slot);
     kind
 }

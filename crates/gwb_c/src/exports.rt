@@ -1,14 +1,15 @@
 //! Calls of C: sessions, and lines as text.
 ghost use Rattle.std.specs.Prelude.{◌≡◌, true, Some, cond};
 ghost use Rattle.session_slots.specs.Common.{undos, redos, is_staged, Opened, slot_in};
+ghost use Rattle.handles.specs.Listed.{HandleJudgesText};
 ghost use Rattle.handles.specs.Uses.{HandleGoes, closes, opens};
-ghost use Rattle.gwb_c.specs.Calls.{Lacks};
-ghost use Rattle.gwb_c.specs.Handle.{Hears, Numbers, Says, Replies, Lists_model};
+ghost use Rattle.gwb_c.specs.Calls.{Hears, Lacks};
+ghost use Rattle.gwb_c.specs.Handle.{Numbers, Says, Replies, Lists_model};
 
-use crate::told::{CLOSED, told_of, told_of_line};
+use crate::told::{ABSENT, CLOSED, FOUND, LACKS_MEMORY, told_of};
 use script_running::Answer;
 use session_slots::{
-    Gwb, GwbLent, Slot, begin, copy_front, hear, lack, put, staged, status, take, text_of,
+    Gwb, GwbLent, Slot, begin, copy_front, hear, lack, put, staged, take, text_of,
 };
 use std::alloc::Global;
 
@@ -41,8 +42,7 @@ pub extern "C" fn gwb_line(alloc: Global, gwb: &mut Gwb, line: &[u8]) -> u32
         return CLOSED;
     };
     let mut slot = slot;
-    let heard = hear(alloc, slot.slot_mut(), line);
-    let kind = told_of_line(slot.slot(), heard);
+    let kind = hear(alloc, slot.slot_mut(), line);
     put(gwb, slot);
     kind
 }
@@ -57,8 +57,7 @@ pub extern "C" fn gwb_lack(alloc: Global, gwb: &mut Gwb) -> u32
         return CLOSED;
     };
     let mut slot = slot;
-    lack(slot.slot_mut());
-    let kind = status(&slot.slot().console.answer);
+    let kind = lack(slot.slot_mut());
     put(gwb, slot);
     kind
 }
@@ -91,6 +90,27 @@ pub extern "C" fn gwb_lent_listing(alloc: Global, gwb: &mut GwbLent, buf: &mut [
     ensures text { Lists_model (slot_in gwb.old.lent.loan) buf.old buf.new result }
 {
     told_of!(gwb, usize::MAX, slot => write_text(alloc, slot, &Answer::Listing, buf))
+}
+
+fn judge_text(alloc: Global, slot: &Slot, text: &[u8]) -> u32
+    requires { is_staged slot.now.console.stage ≡ true }
+    ensures { HandleJudgesText (Some slot.now) text.now result }
+{
+    match text_of(alloc, staged(slot).arena(), &Answer::Listing) {
+        Some(listing) if listing.as_slice() == text => FOUND,
+        Some(_) => ABSENT,
+        None => LACKS_MEMORY,
+    }
+}
+
+/// Whether a text is the listing of the model shown: 1 if it is, 0 if it isn't, 4 if memory is refused, 9 if there is no session. `gwb_load` alone
+/// asks it of what it has made: `gwb.h` doesn't show it.
+#[unsafe(no_mangle)]
+pub extern "C" fn gwb_lent_is_listing(alloc: Global, gwb: &mut GwbLent, text: &[u8]) -> u32
+    ensures state { gwb.new.lent.loan ≡ gwb.old.lent.loan }
+    ensures judged { HandleJudgesText (slot_in gwb.old.lent.loan) text.now result }
+{
+    told_of!(gwb, CLOSED, slot => judge_text(alloc, slot, text))
 }
 
 /// How many commands can be undone; 0 in a draft, `SIZE_MAX` if there is no session.

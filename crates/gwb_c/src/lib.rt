@@ -14,7 +14,7 @@
 //! `Parts` if an operator's faces are listed), a draft that is committed is one command, and one that is abandoned leaves no trace. `gwb_line` does
 //! what the typed call of the same command does (`Hears`); only after a question no numbers are fresh. `gwb_lent_reply` gives the text of its answer as
 //! far as there is room, and its length. `gwb_lack` answers that memory was refused, and changes nothing else (`Lacks`). A call that the session or
-//! draft doesn't have changes nothing (`Calls`). A query tells what the model shown gives (`Asks`), and writes what the reader of its answer writes
+//! draft doesn't have changes nothing (`Goes`). A query tells what the model shown gives (`Asks`), and writes what the reader of its answer writes
 //! (`Tells`). The values of the last answer and the readers of the model shown are exact, except for where a loop's list of half-edges begins, and they
 //! say if a value isn't there. A measure tells what the query is told, and keeps nothing (`Measures`). A reader (`gwb_lent_*`) takes a copy of the
 //! handle and a share of the time for which its slot is lent, and gives both back, so readers may run at once.

@@ -6,7 +6,8 @@ ghost use Rattle.gwb_c.specs.Handle.{Measures, gives_counts, gives_volume, gives
 
 use crate::told::{CLOSED, told_of};
 use crate::values::Value;
-use session_slots::{Counts, GwbLent, PlaneRow, Question, Refused, Wide, status};
+use script_running::status;
+use session_slots::{Counts, GwbLent, PlaneRow, Question, Refused, Wide};
 
 fn measure<T: Value>(
     gwb: &mut GwbLent,

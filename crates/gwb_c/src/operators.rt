@@ -7,7 +7,7 @@ ghost use Rattle.gwb_c.specs.Calls.{Acts};
 
 use crate::told::CLOSED;
 use euler_operators::{HalfEdge, Op, Point};
-use session_slots::{Gwb, corner, kev, plus, put, ringmv, status, take};
+use session_slots::{Gwb, corner, kev, plus, put, ringmv, take};
 use std::alloc::Global;
 
 /// One operator: in a session it is a command, in a draft a step. It is inlined with all that it calls here, so that the operator is built in place,
@@ -20,8 +20,7 @@ fn act(alloc: Global, gwb: &mut Gwb, op: Op) -> u32
         return CLOSED;
     };
     let mut slot = slot;
-    session_slots::act(slot.slot_mut(), op);
-    let kind = status(&slot.slot().console.answer);
+    let kind = session_slots::act(slot.slot_mut(), op);
     put(gwb, slot);
     kind
 }

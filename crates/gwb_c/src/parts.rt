@@ -5,7 +5,7 @@ ghost use Rattle.gwb_c.specs.Calls.{Parts};
 
 use crate::calling::no_call;
 use crate::told::CLOSED;
-use session_slots::{Gwb, put, status, take};
+use session_slots::{Gwb, put, take};
 use std::alloc::Global;
 
 /// Makes a new solid of some faces of a solid, at least one.
@@ -17,8 +17,7 @@ fn part(alloc: Global, gwb: &mut Gwb, faces: &[u32], solid: u32) -> u32
         return CLOSED;
     };
     let mut slot = slot;
-    session_slots::part(alloc, slot.slot_mut(), faces, solid);
-    let kind = status(&slot.slot().console.answer);
+    let kind = session_slots::part(alloc, slot.slot_mut(), faces, solid);
     put(gwb, slot);
     kind
 }

@@ -5,7 +5,7 @@ ghost use Rattle.gwb_c.specs.Calls.{Asks, Tells};
 
 use crate::told::CLOSED;
 use crate::values::Value;
-use session_slots::{Counts, Gwb, PlaneRow, Question, Wide, put, status, take};
+use session_slots::{Counts, Gwb, PlaneRow, Question, Wide, put, take};
 use std::alloc::Global;
 
 fn ask<T: Value>(alloc: Global, gwb: &mut Gwb, question: Question, out: &mut T) -> u32
@@ -16,8 +16,7 @@ fn ask<T: Value>(alloc: Global, gwb: &mut Gwb, question: Question, out: &mut T) 
         return CLOSED;
     };
     let mut slot = slot;
-    session_slots::ask(slot.slot_mut(), question);
-    let kind = status(&slot.slot().console.answer);
+    let kind = session_slots::ask(slot.slot_mut(), question);
     T::give(&slot.slot().console.answer, out);
     put(gwb, slot);
     kind

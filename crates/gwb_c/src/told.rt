@@ -1,40 +1,12 @@
 //! What C is told: why no call was made, and whether a value is there.
-ghost use Rattle.std.specs.Prelude.{◌≡◌, cond};
-ghost use Rattle.session_slots.specs.Common.{status_of};
-ghost use Rattle.gwb_c.specs.Handle.{lacking, Gives};
+ghost use Rattle.gwb_c.specs.Handle.{Gives};
 
-use session_slots::{Slot, is_drafting, status};
+/// What a call says when memory is refused, when the handle is closed, and when its arguments make no command.
+pub(crate) const LACKS_MEMORY: u32 = 4;
 
-/// What a call says when the handle is closed, when its arguments make no command, when no draft has it, and when only a draft has it.
 pub(crate) const CLOSED: u32 = 9;
 
 pub(crate) const NO_CALL: u32 = 10;
-
-const IN_DRAFT: u32 = 11;
-
-const NO_DRAFT: u32 = 12;
-
-/// What a call says that the session or draft doesn't have.
-pub(crate) fn lacking(slot: &Slot) -> u32
-    ensures { result ≡ lacking slot.now.console.stage }
-{
-    if is_drafting(slot) {
-        IN_DRAFT
-    } else {
-        NO_DRAFT
-    }
-}
-
-/// What a call says of a line: the kind of its answer, or, if it wasn't heard, that the draft doesn't have it.
-pub(crate) fn told_of_line(slot: &Slot, heard: bool) -> u32
-    ensures { result ≡ cond heard (status_of slot.now.console.answer) (lacking slot.now.console.stage) }
-{
-    if heard {
-        status(&slot.console.answer)
-    } else {
-        lacking(slot)
-    }
-}
 
 /// What a call says of a value that is there or not.
 pub(crate) const FOUND: u32 = 1;

@@ -1,11 +1,15 @@
 -- Exports of a handle are a list of calls.
-use Rattle.std.proofs.Common.{◌≡◌, ◌∙◌, ℕ, suc, zero, Bool, true, false, ap, arith, cond, sym, refl, subst, List, [], ◌∷◌, Option, Some, None, replicate}
-use Rattle.call_lists.specs.Common.{Call, Done, Give, IsWhole, Journal, Session, Stage, Tells, Told, Undo, new_journal}
+use Rattle.std.proofs.Common.{◌≡◌, ◌∙◌, ℕ, suc, zero, Bool, true, false, ap, arith, cond, inl, inr, sym, refl, subst, List, [], ◌∷◌, Option, Some, None, replicate}
+use Rattle.call_lists.specs.Common.{Call, Done, Drafting, Give, IsWhole, Session, Stage, Tells, Told, Undo, new_journal}
 use Rattle.call_lists.specs.Making.{MakesAll}
 use Rattle.call_lists.specs.Laws.{CommandsAreTakenBack, Each, ListsKeepWhole}
-use Rattle.session_slots.specs.Common.{Answer, Opened, slot_in}
-use Rattle.handles.specs.Uses.{Asked, HandleGoes, HandleHeeds, Use, asks, calls, closes, keeps, kind_told, opens, reads, skips}
+use Rattle.session_slots.specs.Common.{Answer, Asked, Model, Opened, calls, keeps, kind_told, shown, slot_in}
+use Rattle.handles.specs.Uses.{HandleGoes, HandleHeeds, Use, asks, closes, opens, reads, skips}
+use Rattle.euler_operators.specs.Common.{Sound}
+use Rattle.handles.specs.Listed.{JudgesText, ListedIsHeld}
 use Rattle.session_slots.specs.Opening.{stage_in}
+use Rattle.solid_listing.specs.Listing.{listing}
+use Rattle.solid_listing.specs.Telling.{ListingTells}
 use Rattle.session_slots.specs.declared.slot.Slot.{Slot}
 use Rattle.handles.specs.Laws.{AreAnswered, HandleGoesOn, HandlesAreTakenBack, HandlesBeginNew, HandlesMakeCalls, HandlesStayWhole, IsWholeHandle, ReadersLeaveHandles, StaysOpen, calls_in}
 
@@ -118,3 +122,18 @@ take_back law x y s t uses kinds others new n at there stays onward v more w =
 
 pub leave_handles : ReadersLeaveHandles
 leave_handles old new n is = ap slot_in is
+
+-- ---- what is listed is held
+
+shown_is_sound : (g : Stage) → IsWhole g → Sound (shown g)
+shown_is_sound (Session s) whole = whole.held_sound
+shown_is_sound (Drafting d) whole = whole.1
+
+is_listing : (M : Model) (text : List ℕ) → JudgesText M text 1 → text ≡ listing M
+is_listing M text (inl x) = x.1
+is_listing M text (inr (inl x)) = absurd (omega (arith, x.0))
+is_listing M text (inr (inr x)) = absurd (omega (arith, x))
+
+pub listed_is_held : ListingTells → ListedIsHeld
+listed_is_held tells x g text M at whole judged sound listed =
+    (tells (shown g) M (shown_is_sound g whole) sound).0 (sym (is_listing (shown g) text (judged g at)) ∙ sym listed)

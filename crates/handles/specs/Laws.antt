@@ -3,8 +3,8 @@ use Rattle.std.specs.Prelude.{◌≡◌, ℕ, ◌+◌, Option, Some, None, List,
 use Rattle.call_lists.specs.Common.{Call, Give, IsWhole, Journal, Session, Stage, Told, Undo, depth, held, new_journal}
 use Rattle.call_lists.specs.Laws.{Each, IsOnward}
 use Rattle.call_lists.specs.Making.{MakesAll}
-use Rattle.session_slots.specs.Common.{Answer, Loan, answer_after, slot_in, status_of}
-use Rattle.handles.specs.Uses.{HandleGoes, Use, asks, calls, closes, keeps, kind_told, opens, reads, skips}
+use Rattle.session_slots.specs.Common.{Answer, Loan, answer_after, calls, keeps, kind_told, slot_in, status_of}
+use Rattle.handles.specs.Uses.{HandleGoes, Use, asks, closes, opens, reads, skips}
 use Rattle.session_slots.specs.declared.slot.Slot.{Slot}
 
 -- exports one after the other, each on the handle that those before it leave; of each C is told a number

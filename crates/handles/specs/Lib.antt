@@ -1,2 +1,3 @@
 pub mod Uses
 pub mod Laws
+pub mod Listed

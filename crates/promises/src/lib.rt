@@ -10,7 +10,7 @@
 //! - nodes linked by `next` and `prev`, a splice of them, and what a drop frees: `raw_ring/src/rings.rt`, `raw_ring/src/nodes.rt`;
 //! - normals, planes, flat faces and counts: `solid_measure/src/measures.rt`, `solid_measure/src/solid_counts/solids.rt`;
 //! - points, sides of a plane and cut points: `lattice/src`;
-//! - the faces of new solids, and what laminas, blocks, sweeps and splits leave unchanged: `command_laws/src`;
+//! - the faces of new blocks, and which faces are flat: `command_laws/src`;
 //! - which half-spaces hold the parts of a split, and which convex solids stay convex: `convex_laws/src`;
 //! - what the volumes are after a sweep and after a glue, in terms of bytes: `script_laws/src`;
 //! - the grammar, the command line and the exit status: `script_reader/src/line.rt`, `command_line/src`;
@@ -19,20 +19,22 @@
 //! # What is proved
 //!
 //! Of its own only what splices of nodes lead to (`SplicesCut`, `SplicesJoin`, `SplicesKeepOthers`). Each function
-//! calls the laws of the crates below, or makes a call, and has what they say as its contract. They stand in this order: lists of calls, marks and
-//! handles of C, one call of each kind, records and volumes (`every_list_of_calls_is_answered` and those after it); conditions, operators and their
+//! calls the laws of the crates below, or makes a call, and has what they say as its contract. They stand in this order: lists of calls, marks,
+//! untouched solids and handles of C, one call of each kind, records and volumes (`every_list_of_calls_is_answered` and those after it); conditions, operators and their
 //! inverses (from `refusals_name_the_first_false`); splices of rings (from `splices_cut_and_join`); the plain machine and its histories (from
 //! `sessions_are_copies_and_a_place`); what larger commands make and measure, what a session holds after them, and which solids are convex (from
 //! `laminas_are_made`); listings, lines and scripts (from `listings_tell_models`); and scripts, where only bytes are spoken of (from
 //! `every_script_is_answered`).
 
-ghost use Rattle.std.specs.Prelude.{◌≡◌, ◌↔◌, ◌+◌, ◌<◌, OnOk, OnErr, IfOk, IfErr, None, Some, Err, slice_index_or};
+ghost use Rattle.std.specs.Prelude.{◌≡◌, ◌↔◌, ◌+◌, ◌<◌, OnOk, OnErr, IfOk, IfErr, None, Some, Err, false, slice_index_or};
 ghost use Rattle.call_lists.specs.Common.{IsConsistent, IsWhole, Tells, act_refusal, after_act, after_commit, after_redo, after_step, after_undo, ahead, answer, depth, first_false, held, model_at, new_draft, new_journal, redo_refusal, six_volume, solid_refusal, undo_refusal, verdict};
 ghost use Rattle.call_lists.specs.Laws.{ListsAreHistories, ListsKeepWhole, EachIsWhole, PlacesAreCounted, UndosLeadToTheFirst, RedosLeadToTheLast, CommandsAreTakenBack, ListsHaveOneAnswer, ListsHaveOneOutcome, OnlyDoneChanges, IdleListsStay, MemoryCanBeLeftOut, StepsAreMarks, MarksLeadBack};
 ghost use Rattle.call_lists.specs.Making.{AreTold};
+ghost use Rattle.call_lists.specs.Untouched.{ChangesLeaveUntouched};
 ghost use Rattle.commands.specs.Steps.{LaminasTakeSteps, BlocksTakeSteps, SweepsTakeSteps, GluesTakeSteps, SplitsTakeSteps};
 ghost use Rattle.convex_laws.specs.Convex.{BlocksAreConvex, BuiltAreConvex, BuiltHaveVolume, ConvexSolidsHaveVolume, PartsOfConvexSolidsHaveVolume, SplitsKeepStrictlyConvex};
 ghost use Rattle.handles.specs.Laws.{HandlesAreTakenBack, HandlesBeginNew, HandlesMakeCalls, HandlesStayWhole, ReadersLeaveHandles};
+ghost use Rattle.handles.specs.Listed.{ListedIsHeld};
 ghost use Rattle.pool_rings.specs.Laws.{EachCodeHasItsRing, RingsAreRotations, CodesShareOrHaveTwo, SplicedPoolsCut, SplicedPoolsJoin, SplicedPoolsKeepOthers, SplicedPoolsStay, PoolsLeadBack};
 ghost use Rattle.promises.specs.Splices.{SplicesCut, SplicesJoin, SplicesKeepOthers};
 ghost use Rattle.reached_models.specs.Laws.{BuildersSuffice, SoundIsLinked, SoundIsReached};
@@ -40,13 +42,16 @@ ghost use Rattle.script_laws.specs.Laws.{RunsTell, BrokenRunsTell, FailedRunsTel
 ghost use Rattle.script_laws.specs.Scripts.{Answered};
 ghost use Rattle.script_running.specs.Histories.{LinesAreCalls, LinesLeadOn, HistoriesMakeConsistent, RunsTellHistories};
 ghost use Rattle.script_running.specs.Laws.{LinesAreTold, OneOutput, HasNoMemory};
-ghost use Rattle.script_running.specs.Reaching.{HandsOn};
+ghost use Rattle.split_drawing_laws.specs.tables.Laws.{CrossingsAreDoubled, DrawingsAreCut, RewritingsAreOfTables};
+ghost use Rattle.script_running.specs.Reaching.{AsksAnswers, HandsOn};
 ghost use Rattle.script_running.specs.Runs.{Runs};
 ghost use Rattle.script_running.specs.laws_below.{AcceptedIsAppended, AreAccepted, BlocksAreAccepted, BlocksAreCalls, BlocksAreSound, EffectsAreSound, EmptyIsSound, EulerNumberGrows, GlueAdds, GluedAreSound, GluedSolid, GluesAreAccepted, GluesAreCalls, GluesMakeGlued, HeldAreSound, HeldIsAtThePlace, HeldKeepOthers, HeldLieOnEitherSide, HeldShareVolumes, HistoriesAreConsistent, InversesAreAccepted, InversesOfRunsAreAccepted, InversesOfRunsUndo, InversesUndo, LaminaIsSound, LaminasAreCalls, LargerCommandsAreCalls, ListingTells, NewBlock, NewFlatLamina, NewLamina, NothingIsRefusedWhereAllHold, OperatorsAreAccepted, OperatorsMakeBlocks, OperatorsMakeLamina, OthersStay, OthersThanBlock, OthersThanGlued, OthersThanLamina, OthersThanSwept, PartsAreHeld, PartsAreSolids, PrismsAreSound, RedoMovesThePlace, RefusalsNameTheFirstFalse, RunsAreSound, SplitAreSound, SplitsAreAccepted, SplitsAreCalls, SplitsAreHeld, SplitsKeepOthers, SplitsMakeSplit, SplitsShareVolumes, SweepsAreAccepted, SweepsAreCalls, SweepsMakePrisms, SweptSolid, UndoGivesTheModelBefore, UndoMovesThePlace, VerticesLieOnEitherSide, effects};
+ghost use Rattle.untouched_solids.specs.Laws.{UntouchedStay};
 
 use call_lists::{
-    Call, Draft, Failure, Op, Record, Refusal, Session, Stage, Told, commands_are_taken_back,
-    lists_are_histories, lists_have_one_answer, make, make_all, marks_lead_back, six_volume,
+    Call, Draft, Failure, Op, Record, Refusal, Session, Stage, Told,
+    changes_leave_untouched_solids, commands_are_taken_back, lists_are_histories,
+    lists_have_one_answer, make, make_all, marks_lead_back, six_volume,
     undos_and_redos_lead_to_the_ends,
 };
 use commands::larger_commands_take_steps;
@@ -66,7 +71,9 @@ use script_running::{
     Inlet, Outlet, RunFault, Summary, laws_below, lines_are_calls, lines_are_told, one_output, run,
     runs_tell_histories,
 };
+use split_drawing_laws::rewritings_are_of_tables;
 use std::alloc::{AllocError, Global};
+use untouched_solids::untouched_solids_stay;
 
 /// After any list of commands, drafts with marks, undos and redos the workbench holds, with equal numbers, coordinates and cyclic loops, the
 /// model of a plain machine that keeps a whole copy of every model. Undoing gives the model before and redoing the model after. A refused
@@ -129,11 +136,23 @@ pub fn marks_lead_back_to_the_draft()
     marks_lead_back();
 }
 
+/// A change of a session or a draft, whatever it is told, leaves each solid that none of its operators touches as it stood. Its faces, loops, edges,
+/// vertices and points are the same, and none more, and so is its volume. An operator touches the solids that it names, and those of the faces, loops
+/// and corners that it names; `Tells` names the operators of a change. So this holds of whatever a program builds of changes.
+pub fn untouched_solids_stand_as_they_stood()
+    ensures operators { UntouchedStay }
+    ensures changes { ChangesLeaveUntouched }
+{
+    untouched_solids_stay();
+    changes_leave_untouched_solids();
+}
+
 /// What a handle of C holds after any list of exports, of whatever kind, each a case of `HandleGoes`. From a closed handle on, the handle is closed or
 /// holds a session or draft that is whole. What was opened holds a new session. Until it is closed, its exports are a list of the calls that they ask
 /// for, as above: so it holds the plain machine's model, and all that is said of lists here holds of it. C is told the kinds of the answers, and the
 /// last answer is kept; a call that concerns a mark, or that the session or draft doesn't have, leaves the answer before it. If a session did n
-/// commands without undo and redo, n undos are each told `ok`, and lead to the model before them. A reader leaves what it reads.
+/// commands without undo and redo, n undos are each told `ok`, and lead to the model before them. A reader leaves what it reads. Where a handle says of
+/// a text that it is the listing, it holds the only sound model with that listing: what was loaded is what was written.
 pub fn handles_hold_lists_of_calls()
     ensures begun { IsWhole (Stage.Session new_journal) }
     ensures opened { HandlesBeginNew }
@@ -141,6 +160,7 @@ pub fn handles_hold_lists_of_calls()
     ensures made { HandlesMakeCalls }
     ensures back { HandlesAreTakenBack }
     ensures read { ReadersLeaveHandles }
+    ensures listed { ListedIsHeld }
 {
     handles_make_calls();
 }
@@ -469,6 +489,17 @@ pub fn splits_are_made()
     laws_below::splits_make_split();
 }
 
+/// The first two rewritings of a split are defined by operators, and rewrite whole tables. The edges that cross the plane are doubled: in the loops `+e`
+/// becomes `+E +e`, and `-e` becomes `-e -E`. Then a chord makes two loops of one in each straddling face: `A B` becomes `+E B`, and `A -E` bounds a new
+/// face. A bridge makes one loop of two: X and Y become `+E X -E Y`.
+pub fn split_rewritings_are_of_tables()
+    ensures doubled { CrossingsAreDoubled }
+    ensures cut { DrawingsAreCut }
+    ensures tables { RewritingsAreOfTables }
+{
+    rewritings_are_of_tables();
+}
+
 /// Both parts of a split are solids, and the sum of their volumes is that of the solid before. Every other solid keeps its volume.
 pub fn parts_share_the_volume()
     ensures solids { PartsAreSolids }
@@ -571,14 +602,15 @@ pub fn every_run_tells_a_history()
 /// What `gwb` does with a script: it answers each line that the reader gives, in order, and writes the answers. After Ok the answers are those to all
 /// lines, or, if `stop` is set, to those up to the line that stopped the run. If no reply was `memory`, they are the script's one output. After
 /// `Read` or `TooLong` they are the answers to the lines that came with their newlines. After `Write` a prefix of the answers to the lines that were
-/// read is written. After `Memory` nothing was read or written. The writer has handed on all that was written before each read (`Inlet`), and, unless
-/// a write failed, when the run ends.
+/// read is written. After `Memory` nothing was read or written. Before each read the answers to all whole lines given so far were written and handed
+/// on: the reader may ask for them (`Inlet`), and for no more. Unless a write failed, all is handed on when the run ends.
 pub fn every_line_is_answered<R: Inlet<W> + Drop, W: Outlet>(
     alloc: Global,
     reader: R,
     writer: &mut W,
     stop: bool,
 ) -> Result<Summary, RunFault>
+    requires { AsksAnswers R.remaining R.asks reader (W.contents writer.old) stop }
     ensures runs { Runs (R.remaining reader) (W.contents writer.old) (W.contents writer.new) stop result }
     ensures reached { HandsOn (W.reached writer.new) (W.contents writer.new) result }
 {
@@ -593,6 +625,7 @@ pub fn every_script_is_answered<R: Inlet<W> + Drop, W: Outlet>(
     reader: R,
     writer: &mut W,
 ) -> Result<Summary, RunFault>
+    requires { AsksAnswers R.remaining R.asks reader (W.contents writer.old) false }
     ensures { IfOk result (λ summary. Answered (R.remaining reader) (W.contents writer.old) (W.contents writer.new) summary) }
 {
     answer_script(alloc, reader, writer)

@@ -11,7 +11,7 @@ use Rattle.script_running.specs.Laws.{AsksFor}
 use Rattle.script_running.specs.Output.{output_of}
 use Rattle.script_running.specs.declared.script_judging.judging.Summary.{Summary}
 
--- the answers to a script if no memory is refused
+-- the answers to a script if no reply is `memory`
 unfoldable pub answers : List ℕ → List ℕ
 answers script = output_of false (lines_of script)
 

@@ -21,9 +21,10 @@
 //! blocks and splits, no volume of 0 or less is answered (`blocks_and_splits_have_volume`). A text begins with at most one reply, whose
 //! numbers tell why (`replies_tell`).
 
-ghost use Rattle.std.specs.Prelude.{IfOk};
+ghost use Rattle.std.specs.Prelude.{IfOk, false};
 ghost use Rattle.script_laws.specs.Laws.{RunsAnswer, RunsTell, BrokenRunsTell, FailedRunsTell, AnsweredSo, AnswersStay, OthersCanBeLeftOut, UndoAndRedoCanBeLeftOut, UndoneLinesCanBeLeftOut, UndosLeadBack, SomeUndosLeadBack, EqualListingsGoOnAlike, BlockLinesSpell, SplitLinesSpell, VolumeLinesSpell, BlocksMeasure, PartsShareVolumes, SweepsMeasure, GluesMeasure, BlocksAndSplitsHaveVolume, OthersMayHaveNone, WrittenVolumesArePositive, RepliesTell, RefusalsTell, FaultsTell};
 ghost use Rattle.script_laws.specs.Scripts.{Answered};
+ghost use Rattle.script_running.specs.Reaching.{AsksAnswers};
 
 use command_laws::{glues_keep_and_join, solids_are_there};
 use convex_laws::built_are_convex;
@@ -40,6 +41,7 @@ pub fn answer_script<R: Inlet<W> + Drop, W: Outlet>(
     reader: R,
     writer: &mut W,
 ) -> Result<Summary, RunFault>
+    requires { AsksAnswers R.remaining R.asks reader (W.contents writer.old) false }
     ensures { IfOk result (λ summary. Answered (R.remaining reader) (W.contents writer.old) (W.contents writer.new) summary) }
 {
     run(alloc, reader, writer, false)

@@ -1,6 +1,8 @@
 -- Going to the next line.
-use Rattle.script_reader.proofs.Prelude.{◌≡◌, ◌⊎◌, inl, inr, ℕ, ◌+◌, ◌-◌, ◌<◌, ◌≤◌, Bool, true, false, List, [], ◌∷◌, ◌++◌, length, take, refl, sym, ap, subst, ◌∙◌, arith, append_assoc, length-append, Option, append-nil, take_all, take_at, drop_at, take-append-le, take-add, take-append-add, cases_lt, Consumes-nil, Consumes-trans, Consumes, Holding, Lacks, is_ready, has_line, IsStill, Lines, within_limit, Reads, Answers, Advances, LastAnswer, Ending, Open, Ended, Failed, Over, Found}
-use Rattle.script_reader.proofs.NewlineLaws.{Lacks-append, has-lacks}
+use Rattle.script_reader.proofs.Prelude.{◌≡◌, ◌⊎◌, inl, inr, ℕ, ◌+◌, ◌-◌, ◌<◌, ◌≤◌, Bool, true, false, List, [], ◌∷◌, ◌++◌, length, take, refl, sym, ap, subst, ◌∙◌, arith, append_assoc, length-append, Option, append-nil, take_all, take_at, drop_at, take-append-le, take-add, take-append-add, cases_lt, Consumes-nil, Consumes-trans, Consumes, Keeps, Holding, Lacks, has_newline, is_ready, has_line, IsStill, Lines, within_limit, Reads, Answers, Advances, LastAnswer, Ending, Open, Ended, Failed, Over, Found}
+use Rattle.script_reader.proofs.NewlineLaws.{Lacks-append, has-lacks, lacks-behind}
+use Rattle.script_reader.specs.Reaching.{MayRead}
+use Rattle.std.proofs.KnownBytes.{Consumes-kept}
 use Rattle.script_reader.specs.declared.lines.Found.TheVariants as found
 
 -- a read is still to come
@@ -178,3 +180,19 @@ one_past a b taken count n old more new given counted consumed text is within mo
       counted = counted ∙ ap (λ (k : ℕ). taken + k) (sym is);
       text = back ∙ ap (λ (xs : List ℕ). take (length more - 1) xs) text ∙ ap (λ (k : ℕ). take k (old ++ given)) all_but_one ∙ take-append-add old given (67108864 - taken);
     }
+
+-- ---- what a read asks for
+
+module _ {R : Type 0} (remaining : R → Option (List ℕ)) (asks : R → Option (List ℕ) → Type 0) (contents : Option (List ℕ)) where
+  -- a read that failed gave nothing
+  pub still_asked : (old new : R) → MayRead remaining asks old contents → Keeps (remaining old) (remaining new) → asks new contents
+  still_asked old new may kept = may new [] (Consumes-kept (remaining old) (remaining old) (remaining new) [] (Consumes-nil (remaining old)) kept) tt
+
+  -- bytes were read, and none of them is a newline
+  pub reads_on : (old new : R) (taken count : ℕ) (unread now : List ℕ) → MayRead remaining asks old contents → Reads (remaining old) (remaining new) taken count unread now → count ≤ 67108864 → has_newline now ≡ false
+      → MayRead remaining asks new contents
+  unfolding within_limit
+  reads_on old new taken count unread now may r within none = λ later more c lacks.
+      let all : within_limit taken r.given ≡ r.given = take_all (67108864 - taken) r.given (omega (arith, r.counted, within)) in
+      let given : Lacks r.given = subst Lacks all (lacks-behind unread (within_limit taken r.given) (ap has_newline (sym r.text) ∙ none)) in
+      may later (r.given ++ more) (Consumes-trans (remaining old) (remaining new) (remaining later) r.given more r.consumed c) (Lacks-append r.given more given lacks)

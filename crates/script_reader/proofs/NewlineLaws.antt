@@ -23,6 +23,11 @@ has-newline (x ∷ xs) ys =
     let later = has-newline xs ys in
     grind (arith, nat_tests)
 
+pub lacks-behind : (xs ys : List ℕ) → has_newline (xs ++ ys) ≡ false → Lacks ys
+lacks-behind [] [] e = tt
+lacks-behind [] (y ∷ ys) e = (λ is. grind (arith, nat_tests, e, is), lacks-behind [] ys (grind (arith, nat_tests, e)))
+lacks-behind (x ∷ xs) ys e = lacks-behind xs ys (grind (arith, nat_tests, e))
+
 -- ---- a part of a buffer
 
 -- a part in two parts

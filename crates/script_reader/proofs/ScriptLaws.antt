@@ -1,5 +1,5 @@
 -- Each answer is the next line of the bytes.
-use Rattle.script_reader.proofs.Prelude.{◌≡◌, ◌≢◌, inl, inr, ℕ, suc, ◌+◌, ◌-◌, ◌<◌, ◌≤◌, true, List, [], ◌∷◌, ◌++◌, length, refl, sym, ap, subst, ◌∙◌, arith, append_assoc, length-append, length-take, Option, append-nil, append_cancel_right, nil_from_length, Consumes-nil, Consumes-trans, Consumes, IsAtEnd, lines_of, with_newlines, within_limit, FirstLine, Lacks, reader_of, taken_of, unread_of, line_of, has_line, IsFresh, IsStill, Went, Ending, Open, Ended, Over, Found, Lines}
+use Rattle.script_reader.proofs.Prelude.{◌≡◌, ◌≢◌, inl, inr, ℕ, suc, ◌+◌, ◌-◌, ◌<◌, ◌≤◌, true, List, [], ◌∷◌, ◌++◌, length, refl, sym, ap, subst, ◌∙◌, arith, append_assoc, length-append, length-take, take_all, Option, append-nil, append_cancel_right, nil_from_length, Consumes-nil, Consumes-trans, Consumes, IsAtEnd, lines_of, with_newlines, within_limit, FirstLine, Lacks, reader_of, taken_of, unread_of, line_of, has_line, IsFresh, IsStill, Went, Ending, Open, Ended, Over, Found, Lines}
 use Rattle.script_reader.specs.Script.{Reading, HasRead, IsReadOut, BreaksOff, to_come}
 use Rattle.script_reader.specs.declared.lines.Found.TheVariants as found
 use Rattle.script_reader.proofs.LinesLaws.{limit_append, limit_none}
@@ -58,6 +58,13 @@ heard_text G unread heard e =
     ∙ ap (λ (xs : List ℕ). with_newlines heard ++ xs) (ended_text unread) ∙ sym (append_assoc (with_newlines heard) unread (10 ∷ [])))
 
 -- ---- over the calls of `advance`
+
+-- where more may be read, the bytes so far are the lines that were heard, each with its newline, and what is unread
+pub open_text : {R : Type 0} (remaining : R → Option (List ℕ)) (first : Option (List ℕ)) (lines : Lines R) (heard : List (List ℕ)) (h : HasRead remaining first lines heard) → lines.ending ≡ Open → h.given ≡ with_newlines heard ++ lines.buffer.unread
+unfolding within_limit
+open_text remaining first lines heard h opened =
+    let within : length h.given ≤ 67108864 = omega (arith, h.counted, lines.within (λ o. cc (o, opened))) in
+    sym (take_all (67108864 - 0) h.given (omega (arith, within))) ∙ heard_text (within_limit 0 h.given) lines.buffer.unread heard (h.text (10 ∷ []) (λ e. absurd (cc (e, opened))))
 
 -- where the end was reached before, nothing is read
 still_ended : {R : Type 0} (old new : Lines R) (given : List ℕ) → new.taken ≡ old.taken + length given → (has_line old ≡ true → IsStill old new) → old.ending ≡ Ended → (new.ending ≡ Ended) × (given ≡ [])

@@ -4,7 +4,7 @@ ghost use Rattle.std.specs.Io.{ReadsAtMost};
 ghost use Rattle.std.specs.Io.KnownBytes.{Consumes, Keeps, IsAtEnd, ReadConsumes};
 ghost use Rattle.std.specs.IoError.{error_kind};
 ghost use Rattle.script_reader.specs.Newline.{FirstNewline};
-ghost use Rattle.script_reader.specs.Reaching.{Reaches};
+ghost use Rattle.script_reader.specs.Reaching.{MayRead, Reaches};
 
 use crate::streams::{Inlet, Outlet};
 use memchr::memchr;
@@ -56,7 +56,7 @@ impl Buffer {
     ghost use Rattle.std.specs.Prelude.{◌≡◌, ◌≤◌, ◌<◌, [], length, take, ◌-◌, IfOk};
     ghost use Rattle.script_reader.specs.Newline.{has_newline};
     ghost use Rattle.script_reader.specs.Buffer.{TakesLine, ReadsMore};
-    ghost use Rattle.script_reader.specs.Reaching.{Reaches};
+    ghost use Rattle.script_reader.specs.Reaching.{MayRead, Reaches};
 
     /// Makes the whole buffer.
     pub fn new(alloc: Global) -> Result<Buffer, AllocError>
@@ -147,6 +147,7 @@ impl Buffer {
         most: usize,
     ) -> io::Result<usize>
         requires handed_on { Reaches (W.reached writer.now) (W.contents writer.now) }
+        requires asked { MayRead R.remaining R.asks reader.old (W.contents writer.now) }
         requires room { length self.old.unread ≤ 65536 }
         requires some { 0 < most }
         ensures { ReadsMore self.old self.new (R.remaining reader.old) (R.remaining reader.new) most result }
@@ -184,6 +185,7 @@ fn read_at<R: Inlet<W>, W: Outlet>(
     most: usize,
 ) -> io::Result<usize>
     requires handed_on { Reaches (W.reached writer.now) (W.contents writer.now) }
+    requires asked { MayRead R.remaining R.asks reader.old (W.contents writer.now) }
     requires room { at < length bytes.old }
     requires some { 0 < most }
     ensures front { take at bytes.new ≡ take at bytes.old }
@@ -203,6 +205,7 @@ fn read_retrying<R: Inlet<W>, W: Outlet>(
     bytes: &mut [u8],
 ) -> io::Result<usize>
     requires handed_on { Reaches (W.reached writer.now) (W.contents writer.now) }
+    requires asked { MayRead R.remaining R.asks reader.old (W.contents writer.now) }
     ensures bound { ReadsAtMost result bytes.new }
     ensures bytes { ReadConsumes (R.remaining reader.old) (R.remaining reader.new) result bytes.new }
     ensures retried { IfErr result (λ e. error_kind e ≢ ErrorKind.Interrupted) }

@@ -5,7 +5,6 @@ ghost use Rattle.script_reader.specs.declared.lines.Ending.TheVariants.{Over};
 use super::buffer::{Buffer, LINE_LIMIT};
 use crate::streams::{Inlet, Outlet};
 use std::alloc::{AllocError, Global};
-use std::io::{Sink, sink};
 
 /// A script has at most so many bytes.
 const SCRIPT_LIMIT: u64 = 67_108_864;
@@ -34,21 +33,6 @@ pub enum Found {
     TooLong,
 }
 
-/// What comes next in a script, with the line.
-#[derive(Debug, Drop)]
-pub enum NextLine<'a> {
-    /// A line, without its newline: at most 65,536 bytes.
-    Line(&'a [u8]),
-    /// A line of more bytes. It is skipped to its newline.
-    Long,
-    /// The reader gave its end.
-    End,
-    /// A read failed. What was read after the last newline is no line.
-    Read,
-    /// The reader gave a byte past 67,108,864. What was read after the last newline is no line.
-    TooLong,
-}
-
 /// The lines of a script, one after the other. Reads are as big as the buffer allows.
 #[derive(Drop)]
 pub struct Lines<R> {
@@ -64,14 +48,11 @@ impl<R> Lines<R> {
     ghost use Rattle.std.specs.Prelude.{◌≡◌, ◌≢◌, ◌≤◌, ◌<◌, true, false, length};
     ghost use Rattle.std.specs.Io.KnownBytes.{IsAtEnd};
     ghost use Rattle.script_reader.specs.Lines.{Reads, LastAnswer};
-    ghost use Rattle.script_reader.specs.Next.{Went, Gives};
+    ghost use Rattle.script_reader.specs.Next.{Went};
     ghost use Rattle.script_reader.specs.declared.lines.Ending.TheVariants.{Open, Ended};
     ghost use Rattle.script_reader.specs.Newline.{has_newline};
-    ghost use Rattle.script_reader.specs.Reaching.{Reaches};
-    ghost use Rattle.script_reader.specs.State.{line_of, unread_of, IsStill};
-    ghost use Rattle.script_reader.specs.contracts.lines.Lines.{the_row};
-    ghost use Rattle.std.specs.Io.BufRead.{Rests};
-    ghost use Rattle.std.specs.Borrow.{sem};
+    ghost use Rattle.script_reader.specs.Reaching.{MayRead, Reaches};
+    ghost use Rattle.script_reader.specs.State.{ending_of, line_of, reader_of, unread_of, IsStill};
 
     /// Reads some bytes. It has a stack frame of its own, so that a line that is there already doesn't pay for it.
     #[inline(never)]
@@ -80,6 +61,7 @@ impl<R> Lines<R> {
     where
         R: Inlet<W>,
         requires handed_on { Reaches (W.reached writer.now) (W.contents writer.now) }
+        requires asked { MayRead R.remaining R.asks self.old.reader (W.contents writer.now) }
         requires open { self.old.ending ≡ Open }
         requires room { length self.old.buffer.unread ≤ 65536 }
         ensures reads { Reads (R.remaining self.old.reader) (R.remaining self.new.reader)
@@ -127,11 +109,12 @@ impl<R> Lines<R> {
 
     /// Goes to the next line, or says what comes in its place. After the end, a failed read or a script that is too long it answers the same
     /// again and reads nothing. It takes no memory. It reads only if no newline is in the buffer; a read may wait, so then all that was written has to
-    /// be handed on.
+    /// be handed on, and be what the reader asks for.
     pub fn advance<W: Outlet>(&mut self, writer: &W) -> Found
     where
         R: Inlet<W>,
         requires handed_on { has_newline (unread_of self.old) ≡ false → Reaches (W.reached writer.now) (W.contents writer.now) }
+        requires asked { has_newline (unread_of self.old) ≡ false → ending_of self.old ≡ Open → MayRead R.remaining R.asks (reader_of self.old) (W.contents writer.now) }
         ensures { Went R.remaining self.old self.new result }
     {
         let mut is_long = false;
@@ -151,22 +134,6 @@ impl<R> Lines<R> {
                 is_long = true;
             }
             self.fill(writer);
-        }
-    }
-
-    /// The next line, or what comes in its place, where nothing is written that a read would have to wait for. After the end, a failed read or a
-    /// script that is too long it answers the same again and reads nothing. It takes no memory. It reads only if no newline is in the buffer.
-    pub fn next_line(&mut self) -> NextLine<'_>
-    where
-        R: Inlet<Sink>,
-        ensures* { sem 𝓛 (Rests (the_row R.row) self.entry (λ new. Gives R.remaining self.old new result)) }
-    {
-        match self.advance(&sink()) {
-            Found::Line => NextLine::Line(self.buffer.line()),
-            Found::Long => NextLine::Long,
-            Found::End => NextLine::End,
-            Found::Read => NextLine::Read,
-            Found::TooLong => NextLine::TooLong,
         }
     }
 

@@ -6,7 +6,7 @@ ghost use Rattle.script_reader.specs.Places.{Agrees, half_of, lone_of, corner_of
 use super::command::Fault;
 use super::numbers::{integer_of, number_of};
 use super::polygon::Corners;
-use super::quick::{quick_corner, quick_half, quick_integer, quick_number};
+use super::quick::{near_number, quick_corner, quick_half, quick_integer};
 use super::words::{at_word, next_word};
 use euler_operators::{Corner, HalfEdge, Point};
 use std::marker::Model;
@@ -131,7 +131,7 @@ impl<'a> Words<'a> {
     pub fn number(&mut self) -> Result<u32, Fault>
         ensures { Takes (next_of BadNumber number_of self.old) result self.new }
     {
-        if let Some((value, rest)) = quick_number(self.rest) {
+        if let Some((value, rest)) = near_number(self.rest) {
             self.rest = rest;
             return Ok(value);
         }

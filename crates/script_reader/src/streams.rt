@@ -1,5 +1,5 @@
 //! The two ends of a run: a writer that says what it has handed on, and a reader whose reads may wait.
-ghost use Rattle.std.specs.Prelude.{ℕ, List, Option, None, Some, OnOk};
+ghost use Rattle.std.specs.Prelude.{⊤, ℕ, List, Option, None, Some, OnOk};
 ghost use Rattle.std.specs.Io.{ReadsAtMost};
 ghost use Rattle.std.specs.Io.Buffered.{writer_inner};
 ghost use Rattle.std.specs.Io.KnownBytes.{Keeps, ReadConsumes};
@@ -43,14 +43,18 @@ impl<W: Write + Drop> Outlet for BufWriter<W> {
     }
 }
 
-/// A reader whose reads may wait for someone who waits for what was written. So a read is shown the writer, which has handed on all of it.
+/// A reader whose reads may wait for someone who waits for what was written. So a read is shown the writer, which has handed on all of it, and the
+/// reader may ask for more: that what was written answers what was read.
 pub trait Inlet<W: Outlet> {
     // The bytes that reads will give from here on, if they are known.
     ghost remaining: { Self → Option (List ℕ) } = { λ _. None };
+    // What a read asks of the bytes that were written, if they are known.
+    ghost asks: { Self → Option (List ℕ) → Type 0 } = { λ _ _. ⊤ };
 
     /// Reads, after all that was written was handed on.
     fn read_after(&mut self, writer: &W, buf: &mut [u8]) -> io::Result<usize>
         requires handed_on { Reaches (W.reached writer.now) (W.contents writer.now) }
+        requires asked { asks self.old (W.contents writer.now) }
         ensures bound { ReadsAtMost result buf.new }
         ensures bytes { ReadConsumes (remaining self.old) (remaining self.new) result buf.new };
 }

@@ -1,16 +1,22 @@
 -- One line after another.
-use Rattle.script_running.proofs.Prelude.{◌≡◌, inl, inr, ℕ, ◌<◌, Bool, true, false, List, [], ◌∷◌, ◌++◌, length, refl, sym, ap, subst, ◌∙◌, arith, append_assoc, Option, Some, Ok, Err, append-nil, ◌⊎◌, nat_lt, IfOk, IfErr, Result, if◌then◌else◌, false≢true, nat_tests, Appends-nil, Appends-kept, Answer, EndsEarly, Fault, Found, Gathers, HasRead, IsFresh, Journal, Lines, LongLine, NotAscii, Outgoing, Puts, Session, Request, RunFault, Stops, Summary, request_of, request_of_words, is_ascii, line_of, lines_of, new_journal, outgoing, reader_of, taken_of, to_come, unread_of, within_limit, words, Breaks, Gathers-nil, Gathers-trans, Breaks-after, all_out, went_out, UnlessLacking, Hears as ConsoleHears, lacks_said, spoken, Judges, Answers, answer_text, no_lines, one_line, counted, stops, was_stopped, Outs, output_of, output_from, summary_of, summary_from, Moves, Served, BreaksOff, WriteFails, IsTooLong, Runs, Console, Stage}
+use Rattle.script_running.proofs.Prelude.{◌≡◌, inl, inr, ℕ, ◌<◌, Bool, true, false, List, [], ◌∷◌, ◌++◌, length, refl, sym, ap, subst, ◌∙◌, arith, append_assoc, Option, Some, Ok, Err, append-nil, ◌⊎◌, nat_lt, IfOk, IfErr, Result, if◌then◌else◌, false≢true, nat_tests, Appends-nil, Appends-kept, Answer, EndsEarly, Fault, Found, Gathers, HasRead, IsFresh, Journal, Lines, LongLine, NotAscii, Outgoing, Puts, Session, Request, RunFault, Stops, Summary, request_of, request_of_words, is_ascii, line_of, lines_of, new_journal, outgoing, reader_of, taken_of, to_come, unread_of, with_newlines, has_newline, within_limit, words, Breaks, Gathers-nil, Gathers-trans, Breaks-after, all_out, went_out, ConsoleHeeds, spoken, Judges, Answers, answer_text, no_lines, one_line, counted, stops, was_stopped, Outs, output_of, output_from, summary_of, summary_from, Moves, Served, BreaksOff, WriteFails, IsTooLong, Runs, Console, Stage}
 use Rattle.std.specs.Io.KnownBytes.{Appends, Keeps, Consumes, IsAtEnd}
 use Rattle.script_running.specs.Leaving.{LeadOn, Leaves, RunsTo}
+use Rattle.script_running.specs.Reaching.{AsksAnswers}
+use Rattle.script_reader.specs.Reaching.{MayRead}
+use Rattle.script_reader.specs.State.{ending_of}
+use Rattle.script_reader.specs.declared.lines.Ending.TheVariants.{Open}
+use Rattle.std.proofs.KnownBytes.{Consumes-trans}
 use Rattle.script_running.proofs.Leaving.{lead_more, left_so, left_whole, one_heard, read_so, whole_so}
 use Rattle.script_running.specs.Common.{Says}
 use Rattle.script_reader.specs.Next.{Went}
 use Rattle.script_reader.specs.declared.lines.Found.TheVariants as found
-use Rattle.script_reader.proofs.ScriptLaws.{has_begun, has_line_more, has_long_more, is_read_out, breaks_at_fault, breaks_at_limit, falls_by_line, falls_by_long}
+use Rattle.script_reader.proofs.NewlineLaws.{Lacks-append, lacks-behind}
+use Rattle.script_reader.proofs.ScriptLaws.{has_begun, has_line_more, has_long_more, is_read_out, open_text, breaks_at_fault, breaks_at_limit, falls_by_line, falls_by_long}
 use Rattle.solid_listing.specs.declared.reply.Reply.TheVariants as reply
 use Rattle.script_running.specs.declared.running.RunFault.TheVariants as faults
 use Rattle.script_running.proofs.Counting.{counted_assoc, counted_none, none_counted, stop_counted, calm_counted, none_calm}
-use Rattle.script_running.proofs.Judged.{session_hears}
+use Rattle.script_running.proofs.Judged.{lines_are_judged}
 use Rattle.script_running.proofs.Outputs.{text_at, counts_at, after_to, outs_so, outs_to}
 
 -- what some lines are answered goes before what the lines after them are answered
@@ -84,10 +90,10 @@ pub record Heard {R : Type 0} (remaining : R → Option (List ℕ)) (lines next 
   pub hears : Hears remaining lines next s console.answer session
 
 module _ {R : Type 0} (remaining : R → Option (List ℕ)) (lines next : Lines R) (s : Journal) where
-  pub heard_line : (line : List ℕ) (x y z : Console) (heard : Bool) → Went remaining lines next found.Line → line ≡ line_of next → x.stage ≡ Some (Session s)
-      → UnlessLacking (lacks_said (spoken line) x.stage) (λ u v. ConsoleHears u line v) x y heard → z ≡ y → Heard remaining lines next s z
-  heard_line line x y z heard went is there h same =
-      let (t, after, judged) = session_hears x y s line heard there h in
+  pub heard_line : (line : List ℕ) (x y z : Console) (kind : ℕ) → Went remaining lines next found.Line → line ≡ line_of next → x.stage ≡ Some (Session s)
+      → ConsoleHeeds x (spoken line) y kind → z ≡ y → Heard remaining lines next s z
+  heard_line line x y z kind went is there h same =
+      let (t, after, judged) = lines_are_judged x y line kind s there h in
       subst (Heard remaining lines next s) (sym same) (record { session = t; there = after; hears = inl (went, subst (λ (l : List ℕ). Judges s l y.answer t) is judged) })
 
   -- a line that is too long
@@ -154,6 +160,21 @@ stopped remaining first lines old mid new stop s n m a t left there w bad h coun
 -- what was heard was answered
 answered : (stop : Bool) (heard : List (List ℕ)) (out : List ℕ) (s : Journal) (n : Summary) → Continues stop heard out s n → Outs stop new_journal heard out n
 answered stop heard out s n runs = outs_same stop new_journal (heard ++ []) heard (out ++ []) out (counted n no_lines) n (append-nil heard) (append-nil out) (counted_none n) (runs [] [] no_lines (refl, refl))
+
+-- where a read comes, all whole lines given so far are answered
+pub may_read : {R : Type 0} (remaining : R → Option (List ℕ)) (asks : R → Option (List ℕ) → Type 0) (begun : R) (lines : Lines R) (old : Option (List ℕ)) (new : Outgoing) (stop : Bool) (s : Journal) (n : Summary) → AsksAnswers remaining asks begun old stop
+    → Progress remaining (remaining begun) lines old new stop s n → new.pending ≡ [] → has_newline (unread_of lines) ≡ false → ending_of lines ≡ Open → MayRead remaining asks (reader_of lines) new.contents
+may_read remaining asks begun lines old new stop s n asked p none lacks opened = λ now more c further.
+    asked now (p.read.given ++ more) p.out new.contents (Consumes-trans (remaining begun) (remaining (reader_of lines)) (remaining now) p.read.given more p.read.consumed c) (went_out old new p.out p.gathered none)
+    (record {
+      judged = p.heard;
+      unfinished = unread_of lines ++ more;
+      text = ap (λ (xs : List ℕ). xs ++ more) (open_text remaining (remaining begun) lines p.heard p.read opened) ∙ append_assoc (with_newlines p.heard) (unread_of lines) more;
+      lacks = Lacks-append (unread_of lines) more (lacks-behind [] (unread_of lines) lacks) further;
+      counts = n;
+      outs = answered stop p.heard p.out s n p.runs;
+      unstopped = p.unstopped;
+    })
 
 -- the end of the script
 pub ends : {R : Type 0} (remaining : R → Option (List ℕ)) (first : Option (List ℕ)) (lines next : Lines R) (old : Option (List ℕ)) (new : Outgoing) (stop : Bool) (s : Journal) (n : Summary)

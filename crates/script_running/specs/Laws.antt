@@ -1,4 +1,4 @@
--- How lines are answered: as the calls that they spell, and, if no memory is refused, by one text.
+-- How lines are answered: as the calls that they spell, and, if no reply is `memory`, by one text.
 use Rattle.std.specs.Prelude.{◌≡◌, ◌↔◌, ℕ, Bool, List, Option, Some, None, Ok}
 use Rattle.script_running.specs.Common.{Answer, Change, Command, Give, Journal, Machine, Request, Session, Summary, Told, over, request_of}
 use Rattle.commands.specs.Telling.{Tells}
@@ -23,7 +23,7 @@ abbrev pub LinesAreTold : Type 0
 LinesAreTold = (s t : Journal) (line : List ℕ) (c : Command) (a : Answer) → AsksFor line c
     → (Judges s line a t ↔ ((b : Told) × (a ≡ answer_when b) × Tells (Session s) (Give c) b (Session t)))
 
--- if no memory is refused, only one text and one summary are possible for the lines: their output
+-- if no reply is `memory`, only one text and one summary are possible for the lines: their output
 abbrev pub OneOutput : Type 0
 OneOutput = (stop : Bool) (s : Journal) (lines : List (List ℕ)) (out : List ℕ) (n : Summary) → n.memory ≡ 0
     → (Outs stop s lines out n ↔ ((out ≡ output_from stop s.machine lines) × (n ≡ summary_from stop s.machine lines)))

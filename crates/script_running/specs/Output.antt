@@ -1,4 +1,4 @@
--- The output of a script, as a function of its lines: the answers to them if no memory is refused.
+-- The output of a script, as a function of its lines: the answers to them if no reply is `memory`.
 use Rattle.std.specs.Prelude.{ℕ, Bool, List, [], ◌∷◌, ◌++◌, Option, Some, None, Result, Ok, Err, if◌then◌else◌}
 use Rattle.script_running.specs.Common.{Answer, Ask, Change, Command, Fault, Listing, Machine, Redo, Refusal, Request, Silent, Summary, Undo, accepted, asked, held, made, over, redo, redo_refusal, refusal_of, request_of, start, undo, undo_refusal}
 use Rattle.script_reader.specs.declared.command.Request.TheVariants as request

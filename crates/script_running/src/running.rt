@@ -9,7 +9,7 @@ ghost use Rattle.script_running.specs.script_judging.Judging.{answer_text};
 ghost use Rattle.script_running.specs.Outs.{stops};
 ghost use Rattle.script_running.specs.Leaving.{RunsTo};
 ghost use Rattle.script_running.specs.Runs.{Runs};
-ghost use Rattle.script_running.specs.Reaching.{HandsOn};
+ghost use Rattle.script_running.specs.Reaching.{AsksAnswers, HandsOn};
 ghost use Rattle.script_reader.specs.Reaching.{Reaches};
 
 use crate::script_judging::{Answer, Console, Summary, complains, hear};
@@ -120,6 +120,7 @@ fn run_lines<R: Inlet<W>, W: Outlet>(
 ) -> Result<Summary, RunFault>
     requires fresh { IsFresh (reader_of lines.old) lines.old }
     requires start { IsNew console.old }
+    requires asked { AsksAnswers R.remaining R.asks (reader_of lines.old) (W.contents writer.old) stop }
     ensures runs { RunsTo (R.remaining (reader_of lines.old)) (W.contents writer.old) (W.contents writer.new) stop result console.new.stage }
     ensures reached { IfErr result (λ e. HandsOn (W.reached writer.new) (W.contents writer.new) (Err e)) }
 {
@@ -148,8 +149,9 @@ fn run_lines<R: Inlet<W>, W: Outlet>(
     }
 }
 
-/// Runs a script in a console that has a new session: hears each line that the reader gives, in order, and writes its answer. All that was written is
-/// handed on before each read, which may wait (`Inlet`), and at the end, also if a read failed. If `stop` is set, the run ends after the
+/// Runs a script in a console that has a new session: hears each line that the reader gives, in order, and writes its answer. Before each read, which
+/// may wait (`Inlet`), the answers to all whole lines given so far are written and handed on, so that a reader may ask for them (`AsksAnswers`; no
+/// reader of std does). All is handed on at the end too, also if a read failed. If `stop` is set, the run ends after the
 /// first reply that begins with `refused`, `fault` or `memory`; bytes after that line may have been read. The console is left with the session to which
 /// the lines lead that were heard (`Leaves`), for the caller.
 ///
@@ -165,6 +167,7 @@ pub fn run_in<R: Inlet<W> + Drop, W: Outlet>(
     stop: bool,
 ) -> Result<Summary, RunFault>
     requires start { IsNew console.old }
+    requires asked { AsksAnswers R.remaining R.asks reader (W.contents writer.old) stop }
     ensures runs { RunsTo (R.remaining reader) (W.contents writer.old) (W.contents writer.new) stop result console.new.stage }
     ensures reached { HandsOn (W.reached writer.new) (W.contents writer.new) result }
 {
@@ -183,6 +186,7 @@ pub fn run<R: Inlet<W> + Drop, W: Outlet>(
     writer: &mut W,
     stop: bool,
 ) -> Result<Summary, RunFault>
+    requires asked { AsksAnswers R.remaining R.asks reader (W.contents writer.old) stop }
     ensures runs { Runs (R.remaining reader) (W.contents writer.old) (W.contents writer.new) stop result }
     ensures reached { HandsOn (W.reached writer.new) (W.contents writer.new) result }
 {

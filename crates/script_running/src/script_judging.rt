@@ -4,7 +4,7 @@ mod calls;
 mod hearing;
 mod judging;
 
-pub use calls::{Console, act, ask, is_drafting, keep_outcome, make, measure};
+pub use calls::{Console, act, ask, keep_outcome, make, measure, say};
 pub use hearing::hear;
 pub(crate) use judging::complains;
-pub use judging::{Answer, Summary};
+pub use judging::{Answer, Summary, status};

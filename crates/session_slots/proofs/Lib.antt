@@ -7,7 +7,6 @@ mod Values
 mod Loans
 mod Spoken
 mod KeptSteps
-mod Hearing
 mod Queried
 mod Walking
 mod Pointers

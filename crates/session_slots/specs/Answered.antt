@@ -3,18 +3,6 @@ use Rattle.std.specs.Prelude.{ℕ, ℤ, ◌+ℤ◌, ◌*ℤ◌, cond, Option, So
 use Rattle.session_slots.specs.Common.Below.{Plane, Answer, Refused, Counts, Wide, PlaneRow}
 use Rattle.solid_listing.specs.declared.reply.Reply.{Reply}
 
--- what C is told of an answer
-abbrev pub status_of : Answer → ℕ
-status_of Answer.Silent = 0
-status_of (Answer.Reply Reply.Done) = 1
-status_of (Answer.Reply (Reply.Refused n x)) = 2
-status_of (Answer.Reply (Reply.Fault n)) = 3
-status_of (Answer.Reply Reply.Memory) = 4
-status_of (Answer.Reply (Reply.Plane p flat)) = 5
-status_of (Answer.Reply (Reply.Volume n)) = 6
-status_of (Answer.Reply (Reply.Count ns)) = 7
-status_of Answer.Listing = 8
-
 -- what a refusal names, if the answer is one
 abbrev pub refusal_in : Answer → Option Refused
 refusal_in (Answer.Reply (Reply.Refused n x)) = Some (record { number = n; value = x })

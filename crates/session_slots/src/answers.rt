@@ -1,6 +1,6 @@
 //! The last answer, as values.
 ghost use Rattle.std.specs.Prelude.{◌≡◌, ◌+◌, ◌*◌, ◌<◌, ◌≤ℤ◌, pos, unsigned_abs};
-ghost use Rattle.session_slots.specs.Answered.{status_of, refusal_in, fault_in, counts_in, volume_in, plane_in, joined, joined_plane};
+ghost use Rattle.session_slots.specs.Answered.{refusal_in, fault_in, counts_in, volume_in, plane_in, joined, joined_plane};
 
 use euler_operators::Plane;
 use script_running::Answer;
@@ -67,23 +67,6 @@ pub fn halves(number: i128) -> Wide
             high: -1 - high,
             low: u64::MAX - low,
         }
-    }
-}
-
-/// What C is told of an answer.
-pub fn status(answer: &Answer) -> u32
-    ensures { result ≡ status_of answer.now }
-{
-    match answer {
-        Answer::Silent => 0,
-        Answer::Reply(Reply::Done) => 1,
-        Answer::Reply(Reply::Refused(_, _)) => 2,
-        Answer::Reply(Reply::Fault(_)) => 3,
-        Answer::Reply(Reply::Memory) => 4,
-        Answer::Reply(Reply::Plane(_, _)) => 5,
-        Answer::Reply(Reply::Volume(_)) => 6,
-        Answer::Reply(Reply::Count(_)) => 7,
-        Answer::Listing => 8,
     }
 }
 

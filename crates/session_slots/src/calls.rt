@@ -1,65 +1,76 @@
-//! Calls given as values: what each does to a slot.
-ghost use Rattle.session_slots.specs.Common.{act_of, lacks_said, spoken, Slot_does, Slot_asks, Slot_lacks, Slot_measures, Slot_notes, UnlessLacking};
+//! What an operator, a question and a line do to a slot, and which numbers in use a call keeps. Each says what C is told of it.
+ghost use Rattle.std.specs.Prelude.{◌≡◌, ◌<◌, ◌≤◌};
+ghost use Rattle.session_slots.specs.Common.{ConsoleHeeds, Counts_in, Notes, act_of, calls, gives, keeps, spoken};
+ghost use Rattle.script_running.specs.script_judging.Consoles.{Measures};
 
 use crate::slot::{Slot, counted_in};
-use commands::{Call, Question};
+use commands::{Command, Question};
 use euler_operators::Op;
 use script_running::Answer;
 use solid_listing::Reply;
+use solid_walks::Counters;
 use std::alloc::Global;
 
-/// Makes a call, and keeps its answer and the greatest numbers in use before it.
+/// C is told less than this of each call that the session or draft has.
+const LACKING: u32 = 11;
+
+/// Keeps the greatest numbers in use before a call of which C is told this, if the session or draft has it.
 #[inline(always)]
-pub fn make(alloc: Global, slot: &mut Slot, wanted: Call<'_>)
-    ensures { Slot_does slot.old wanted.entry slot.new }
+pub fn note(slot: &mut Slot, before: Counters, kind: u32)
+    ensures console { slot.new.console ≡ slot.old.console }
+    ensures had { kind < 11 → slot.new.before ≡ before }
+    ensures lacking { 11 ≤ kind → slot.new.before ≡ slot.old.before }
 {
-    slot.before = counted_in(slot);
-    script_running::make(alloc, &mut slot.console, wanted);
+    if kind < LACKING {
+        slot.before = before;
+    }
 }
 
 /// One operator: in a session a command, in a draft a step.
 #[inline(always)]
-pub fn act(slot: &mut Slot, op: Op)
-    ensures { Slot_does slot.old (act_of op) slot.new }
+pub fn act(slot: &mut Slot, op: Op) -> u32
+    ensures heeds { ConsoleHeeds slot.old.console (calls (act_of op)) slot.new.console result }
+    ensures noted { Notes slot.old slot.new result }
 {
     slot.before = counted_in(slot);
-    script_running::act(&mut slot.console, op);
+    script_running::act(&mut slot.console, op)
 }
 
 /// Answers a question about the model shown, and keeps the answer. A question is no command: the numbers from before the last command stay.
 #[inline(always)]
-pub fn ask(slot: &mut Slot, question: Question)
-    ensures { Slot_asks slot.old question slot.new }
+pub fn ask(slot: &mut Slot, question: Question) -> u32
+    ensures heeds { ConsoleHeeds slot.old.console (gives (Command.Ask question)) slot.new.console result }
+    ensures stay { slot.new.before ≡ slot.old.before }
 {
-    script_running::ask(&mut slot.console, question);
+    script_running::ask(&mut slot.console, question)
 }
 
 /// Answers a question about the model shown, and keeps nothing.
 #[inline(always)]
 pub fn measure(slot: &Slot, question: Question) -> Answer
-    ensures { Slot_measures slot.now question result }
+    ensures { Measures slot.now.console question result }
 {
     script_running::measure(&slot.console, question)
 }
 
-/// Answers a line, and keeps the answer and the greatest numbers in use before it. False if the line spells undo or redo in a draft, which doesn't
-/// have these calls; then nothing has changed.
-pub fn hear(alloc: Global, slot: &mut Slot, line: &[u8]) -> bool
-    ensures { UnlessLacking (lacks_said (spoken line.now) slot.old.console.stage) (λ x y. Slot_notes x line.now y) slot.old slot.new result }
+/// Answers a line, and keeps the answer and the greatest numbers in use before it. A line that spells undo or redo in a draft, which doesn't have these
+/// calls, changes nothing.
+pub fn hear(alloc: Global, slot: &mut Slot, line: &[u8]) -> u32
+    ensures heeds { ConsoleHeeds slot.old.console (spoken line.now) slot.new.console result }
+    ensures noted { Notes slot.old slot.new result }
 {
     let before = counted_in(slot);
-    if !script_running::hear(alloc, &mut slot.console, line) {
-        return false;
-    }
-    slot.before = before;
-    true
+    let kind = script_running::hear(alloc, &mut slot.console, line);
+    note(slot, before, kind);
+    kind
 }
 
 /// Answers that memory was refused for what is kept beside the session or draft, which stays as it is. The numbers in use are kept as those from
 /// before this answer.
-pub fn lack(slot: &mut Slot)
-    ensures { Slot_lacks slot.old slot.new }
+pub fn lack(slot: &mut Slot) -> u32
+    ensures heeds { ConsoleHeeds slot.old.console (keeps (Answer.Reply Reply.Memory)) slot.new.console result }
+    ensures noted { Counts_in slot.old slot.new.before }
 {
     slot.before = counted_in(slot);
-    slot.console.answer = Answer::Reply(Reply::Memory);
+    script_running::say(&mut slot.console, Answer::Reply(Reply::Memory))
 }

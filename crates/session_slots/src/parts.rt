@@ -1,12 +1,12 @@
 //! Faces of a solid that become a solid of their own.
 ghost use Rattle.std.specs.Prelude.{◌≡◌, ◌<◌, length, get_or, IfOk, Err};
-ghost use Rattle.session_slots.specs.Common.{solid_of, answer, face_refusal, shown, told_of, act_of, part_of, Tells, Moves_faces, Slot_parts, Slot_makes_part};
+ghost use Rattle.session_slots.specs.Common.{solid_of, answer, face_refusal, shown, told_of, act_of, part_asked, part_of, ConsoleHeeds, Counts_in, Moves_faces, Tells};
 
 use crate::slot::{Slot, counted_in};
 use commands::Stage;
 use euler_conditions::{Arena, check_part_of};
 use euler_operators::{FaceList, Kind, Op, Refusal, Why, is_number};
-use script_running::keep_outcome;
+use script_running::{Console, keep_outcome};
 use std::alloc::{AllocError, Global};
 use undo_journal::Failure;
 
@@ -69,22 +69,23 @@ fn part_on(alloc: Global, stage: &mut Stage, faces: &[u32], made: u32) -> Result
     }
 }
 
-fn part_in(alloc: Global, slot: &mut Slot, faces: &[u32], made: u32)
+fn part_in(alloc: Global, console: &mut Console, faces: &[u32], made: u32) -> u32
     requires { 0 < length faces.now }
-    ensures { Slot_parts slot.old faces.now made slot.new }
+    ensures { ConsoleHeeds console.old (part_asked console.old.stage faces.now made) console.new result }
 {
-    if let Some(stage) = &mut slot.console.stage {
+    if let Some(stage) = &mut console.stage {
         let ended = part_on(alloc, stage, faces, made);
-        keep_outcome(ended, &mut slot.console.answer);
+        return keep_outcome(ended, &mut console.answer);
     }
+    0
 }
 
 /// Makes a new solid of some faces of a solid, at least one.
-pub fn part(alloc: Global, slot: &mut Slot, faces: &[u32], made: u32)
+pub fn part(alloc: Global, slot: &mut Slot, faces: &[u32], made: u32) -> u32
     requires { 0 < length faces.now }
-    ensures { Slot_makes_part slot.old faces.now made slot.new }
+    ensures heeds { ConsoleHeeds slot.old.console (part_asked slot.old.console.stage faces.now made) slot.new.console result }
+    ensures noted { Counts_in slot.old slot.new.before }
 {
-    let before = counted_in(slot);
-    part_in(alloc, slot, faces, made);
-    slot.before = before;
+    slot.before = counted_in(slot);
+    part_in(alloc, &mut slot.console, faces, made)
 }

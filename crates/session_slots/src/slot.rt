@@ -1,9 +1,9 @@
 //! A session or a draft in a slot with its last answer.
 ghost use Rattle.std.specs.Prelude.{◌≡◌, IfSome, Some, length, true};
 ghost use Rattle.euler_conditions.specs.Ready.{IsReady};
-ghost use Rattle.session_slots.specs.Common.{IsNew, is_draft, is_staged, lacks, text_in, Counts_in, laid_over};
+ghost use Rattle.session_slots.specs.Common.{IsNew, is_staged, text_in, Counts_in, laid_over};
 
-use commands::{Call, Command, Stage};
+use commands::Stage;
 use euler_conditions::Arena;
 use script_running::{Answer, Console};
 use solid_listing::{write_listing, write_reply};
@@ -54,33 +54,12 @@ pub fn staged(slot: &Slot) -> &Stage
 
 /// The greatest numbers in use.
 #[inline(always)]
-pub(crate) fn counted_in(slot: &Slot) -> Counters
+pub fn counted_in(slot: &Slot) -> Counters
     ensures { Counts_in slot.now result }
 {
     match &slot.console.stage {
         Some(stage) => counters_of(stage.arena()),
         None => slot.before,
-    }
-}
-
-/// Whether there is a draft.
-pub fn is_drafting(slot: &Slot) -> bool
-    ensures { result ≡ is_draft slot.now.console.stage }
-{
-    script_running::is_drafting(&slot.console)
-}
-
-/// Whether the session or draft doesn't have the call.
-#[inline(always)]
-pub fn lacks(slot: &Slot, wanted: &Call<'_>) -> bool
-    ensures { result ≡ lacks wanted.now slot.now.console.stage }
-{
-    match wanted {
-        Call::Give(Command::Undo) => is_drafting(slot),
-        Call::Give(Command::Redo) => is_drafting(slot),
-        Call::Give(_) => false,
-        Call::Open => is_drafting(slot),
-        _ => !is_drafting(slot),
     }
 }
 

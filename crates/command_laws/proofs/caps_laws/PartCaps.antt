@@ -1,5 +1,5 @@
 -- The caps once the holes are closed and the upper faces parted from the solid.
-use Rattle.command_laws.proofs.Prelude.{◌≡◌, ◌≢◌, ℕ, zero, suc, ◌+◌, ◌<◌, ◌≤◌, Bool, true, false, cond, List, [], ◌∷◌, length, map, get_or, Some, is_some, refl, sym, ap, subst, ◌∙◌, arith, true≢false, filter, pos, int_lt, option_map, eqb_tells, false_from_ne_true, Plane, Point, count, tick, cross, direction, dot, is_on, moved, origin, Model, FaceRow, LoopContent, content, cycle, face_of, lone, outer, point_of, solid_of, tail, Sound, Has, lists, kfmrh, part, tick_same, none_moved, same_solid, solid_row, IsIn-from_listed, listed-from_in, face_there, solid_either, corners, loops_of, vertices_in, vertices_on, normal, negated, Drawing, holes_in, is_hole, Caps, no_caps, outer_caps, opened_at, cross_moved, face_of_loop, on_one, IsPlain, cap_faces, ArePlain, hole_ops, AllLieAlong, LiesAlong, CanBeSplit, one_outer, AreClosed, AreLevel, holes_counted, each_at, holes_each, level_each, plain_each, closing, closing_carries, CanTake, along_each, IsCapOf, area_below, sum_of}
+use Rattle.command_laws.proofs.Prelude.{◌≡◌, ◌≢◌, ℕ, zero, suc, ◌+◌, ◌<◌, ◌≤◌, Bool, true, false, cond, List, [], ◌∷◌, length, map, get_or, Some, is_some, refl, sym, ap, subst, ◌∙◌, arith, true≢false, filter, option_map, eqb_tells, Plane, Point, count, tick, cross, direction, is_on, moved, origin, Model, FaceRow, LoopContent, content, cycle, face_of, lone, outer, point_of, solid_of, tail, Sound, Has, lists, kfmrh, part, tick_same, same_solid, solid_row, IsIn-from_listed, listed-from_in, face_there, solid_either, corners, loops_of, vertices_in, vertices_on, normal, negated, Drawing, holes_in, is_hole, Caps, no_caps, outer_caps, opened_at, cross_moved, face_of_loop, on_one, IsPlain, cap_faces, ArePlain, hole_ops, AllLieAlong, LiesAlong, CanBeSplit, one_outer, AreClosed, AreLevel, holes_counted, each_at, holes_each, level_each, plain_each, closing, closing_carries, CanTake, along_each, IsCapOf, area_below, sum_of}
 use Rattle.euler_operators.specs.Table as table
 use Rattle.split_laws.proofs.Whole as after_closing
 use Rattle.split_laws.proofs.volumes.Split as split
@@ -213,13 +213,3 @@ module _ (d : Drawing) (above : List ℕ) (s : ℕ) (p : Plane) (t : ℕ) (w : C
           up ∙ upper_now e ∙ both_opposite (sum_of (lowers X.model holes)) (normal X.model k.lower) (sum_of (uppers X.model holes)) (normal X.model k.upper)
               (opposite_sums X.model p holes (holes_each (AllFaceApart X.model p) _ (apart_each X.model p) ks all_apart)) apart.opposite ∙ ap negated (sym (lower_now e) ∙ sym low),
         )
-
-    -- without holes
-    module _ (none : filter (λ k. k.hole) (opened_at d above s p).caps ≡ []) where
-      own_flag : k.hole ≡ false
-      own_flag = false_from_ne_true k.hole (λ e. absurd (omega (arith, hole_in k.lower ks i l e, tick_same k.lower, ap (λ hs. count k.lower (cap_faces hs)) none)))
-
-      pub faces_apart : (int_lt (dot (normal P k.lower) (direction p)) (pos 0) ≡ false) × (normal P k.upper ≡ negated (normal P k.lower))
-      faces_apart =
-          let low = split.normal_same K s t us k.lower ∙ lower_now own_flag ∙ ap (λ hs. moved (sum_of (lowers X.model hs)) (normal X.model k.lower)) none ∙ none_moved (normal X.model k.lower) in
-          (ap (λ v. int_lt (dot v (direction p)) (pos 0)) low ∙ sym apart.told ∙ own_flag, (normals_told own_flag).2)

@@ -1,8 +1,8 @@
 -- The caps of a whole split.
-use Rattle.command_laws.proofs.Prelude.{◌≡◌, [], false, get_or, map, sym, subst, int_lt, pos, direction, dot, moved, normal, negated, holes_in, is_hole, faces_above, with_drawings, held, IsCapOf, area_below, cap, cycles_of, sum_of}
+use Rattle.command_laws.proofs.Prelude.{◌≡◌, [], false, get_or, map, sym, subst, moved, normal, negated, holes_in, is_hole, faces_above, with_drawings, held, IsCapOf, area_below, cap, cycles_of, sum_of}
 use Rattle.euler_operators.specs.Table as table
-use Rattle.command_laws.specs.Caps.{CapsFaceApart, CapsHaveNormals, CapsStand, HolesAreClosed}
-use Rattle.command_laws.proofs.caps_laws.PartCaps.{both_caps, both_gone, faces_apart, normals_told}
+use Rattle.command_laws.specs.Caps.{CapsHaveNormals, CapsStand, HolesAreClosed}
+use Rattle.command_laws.proofs.caps_laws.PartCaps.{both_caps, both_gone, normals_told}
 use Rattle.command_laws.proofs.splits_laws.Whole.{after_is, after_sound, can}
 
 -- ---- the caps of cycle i
@@ -29,10 +29,3 @@ caps_have_normals before after s p t i sound made l outer =
     subst (λ A. (is_hole d.model p (get_or cs i []) ≡ false) × (normal A k.lower ≡ moved (sum_of (map (area_below d.model) (holes_in d.model p cs))) (area_below d.model (get_or cs i []))) × (normal A k.upper ≡ negated (normal A k.lower)))
     (sym (after_is before after s p t sound made))
     (normals_told d (faces_above d.model p s) s p t (can before after s p t sound made) i l outer)
-
-pub caps_face_apart : CapsFaceApart
-caps_face_apart before after s p t i sound made l none =
-    let k = cap (held before) s p i in
-    let d = with_drawings (held before) s p in
-    subst (λ A. (int_lt (dot (normal A k.lower) (direction p)) (pos 0) ≡ false) × (normal A k.upper ≡ negated (normal A k.lower))) (sym (after_is before after s p t sound made))
-    (faces_apart d (faces_above d.model p s) s p t (can before after s p t sound made) i l none)

@@ -1,7 +1,7 @@
 -- The faces that come while those that straddle the plane are drawn: each lies on the planes of one of these.
-use Rattle.command_laws.proofs.Prelude.{◌≡◌, ℕ, ◌+◌, Bool, true, false, ◌&&◌, List, [], ◌∷◌, None, fold, map, refl, sym, ap, subst, ◌∙◌, ◌⊎◌, inl, inr, arith, eqb_tells, IsIn, Plane, Model, Sound, Has, HasHalf, face_at, no_row, tick_same, half_face, Drawing, FacePairs, corners, faces_drawn, is_plane_of, next_drawn, plane_of, straddling_faces, straddling_pairs, undrawn, with_crossings, with_drawings, DrawnIn, pairs_in, Drawable, CanBegin, face_facts, crossings_measured, solid_stays, faces_are, face_goes, drawable, drawable_on, drawing_sound, next_is, ready, LiesFlat, Within, face_within, lies_flat, never_free, can_be_drawn}
+use Rattle.command_laws.proofs.Prelude.{◌≡◌, ℕ, ◌+◌, Bool, true, false, List, [], ◌∷◌, None, fold, map, refl, sym, ap, subst, ◌∙◌, ◌⊎◌, inl, inr, arith, eqb_tells, IsIn, Plane, Model, Sound, Has, HasHalf, face_at, no_row, tick_same, half_face, Drawing, FacePairs, faces_drawn, next_drawn, plane_of, straddling_faces, straddling_pairs, undrawn, with_crossings, DrawnIn, pairs_in, Drawable, CanBegin, face_facts, crossings_measured, solid_stays, faces_are, face_goes, drawable, drawable_on, next_is, ready, LiesFlat, Within, face_within, lies_flat, never_free, can_be_drawn}
 use Rattle.euler_operators.specs.Table as table
-use Rattle.split_drawing_laws.proofs.drawn_volumes.Bounds.{OnFace, face_on}
+use Rattle.split_drawing_laws.proofs.drawn_volumes.Bounds.{OnFace}
 use Rattle.split_drawing_laws.proofs.drawn_volumes.Volumes.{IsPlane}
 
 -- face g of X lies on the planes of one of the faces fs of B
@@ -100,29 +100,3 @@ module _ (M : Model) (s : ℕ) (p : Plane) (t : ℕ) (sound : Sound M) (begins :
   pub spread : Spread C D (straddling_faces M p s)
   spread = all_spread C (straddling_faces M p s) (λ f i. let w = lies f i in (w.0, record { plane = plane_of M f; some = w.1; on = w.2 })) p (undrawn (with_crossings M s p)) (straddling_pairs M s p) 0 (drawable (with_crossings M s p) (straddling_pairs M s p) (can_be_drawn M s p t sound begins))
       (λ f i. subst (IsIn f) (faces_are M C p (straddling_faces M p s)) i) (record { there = λ g has. has; olds = λ g has r on. on; news = λ g has none. absurd (never_free C.faces g has none); old_halves = λ h has. has; halves = λ h has. record { face = inl refl; on = λ r on. on } })
-
-  -- a new face lies in the plane of one that straddles
-  pub drawn_in : (g : ℕ) → Has (with_drawings M s p).model.faces g → table.get M.faces g ≡ None →
-      (f : ℕ) × IsIn f (straddling_faces M p s) × (is_plane_of (with_drawings M s p).model (plane_of M f) (corners (with_drawings M s p).model g) ≡ true)
-  unfolding with_drawings
-  drawn_in g has none =
-      let c = spread.news g has (ap (λ x. table.get x g) same_faces ∙ none) in
-      let w = lies c.face c.listed in
-      let D_sound = drawing_sound p (with_crossings M s p) (straddling_pairs M s p) (can_be_drawn M s p t sound begins) in
-      (c.face, c.listed, λ i. w.1 i && face_on D D_sound (plane_of M c.face) g has (c.on (plane_of M c.face) w.2) i)
-
-  -- a half-edge of one that straddles is of it still, or of a new face that lies in its plane
-  pub drawn_half : (f h : ℕ) → IsIn f (straddling_faces M p s) → HasHalf (with_crossings M s p).model h → face_at (with_crossings M s p).model h ≡ f → let D = (with_drawings M s p).model in
-      ((face_at D h ≡ f) ⊎ (table.get M.faces (face_at D h) ≡ None)) × (is_plane_of D (plane_of M f) (corners D (face_at D h)) ≡ true)
-  unfolding with_drawings
-  drawn_half f h i has at =
-      let w = lies f i in
-      let m = spread.halves h has in
-      let D_sound = drawing_sound p (with_crossings M s p) (straddling_pairs M s p) (can_be_drawn M s p t sound begins) in
-      let on = m.on (plane_of M f) (subst (OnFace C (plane_of M f)) (sym at) w.2) in (
-        elim m.face [
-          | inl e ↦ inl (e ∙ at)
-          | inr none ↦ inr (ap (λ x. table.get x (face_at D h)) (sym same_faces) ∙ none)
-        ],
-        λ j. w.1 j && face_on D D_sound (plane_of M f) (face_at D h) (half_face D D_sound h (spread.old_halves h has)) on j,
-      )

@@ -1,14 +1,13 @@
 -- The faces of a solid that was split: those that the plane doesn't straddle are of the part on their side.
-use Rattle.command_laws.proofs.Prelude.{list_any, ◌≡◌, ◌≢◌, ℕ, ◌+◌, ◌≤◌, Bool, true, false, cond, not, ◌&&◌, ◌||◌, List, [], ◌∷◌, ◌++◌, length, nat_eq, None, Some, is_some, pos, int_lt, refl, sym, ap, subst, ◌∙◌, arith, true≢false, filter, map, option_map, false_from_ne_true, flat_map-append, map-append, Plane, Point, direction, dot, is_above, is_below, count, IsIn, mate, plus, Model, FaceRow, LoopContent, content, cycle, face_of, faces_of, items_of, lone, outer, point_of, rings_of, solid_of, tail, Sound, Has, face_at, lists, kfmrh, part, count-append, tick_other, tick_same, from_map, IsIn-filter, IsIn_rest, filter_passes, IsIn_head, item_loop, number_real, outer_row, solid_row, in_use_within, IsIn-from_listed, listed-from_in, face_there, solid_either, same_tail, corners, loops_of, start, vertices_in, vertices_on, Taken, numbers_after, is_flat, normal, face_is_above, faces_above, straddles, with_drawings, below_halves, section_cycles, Caps, Opening, holes_closed, opened_along, outer_caps, opened_at, split_refusal, IsReplaced, content_stays, face_of_loop, loops_agree, in_solid, all_flat, cap_faces, upper_faces, CanBeOpenedInTurn, CanBeOpened, renamed_not, can_open, new_caps, opened_next, openings_carry, CanBeSplit, holes_counted, begins, drawn_sound, can_be_split, is_rewritten, swap, closing, closing_leads, CanTake, held, StandsAsBefore, corner_points, loop_points, AreTurned, IsTakenOver, SplitKeepsBelow, SplitSharesFaces, stages, none_in}
+use Rattle.command_laws.proofs.Prelude.{list_any, ◌≡◌, ◌≢◌, ℕ, ◌+◌, ◌≤◌, Bool, true, false, cond, not, ◌&&◌, ◌||◌, List, [], ◌∷◌, length, nat_eq, None, Some, is_some, pos, int_lt, refl, sym, ap, subst, ◌∙◌, arith, true≢false, filter, map, option_map, false_from_ne_true, flat_map-append, Plane, Point, direction, dot, is_above, is_below, count, IsIn, mate, plus, Model, FaceRow, LoopContent, content, cycle, face_of, faces_of, items_of, lone, outer, point_of, rings_of, solid_of, tail, Sound, Has, face_at, lists, kfmrh, part, count-append, tick_other, tick_same, from_map, IsIn-filter, IsIn_rest, filter_passes, IsIn_head, item_loop, number_real, outer_row, solid_row, in_use_within, IsIn-from_listed, listed-from_in, face_there, solid_either, same_tail, corners, loops_of, start, vertices_on, Taken, numbers_after, normal, face_is_above, faces_above, straddles, with_drawings, below_halves, section_cycles, Caps, Opening, holes_closed, opened_along, outer_caps, opened_at, split_refusal, IsReplaced, content_stays, face_of_loop, loops_agree, in_solid, cap_faces, upper_faces, CanBeOpenedInTurn, CanBeOpened, renamed_not, can_open, new_caps, opened_next, openings_carry, CanBeSplit, holes_counted, drawn_sound, can_be_split, is_rewritten, swap, closing, closing_leads, CanTake, StandsAsBefore, loop_points, AreTurned, stages, none_in}
 use Rattle.euler_operators.specs.Table as table
 use Rattle.euler_laws.proofs.Common.{same_point}
 use Rattle.split_laws.proofs.opened.Kept as kept
 use Rattle.split_laws.proofs.volumes.Split as split
 use Rattle.split_laws.proofs.volumes.Taken as taken
-use Rattle.command_laws.proofs.Turned.{IsTurned, not_turned, rewritten_turned, turned_on, turned_over}
+use Rattle.command_laws.proofs.Turned.{IsTurned, not_turned, rewritten_turned, turned_on}
 use Rattle.command_laws.proofs.splits_laws.PartedWithin.{kill_keeps, part_keeps}
 use Rattle.command_laws.proofs.splits_laws.Uncut.{uncut_stands, uncut_turned}
-use Rattle.command_laws.proofs.splits_laws.Whole.{after_is, after_sound}
 
 -- ---- where its half-edges start where they did, a loop has the points that it had
 
@@ -210,22 +209,6 @@ module _ (M : Model) (s : ℕ) (p : Plane) (t : ℕ) (sound : Sound M) (accepted
   pub part_of : solid_of (part K s t us) k ≡ cond (face_is_above (with_drawings M s p).model p k) t s
   part_of = parted_solid K s t us k closed.1.there ∙ (λ i. cond (side i) t (closed.2 i))
 
-  -- below, its loops have their points in their order
-  all_points : (ls : List ℕ) → ((l : ℕ) → IsIn l ls → loop_points parted l ≡ loop_points d.model l) → map (point_of parted) (vertices_in parted ls) ≡ map (point_of d.model) (vertices_in d.model ls)
-  all_points [] each = refl
-  all_points (l ∷ ls) each =
-      map-append (point_of parted) (vertices_on parted (content parted l)) (vertices_in parted ls)
-      ∙ (λ i. each l (IsIn_head l ls) i ++ all_points ls (λ q j. each q (IsIn_rest q l ls j)) i)
-      ∙ sym (map-append (point_of d.model) (vertices_on d.model (content d.model l)) (vertices_in d.model ls))
-
-  pub part_points : face_is_above (with_drawings M s p).model p k ≡ false → corner_points (part K s t us) k ≡ corner_points (with_drawings M s p).model k
-  unfolding corners
-  part_points low =
-      let keeps = part_keeps K s t us in
-      let off : lists above k ≡ false = false_from_ne_true (lists above k) (λ l. true≢false (sym (filter_passes (face_is_above d.model p) k (faces_of d.model s) (IsIn-from_listed k above l)) ∙ low)) in
-      ap (λ ls. map (point_of parted) (vertices_in parted ls)) part_turned.loops
-      ∙ all_points (loops_of d.model k) (λ l i. same_points K parted l keeps.0 keeps.1 (split.content_same K s t us l) ∙ closed.3 off l i)
-
 -- ---- and of a face that the plane doesn't straddle
 
 module _ (M : Model) (s : ℕ) (p : Plane) (t : ℕ) (sound : Sound M) (accepted : split_refusal M s p t ≡ None) (k : ℕ) (there : Has M.faces k) (of : solid_of M k ≡ s) (whole : straddles M p k ≡ false) where
@@ -247,33 +230,5 @@ module _ (M : Model) (s : ℕ) (p : Plane) (t : ℕ) (sound : Sound M) (accepted
   inside : face_is_above D p k ≡ face_is_above M p k
   inside = same_side M D p k stands now.normal
 
-  pub shared_turned : IsTurned M N k
-  shared_turned = turned_on M D N k now (part_turned M s p t sound accepted k now.there now_of)
-
   pub shared_of : solid_of N k ≡ cond (face_is_above M p k) t s
   shared_of = part_of M s p t sound accepted k now.there now_of ∙ ap (λ b. cond b t s) inside
-
-  pub below_points : face_is_above M p k ≡ false → corner_points N k ≡ corner_points M k
-  below_points low = part_points M s p t sound accepted k now.there now_of (inside ∙ low) ∙ stands.points
-
-  pub was_flat : is_flat M k ≡ true
-  was_flat = all_flat M s p t sound (begins M s p t sound accepted) k there of
-
-pub split_shares_faces : SplitSharesFaces
-split_shares_faces before after s p t k sound made there of whole =
-    let M = held before in
-    subst (λ N. IsTakenOver M N k (cond (face_is_above M p k) t s)) (sym (after_is before after s p t sound made))
-    (turned_over M _ k (cond (face_is_above M p k) t s) (after_sound before after s p t sound made) (was_flat M s p t sound made.0 k there of whole)
-    (shared_of M s p t sound made.0 k there of whole) (shared_turned M s p t sound made.0 k there of whole))
-
--- where it lies below it stands as it did
-below_stands : (M N : Model) (k s : ℕ) → solid_of M k ≡ s → IsTakenOver M N k s → corner_points N k ≡ corner_points M k → StandsAsBefore M N k
-unfolding loops_of
-below_stands M N k s of w points = grind arith
-
-pub split_keeps_below : SplitKeepsBelow
-split_keeps_below before after s p t k sound made there of whole low =
-    let M = held before in
-    let is = after_is before after s p t sound made in
-    let over : IsTakenOver M (held after) k s = subst (IsTakenOver M (held after) k) (ap (λ b. cond b t s) low) (split_shares_faces before after s p t k sound made there of whole) in
-    below_stands M (held after) k s of over (ap (λ N. corner_points N k) is ∙ below_points M s p t sound made.0 k there of whole low)

@@ -1,5 +1,5 @@
 -- The models before and after a split agree but for the two parts, and each vertex keeps its point.
-use Rattle.command_laws.proofs.Prelude.{◌≡◌, ◌≢◌, ℕ, false, is_some, sym, ap, subst, ◌∙◌, filter, ne_eqb, arith, Plane, Model, rings_of, solid_of, Sound, Has, same_solid, split_model, crossings_keep, hole_ops, CanBeSplit, AreClosed, begins, drawn_stays, can_be_split, Machine, held, IsSplit, OfOthers, SplitKeepsRows, SplitKeepsOwners, SplitKeepsLoops, SplitKeepsEdges, SplitKeepsPoints, SplitKeepsShapes, stages}
+use Rattle.command_laws.proofs.Prelude.{◌≡◌, ◌≢◌, ℕ, false, is_some, sym, ap, subst, ◌∙◌, filter, ne_eqb, arith, Plane, Model, rings_of, solid_of, Sound, Has, same_solid, split_model, crossings_keep, hole_ops, CanBeSplit, AreClosed, begins, drawn_stays, can_be_split, Machine, held, IsSplit, OfOthers, SplitKeepsRows, SplitKeepsLoops, SplitKeepsEdges, SplitKeepsPoints, SplitKeepsShapes, stages}
 use Rattle.euler_operators.specs.Table as table
 use Rattle.split_laws.proofs.Whole.{split_sound}
 use Rattle.split_laws.proofs.volumes.Split as split
@@ -59,9 +59,6 @@ module _ (before after : Machine) (s : ℕ) (p : Plane) (t : ℕ) (sound : Sound
 
 pub split_keeps_rows : SplitKeepsRows
 split_keeps_rows before after s p t sound made k there ne = ((agree before after s p t sound made).faces k there (ne_eqb (solid_of (held before) k) s ne)).0
-
-pub split_keeps_owners : SplitKeepsOwners
-split_keeps_owners before after s p t sound made k there ne = same_solid (held before) (held after) k (split_keeps_rows before after s p t sound made k there ne)
 
 pub split_keeps_loops : SplitKeepsLoops
 split_keeps_loops before after s p t sound made l there ne = (agree before after s p t sound made).loops l there (ne_eqb (solid_of_loop (held before) l) s ne)

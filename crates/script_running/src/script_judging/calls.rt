@@ -1,10 +1,11 @@
 //! A console: what a call does to a session, or to a draft of its next command, and to the last answer.
-ghost use Rattle.std.specs.Prelude.{◌≡◌, IfOk};
+ghost use Rattle.std.specs.Prelude.{◌≡◌, ◌<◌, IfOk};
 ghost use Rattle.script_running.specs.Common.{told_of, told_of_move};
-ghost use Rattle.script_running.specs.script_judging.Consoles.{IsNew, Makes, Measures, UnlessLacking, act_of, answer_after, is_draft};
+ghost use Rattle.script_running.specs.script_judging.Consoles.{ConsoleHeeds, IsNew, Measures, act_of, answer_after, calls, keeps, kind_told};
+ghost use Rattle.script_running.specs.script_judging.Hearing.{changes, gives};
 
-use crate::script_judging::judging::Answer;
-use commands::{Call, Change, Command, KnownSession, Question, Stage, Told};
+use crate::script_judging::judging::{Answer, status};
+use commands::{Call, Change, Command, KnownSession, Question, Stage, Told, change_in};
 use euler_operators::{Op, Refusal};
 use solid_listing::Reply;
 use solid_measure::Tally;
@@ -33,12 +34,13 @@ impl Console {
     }
 }
 
-/// Whether there is a draft.
-pub fn is_drafting(console: &Console) -> bool
-    ensures { result ≡ is_draft console.now.stage }
-{
-    matches!(&console.stage, Some(Stage::Drafting(_)))
-}
+/// What C is told of a console that has answered nothing.
+const SILENT: u32 = 0;
+
+/// What C is told of a call that a draft doesn't have, and of one that only a draft has.
+const IN_DRAFT: u32 = 11;
+
+const NO_DRAFT: u32 = 12;
 
 fn refused(refusal: Refusal) -> Answer
     ensures { result ≡ answer_after Answer.Silent (Told.Refused refusal) }
@@ -76,130 +78,176 @@ fn keep(told: &Told, answer: &mut Answer)
     }
 }
 
-/// Keeps the answer to a change that ended in this way.
-pub fn keep_outcome(ended: Result<(), Failure>, answer: &mut Answer)
-    ensures { answer.new ≡ answer_after answer.old (told_of ended) }
+/// What C is told of a call that was told this, if this is the last answer after it.
+#[inline(always)]
+fn kind(told: &Told, answer: &Answer) -> u32
+    ensures { result ≡ kind_told answer.now told.now }
 {
-    match ended {
-        Ok(()) => *answer = Answer::Reply(Reply::Done),
-        Err(Failure::Refused(refusal)) => *answer = refused(refusal),
-        Err(Failure::Memory(_)) => *answer = Answer::Reply(Reply::Memory),
+    match told {
+        Told::InDraft => IN_DRAFT,
+        Told::NoDraft => NO_DRAFT,
+        _ => status(answer),
     }
 }
 
-/// Keeps the answer to an undo or redo that ended in this way.
-fn keep_move(ended: Result<(), Refusal>, answer: &mut Answer)
-    ensures { answer.new ≡ answer_after answer.old (told_of_move ended) }
+/// Keeps the answer to a change that ended in this way, and says what C is told of it.
+pub fn keep_outcome(ended: Result<(), Failure>, answer: &mut Answer) -> u32
+    ensures kept { answer.new ≡ answer_after answer.old (told_of ended) }
+    ensures kind { result ≡ kind_told (answer_after answer.old (told_of ended)) (told_of ended) }
+    ensures had { result < 11 }
 {
     match ended {
-        Ok(()) => *answer = Answer::Reply(Reply::Done),
-        Err(refusal) => *answer = refused(refusal),
+        Ok(()) => {
+            *answer = Answer::Reply(Reply::Done);
+            1
+        }
+        Err(Failure::Refused(refusal)) => {
+            *answer = refused(refusal);
+            2
+        }
+        Err(Failure::Memory(_)) => {
+            *answer = Answer::Reply(Reply::Memory);
+            4
+        }
     }
+}
+
+/// Keeps the answer to an undo or redo that ended in this way, and says what C is told of it.
+fn keep_move(ended: Result<(), Refusal>, answer: &mut Answer) -> u32
+    ensures kept { answer.new ≡ answer_after answer.old (told_of_move ended) }
+    ensures kind { result ≡ kind_told (answer_after answer.old (told_of_move ended)) (told_of_move ended) }
+{
+    match ended {
+        Ok(()) => {
+            *answer = Answer::Reply(Reply::Done);
+            1
+        }
+        Err(refusal) => {
+            *answer = refused(refusal);
+            2
+        }
+    }
+}
+
+/// Makes no call, and keeps this answer.
+#[inline(always)]
+pub fn say(console: &mut Console, answer: Answer) -> u32
+    ensures { ConsoleHeeds console.old (keeps answer) console.new result }
+{
+    console.answer = answer;
+    status(&answer)
 }
 
 /// One operator, made in place: in a session it is a command, in a draft a step.
 #[inline(always)]
-pub fn act(console: &mut Console, op: Op)
-    ensures { Makes console.old (act_of op) console.new }
+pub fn act(console: &mut Console, op: Op) -> u32
+    ensures heeds { ConsoleHeeds console.old (calls (act_of op)) console.new result }
+    ensures had { result < 11 }
 {
     if let Some(stage) = &mut console.stage {
         let ended = commands::act(stage, op);
-        keep_outcome(ended, &mut console.answer);
+        return keep_outcome(ended, &mut console.answer);
     }
+    SILENT
 }
 
-/// Takes the last command back, in place. False in a draft, which doesn't have this call; then nothing has changed.
+/// Takes the last command back, in place. A draft doesn't have this call.
 #[inline(never)]
-pub(crate) fn undo(console: &mut Console) -> bool
-    ensures { UnlessLacking (is_draft console.old.stage) (λ x y. Makes x (Call.Give Command.Undo) y) console.old console.new result }
+pub(crate) fn undo(console: &mut Console) -> u32
+    ensures { ConsoleHeeds console.old (gives Command.Undo) console.new result }
 {
     match &mut console.stage {
         Some(Stage::Session(session)) => {
             let ended = session.undo();
-            keep_move(ended, &mut console.answer);
+            keep_move(ended, &mut console.answer)
         }
-        Some(Stage::Drafting(_)) => return false,
-        None => {}
+        Some(Stage::Drafting(_)) => IN_DRAFT,
+        None => SILENT,
     }
-    true
 }
 
-/// Does the next command again, in place. False in a draft, which doesn't have this call; then nothing has changed.
+/// Does the next command again, in place. A draft doesn't have this call.
 #[inline(never)]
-pub(crate) fn redo(console: &mut Console) -> bool
-    ensures { UnlessLacking (is_draft console.old.stage) (λ x y. Makes x (Call.Give Command.Redo) y) console.old console.new result }
+pub(crate) fn redo(console: &mut Console) -> u32
+    ensures { ConsoleHeeds console.old (gives Command.Redo) console.new result }
 {
     match &mut console.stage {
         Some(Stage::Session(session)) => {
             let ended = session.redo();
-            keep_move(ended, &mut console.answer);
+            keep_move(ended, &mut console.answer)
         }
-        Some(Stage::Drafting(_)) => return false,
-        None => {}
+        Some(Stage::Drafting(_)) => IN_DRAFT,
+        None => SILENT,
     }
-    true
 }
 
-/// A change for which the session or draft has to be moved.
-pub(crate) fn change(alloc: Global, console: &mut Console, wanted: Change<'_>)
-    ensures { Makes console.old (Call.Give (Command.Change wanted.entry)) console.new }
+/// A change: of a session one command, which moves it, and of a draft steps.
+#[inline(never)]
+pub(crate) fn change(alloc: Global, console: &mut Console, wanted: Change<'_>) -> u32
+    ensures { ConsoleHeeds console.old (changes wanted.entry) console.new result }
 {
-    let Some(stage) = console.stage.take() else {
-        return;
-    };
-    let (stage, ended) = commands::change(alloc, stage, wanted);
-    console.stage = Some(stage);
-    keep_outcome(ended, &mut console.answer);
+    match console.stage.take() {
+        Some(Stage::Session(session)) => {
+            let (session, ended) = session.change(alloc, wanted);
+            console.stage = Some(Stage::Session(session));
+            keep_outcome(ended, &mut console.answer)
+        }
+        Some(Stage::Drafting(drafting)) => {
+            let mut drafting = drafting;
+            let ended = change_in(alloc, &mut drafting.draft, wanted);
+            console.stage = Some(Stage::Drafting(drafting));
+            keep_outcome(ended, &mut console.answer)
+        }
+        None => SILENT,
+    }
 }
 
 /// A call for which the session or draft has to be moved.
-fn carry(alloc: Global, console: &mut Console, wanted: Call<'_>)
-    ensures { Makes console.old wanted.entry console.new }
+fn carry(alloc: Global, console: &mut Console, wanted: Call<'_>) -> u32
+    ensures { ConsoleHeeds console.old (calls wanted.entry) console.new result }
 {
     let Some(stage) = console.stage.take() else {
-        return;
+        return SILENT;
     };
     let (stage, told) = commands::make(alloc, stage, wanted);
     console.stage = Some(stage);
     keep(&told, &mut console.answer);
+    kind(&told, &console.answer)
 }
 
+/// Makes a call, keeps its answer, and says what C is told of it. A call that the session or draft doesn't have changes nothing.
 #[inline(always)]
-fn give(alloc: Global, console: &mut Console, command: Command<'_>)
-    ensures { Makes console.old (Call.Give command.entry) console.new }
-{
-    match command {
-        Command::Change(wanted) => change(alloc, console, wanted),
-        Command::Ask(question) => ask(console, question),
-        Command::Undo => {
-            undo(console);
-        }
-        Command::Redo => {
-            redo(console);
-        }
-    }
-}
-
-/// Makes a call, and keeps its answer.
-#[inline(always)]
-pub fn make(alloc: Global, console: &mut Console, wanted: Call<'_>)
-    ensures { Makes console.old wanted.entry console.new }
+pub fn make(alloc: Global, console: &mut Console, wanted: Call<'_>) -> u32
+    ensures { ConsoleHeeds console.old (calls wanted.entry) console.new result }
 {
     match wanted {
-        Call::Give(command) => give(alloc, console, command),
+        Call::Give(Command::Change(wanted)) => change(alloc, console, wanted),
+        Call::Give(Command::Ask(question)) => ask_apart(console, question),
+        Call::Give(Command::Undo) => undo(console),
+        Call::Give(Command::Redo) => redo(console),
         wanted => carry(alloc, console, wanted),
     }
 }
 
 /// Answers a question about the model shown, and keeps the answer.
 #[inline(always)]
-pub fn ask(console: &mut Console, question: Question)
-    ensures { Makes console.old (Call.Give (Command.Ask question)) console.new }
+pub fn ask(console: &mut Console, question: Question) -> u32
+    ensures { ConsoleHeeds console.old (gives (Command.Ask question)) console.new result }
 {
     if let Some(stage) = &console.stage {
         let told = commands::ask(stage.arena(), question);
         keep(&told, &mut console.answer);
+        return kind(&told, &console.answer);
     }
+    SILENT
+}
+
+/// Does what `ask` does. The stack space for answers is in this function, so that no other command pays for it.
+#[inline(never)]
+fn ask_apart(console: &mut Console, question: Question) -> u32
+    ensures { ConsoleHeeds console.old (gives (Command.Ask question)) console.new result }
+{
+    ask(console, question)
 }
 
 /// Answers a question about the model shown, and keeps nothing.

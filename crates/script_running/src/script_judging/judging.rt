@@ -2,6 +2,7 @@
 ghost use Rattle.std.specs.Prelude.{◌≡◌, ◌<◌, ◌≤◌};
 ghost use Rattle.script_running.specs.script_judging.Judging.{one_line, counted};
 ghost use Rattle.script_running.specs.Outs.{complains, is_clean};
+ghost use Rattle.script_running.specs.script_judging.Consoles.{status_of};
 
 use solid_listing::Reply;
 
@@ -14,6 +15,23 @@ pub enum Answer {
     Reply(Reply),
     /// The listing of the model held.
     Listing,
+}
+
+/// What C is told of an answer.
+pub fn status(answer: &Answer) -> u32
+    ensures { result ≡ status_of answer.now }
+{
+    match answer {
+        Answer::Silent => 0,
+        Answer::Reply(Reply::Done) => 1,
+        Answer::Reply(Reply::Refused(_, _)) => 2,
+        Answer::Reply(Reply::Fault(_)) => 3,
+        Answer::Reply(Reply::Memory) => 4,
+        Answer::Reply(Reply::Plane(_, _)) => 5,
+        Answer::Reply(Reply::Volume(_)) => 6,
+        Answer::Reply(Reply::Count(_)) => 7,
+        Answer::Listing => 8,
+    }
 }
 
 /// What a run counted.

@@ -1,5 +1,5 @@
 //! Runs over readers and writers that cut and fail.
-use super::streams::{Flushed, Halt, Interrupted, Pieces, Taker};
+use super::streams::{Asking, Flushed, Halt, Interrupted, Pieces, Taker};
 use crate::{RunFault, Summary, run};
 use std::alloc::Global;
 use std::io::Read;
@@ -38,6 +38,18 @@ fn told(alloc: Global, script: &[u8]) -> Result<Vec<u8>, Fail> {
     let mut out = Vec::new(alloc);
     run(alloc, script, &mut out, false)?;
     Ok(out)
+}
+
+/// A reader that asks for the answers to its whole lines before each read gets them.
+#[test]
+fn answers_before_reads(rt: HostRuntime) {
+    let mut out = Vec::new(rt.alloc());
+    let lines = Asking {
+        bytes: b"kvfs 1\nlist\n",
+    };
+    let ended = run(rt.alloc(), lines, &mut out, false);
+    assert!(rt; ended.is_ok());
+    assert!(rt; out.as_slice() == b"refused 2 1\nempty\n".as_slice());
 }
 
 /// Asserts what a run counts.

@@ -1,5 +1,8 @@
 //! Readers and writers over memory that cut and fail.
-use crate::Outlet;
+ghost use Rattle.std.specs.Prelude.{◌≡◌, ◌++◌, ℕ, List, Some, codes, false};
+ghost use Rattle.script_running.specs.Reaching.{AnswersWhole};
+
+use crate::{Inlet, Outlet};
 use std::io::{self, ErrorKind, Read, Write};
 
 /// A reader of a few bytes at a time, which fails after so many reads.
@@ -42,6 +45,36 @@ impl Read for Interrupted<'_> {
         buf[..n].copy_from_slice(&self.bytes[..n]);
         self.bytes = &self.bytes[n..];
         Ok(n)
+    }
+}
+
+/// A reader of two lines, for one who sends a line only once the line before is answered. So it asks for the answers to the whole lines that it gave,
+/// and a read before they are written fails.
+#[derive(Drop)]
+pub struct Asking<'a> {
+    pub bytes: &'a [u8],
+}
+
+/// How long the answers are to the whole lines before this rest.
+fn answered(rest: &[u8]) -> usize {
+    match rest.len() {
+        0 => 18,
+        1..=5 => 12,
+        _ => 0,
+    }
+}
+
+impl Inlet<Vec<u8>> for Asking<'_> {
+    ghost remaining = { λ r. Some r.bytes.now };
+
+    ghost asks = { λ r contents. (given : List ℕ) × (out : List ℕ) × (codes "kvfs 1\nlist\n" ≡ given ++ r.bytes.now) × (contents ≡ Some out) × AnswersWhole false given out };
+
+    fn read_after(&mut self, writer: &Vec<u8>, buf: &mut [u8]) -> io::Result<usize> {
+        if writer.len() != answered(self.bytes) {
+            return Err(io::Error::from(ErrorKind::Other));
+        }
+        let most = buf.len().min(4);
+        self.bytes.read(&mut buf[..most])
     }
 }
 

@@ -9,9 +9,9 @@ unfoldable pub use Rattle.euler_operators.specs.Common.{after, before, code, con
 pub use Rattle.euler_operators.specs.declared.{Op.Op, Refusal.Refusal}
 pub use Rattle.script_running.specs.declared.script_judging.judging.Answer.{Answer}
 pub use Rattle.script_running.specs.declared.script_judging.calls.Console.{Console}
-pub use Rattle.script_running.specs.script_judging.Consoles.{IsNew, Makes, Measures, UnlessLacking, act_of, answer_after, is_draft, lacks}
-pub use Rattle.script_running.specs.script_judging.Hearing.{Hears, Spoken, gives, lacks_said, spoken, tells}
-unfoldable pub use Rattle.script_running.specs.script_judging.Hearing.{Says}
+pub use Rattle.script_running.specs.script_judging.Consoles.{Asked, Heeds, IsNew, act_of, answer_after, calls, keeps, kind_told, status_of}
+unfoldable pub use Rattle.script_running.specs.script_judging.Consoles.{ConsoleHeeds}
+pub use Rattle.script_running.specs.script_judging.Hearing.{gives, spoken}
 pub use Rattle.session_slots.specs.declared.answers.{Counts.Counts, PlaneRow.PlaneRow, Refused.Refused, Wide.Wide}
 pub use Rattle.session_slots.specs.declared.cycles.HalfEdgeRow.{HalfEdgeRow}
 pub use Rattle.session_slots.specs.declared.readers.{EdgeRow.EdgeRow, FaceRow.FaceRow, Place.Place}

@@ -1,13 +1,10 @@
-use Rattle.std.proofs.Common.{◌∙◌, refl, ap, subst}
-use Rattle.session_slots.specs.Common.{status_of, Slot_makes_part}
-use Rattle.session_slots.specs.declared.slot.Slot.{Slot}
-use Rattle.gwb_c.specs.Handle.{none}
-use Rattle.gwb_c.proofs.Going.{part_made}
-use Rattle.gwb_c.proofs.Turning.{goes_on}
+use Rattle.session_slots.specs.Common.{Counts_in, part_asked}
+use Rattle.session_slots.specs.Opening.{stage_in}
+use Rattle.gwb_c.proofs.Going.{goes, stays}
 use Rattle.gwb_c.proofs.parts.part.Goals as goal
 
+pub put-requires-clause-staged : goal.put-requires-clause-staged
+put-requires-clause-staged c = let k = c.part-kind in stays c.in-Some.slot _ k.new.slot c.slot_mut.ensures.value c.in-Some.ensures.staged _ _ k.ensures.heeds
+
 pub returns : goal.returns
-returns c =
-    let fs = c.args.faces.now in let t = c.args.solid in let after = c.part.new.slot in
-    part_made c.args.gwb.now.kept.value c.in-Some.slot c.in-Some.ensures.slot c.put.new.gwb.kept.value c.status-kind.result fs t c.in-Some.ensures.staged (goes_on none (λ x y. Slot_makes_part x fs t y) c.args.gwb.now.kept.value c.in-Some.slot c.in-Some.ensures.slot c.put.new.gwb.kept.value c.status-kind.result refl after c.put.ensures
-    (c.status-kind.ensures ∙ ap (λ (x : Slot). status_of x.console.answer) c.slot.ensures) (subst (λ x. Slot_makes_part x fs t after) c.slot_mut.ensures.value c.part.ensures))
+returns c = let k = c.part-kind in goes c.in-Some.slot _ k.new.slot c.slot_mut.ensures.value c.in-Some.ensures.staged (λ o. part_asked (stage_in o) c.args.faces.now c.args.solid) _ (λ x y. Counts_in x y.before) _ _ c.in-Some.ensures.slot c.put.ensures k.ensures.heeds k.ensures.noted

@@ -1,7 +1,11 @@
-use Rattle.script_running.proofs.Prelude.{◌≡◌, ◌∙◌, Err, Ok, ap, err_from_is_err_and, sym, Consumes-nil}
+use Rattle.script_running.proofs.Prelude.{◌≡◌, ◌∙◌, Err, Ok, ap, err_from_is_err_and, subst, sym, Consumes-nil}
+use Rattle.script_running.specs.Reaching.{AsksAnswers}
 use Rattle.script_running.proofs.Reaching.{finished as reached_at_the_end}
 use Rattle.script_running.proofs.RunLaws.{from_start, finished, nothing_runs}
 use Rattle.script_running.proofs.running.run_in.Goals as goal
+
+pub run_lines-requires-clause-asked : goal.run_lines-requires-clause-asked
+run_lines-requires-clause-asked g c = subst (λ r. AsksAnswers g.R.Inlet.remaining g.R.Inlet.asks r (g.W.Write.contents c.args.writer.now) c.args.stop) (sym c.in-Ok.ensures.reader) c.requires.asked
 
 pub returns-in_default-clause-runs : goal.returns-in_default-clause-runs
 returns-in_default-clause-runs g c = nothing_runs _ _ _ c.args.stop _ (Consumes-nil (g.R.Inlet.remaining c.args.reader)) c.requires.start

@@ -1,6 +1,6 @@
 use Rattle.script_running.proofs.Prelude.{◌≡◌, ◌+◌, ℕ, refl, sym, ap, subst, ◌∙◌, arith, Summary, new_journal, outgoing, reader_of, no_lines}
 use Rattle.script_running.proofs.Counting.{IsWithin, same_counts, counted_within, one_more}
-use Rattle.script_running.proofs.RunLaws.{Progress, Heard, begins, flushed, turn_of, goes_on, heard_line, heard_long, ends, read_fails, too_long, telling_fails, stops_there, flush_fails, falls}
+use Rattle.script_running.proofs.RunLaws.{Progress, Heard, begins, flushed, turn_of, goes_on, may_read, heard_line, heard_long, ends, read_fails, too_long, telling_fails, stops_there, flush_fails, falls}
 use Rattle.script_running.proofs.running.run_lines.Goals.{in-Line, in-Long}
 use Rattle.script_running.proofs.Reaching.{failed_write, left}
 use Rattle.script_reader.specs.declared.lines.Found.TheVariants as found
@@ -22,6 +22,11 @@ script-init g c =
       within = subst IsWithin (sym zero) (record { refused = omega arith; faults = omega arith; memory = omega arith });
       bound = rw (zero, fresh.taken, fresh.unread) (omega arith);
     }
+
+pub advance-requires-clause-asked : goal.advance-requires-clause-asked
+advance-requires-clause-asked g c = λ lacks opened.
+    let at = flushed g.R.Inlet.remaining _ c.script.lines _ (outgoing (g.W.Write.contents c.script.writer) c.script.text) (outgoing (g.W.Write.contents c.flush.new.writer) c.flush.new.text) _ _ _ c.script.invariant.at.progress c.in_default.ensures.tells in
+    may_read g.R.Inlet.remaining g.R.Inlet.asks _ c.script.lines _ (outgoing (g.W.Write.contents c.flush.new.writer) c.flush.new.text) c.args.stop _ _ c.requires.asked at (c.in_default.ensures.none lacks) lacks opened
 
 pub returns-in-Err-clause-runs : goal.returns-in-Err-clause-runs
 returns-in-Err-clause-runs g c =

@@ -1,13 +1,10 @@
-use Rattle.session_slots.specs.Common.{lacks_said, spoken}
-use Rattle.session_slots.proofs.Hearing.{noted, unheard}
+use Rattle.std.proofs.Common.{◌∙◌, ap, sym, subst}
+use Rattle.session_slots.specs.Common.{Console, spoken, taken_of}
+unfoldable use Rattle.session_slots.specs.Common.{ConsoleHeeds}
 use Rattle.session_slots.proofs.calls.hear.Goals as goal
 
-pub returns : goal.returns
-returns c =
-    let x = c.args.slot.now in let line = c.args.line.now in
-    noted line x c.hear.new.console c.hear.result (lacks_said (spoken line) x.console.stage) c.counted_in-before.result c.hear.ensures c.if-not-hear.false c.counted_in-before.ensures
+pub returns-clause-heeds : goal.returns-clause-heeds
+returns-clause-heeds c = subst (λ (x : Console). ConsoleHeeds c.args.slot.now.console (spoken c.args.line.now) x c.hear-kind.result) (sym c.note.ensures.console) c.hear-kind.ensures
 
-pub returns-then-not-hear : goal.returns-then-not-hear
-returns-then-not-hear c =
-    let x = c.args.slot.now in let line = c.args.line.now in
-    unheard line x c.hear.new.console c.hear.result (lacks_said (spoken line) x.console.stage) c.hear.ensures c.if-not-hear.true
+pub returns-clause-noted : goal.returns-clause-noted
+returns-clause-noted c = ((λ had g is. ap taken_of (c.note.ensures.had had) ∙ c.counted_in-before.ensures g is), c.note.ensures.lacking)

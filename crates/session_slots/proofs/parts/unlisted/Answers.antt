@@ -1,4 +1,4 @@
-use Rattle.session_slots.proofs.Prelude.{◌≡◌, ◌∙◌, Some, None, refl, subst, Op, Refusal, Model, Told, Stage, shown, Tells, act_of}
+use Rattle.session_slots.proofs.Prelude.{◌≡◌, Some, None, refl, subst, Op, Refusal, Model, Told, Stage, shown, Tells, act_of}
 use Rattle.commands.specs.declared.stage.Stage.TheVariants.{Session, Drafting}
 use Rattle.euler_operators.specs.Common.{first_false}
 use Rattle.session_slots.proofs.Queried.{is_false, none_false}

@@ -1,12 +1,13 @@
 use Rattle.script_reader.proofs.Prelude.{◌≡◌, ◌⊎◌, inl, inr, ◌<◌, ◌∙◌, refl, sym, ap, subst, rules, arith, length, true, ℕ, List, [], TakesLine, Lacks, LastAnswer, Ending, Open}
 use borrow.Author.Tests.{ltb-true}
 use Rattle.script_reader.proofs.NewlineLaws.{has-lacks}
-use Rattle.script_reader.proofs.LinesLaws.{Waits, starts, clears, reads, long_line, last_answer, Waits-same, not_ready, open_not_ended}
+use Rattle.script_reader.specs.Reaching.{MayRead}
+use Rattle.script_reader.proofs.LinesLaws.{Waits, starts, clears, reads, reads_on, long_line, last_answer, Waits-same, not_ready, open_not_ended}
 use Rattle.script_reader.proofs.lines.Lines.advance.Goals as goal
 use Rattle.script_reader.proofs.lines.Lines.advance.Goals.{then-is_long, else-is_long, then-len-gt-LINE_LIMIT, else-len-gt-LINE_LIMIT}
 
 pub loop-self-init : goal.loop-self-init
-loop-self-init g c = (starts (g.R.Inlet.remaining c.args.self.now.reader) c.args.self.now.taken c.args.self.now.buffer.unread, λ e f. absurd (open_not_ended _ e f), λ _. (record { reader = refl; taken = refl; ending = refl }, refl), c.requires.handed_on)
+loop-self-init g c = (starts (g.R.Inlet.remaining c.args.self.now.reader) c.args.self.now.taken c.args.self.now.buffer.unread, λ e f. absurd (open_not_ended _ e f), λ _. (record { reader = refl; taken = refl; ending = refl }, refl), c.requires.handed_on, c.requires.asked)
 
 pub returns-then-line-gt-LINE_LIMIT : goal.returns-then-line-gt-LINE_LIMIT
 returns-then-line-gt-LINE_LIMIT g c =
@@ -52,12 +53,21 @@ loop-self-preserved g c =
           (clears (g.R.Inlet.remaining first.reader) (g.R.Inlet.remaining old.reader) first.taken old.taken first.buffer.unread c.take_line.new.self.unread c.loop-self.is_long before lacks (omega arith))
       | else-len-gt-LINE_LIMIT w ↦ Waits-same (g.R.Inlet.remaining first.reader) (g.R.Inlet.remaining old.reader) (g.R.Inlet.remaining mid.reader) first.taken old.taken mid.taken first.buffer.unread c.take_line.new.self.unread mid.buffer.unread c.loop-self.is_long c.if-len-gt-LINE_LIMIT.is_long
           (search rules) (search rules) (search rules) (assumption) before
-    ] in (
+    ] in
+    let same : mid.reader ≡ old.reader = elim c.if-len-gt-LINE_LIMIT.branch [ then-len-gt-LINE_LIMIT w ↦ search rules | else-len-gt-LINE_LIMIT w ↦ search rules ] in (
       reads (g.R.Inlet.remaining first.reader) (g.R.Inlet.remaining mid.reader) (g.R.Inlet.remaining new.reader) first.taken mid.taken new.taken first.buffer.unread mid.buffer.unread new.buffer.unread c.if-len-gt-LINE_LIMIT.is_long waits c.fill.ensures.reads (search rules),
       λ e. c.fill.ensures.end,
       λ ready. absurd (not_ready first old ready (c.loop-self.invariant.2 ready).0 (c.loop-self.invariant.2 ready).1 is_open rest.1),
       λ _. c.loop-self.invariant.3 (has-lacks old.buffer.unread rest.1),
+      λ none opened. reads_on g.R.Inlet.remaining g.R.Inlet.asks (g.W.Write.contents c.args.writer.now) mid.reader new.reader mid.taken new.taken mid.buffer.unread new.buffer.unread
+          (subst (λ r. MayRead g.R.Inlet.remaining g.R.Inlet.asks r (g.W.Write.contents c.args.writer.now)) (sym same) (c.loop-self.invariant.4 (has-lacks old.buffer.unread rest.1) is_open)) c.fill.ensures.reads (new.within (λ o. cc (o, opened))) none,
     )
+
+pub fill-requires-clause-asked : goal.fill-requires-clause-asked
+fill-requires-clause-asked g c =
+    let rest = subst (TakesLine c.loop-self.self.buffer c.take_line.new.self) c.if-take_line.false c.take_line.ensures in
+    let same : c.if-len-gt-LINE_LIMIT.self.reader ≡ c.loop-self.self.reader = elim c.if-len-gt-LINE_LIMIT.branch [ then-len-gt-LINE_LIMIT w ↦ search rules | else-len-gt-LINE_LIMIT w ↦ search rules ] in
+    rw same (c.loop-self.invariant.4 (has-lacks c.loop-self.self.buffer.unread rest.1) (search rules))
 
 pub fill-requires-clause-handed_on : goal.fill-requires-clause-handed_on
 fill-requires-clause-handed_on g c =

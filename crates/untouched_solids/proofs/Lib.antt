@@ -1,0 +1,4 @@
+mod Prelude
+mod Stands
+mod Frames
+mod Untouched
