@@ -19,8 +19,15 @@ void asked_free(struct asked *a)
 /* ---- what solids were */
 
 /* The solids that were touched, and the place of one among them, or where it would stand. */
-static uint32_t *solids(const struct asked *a) { return a->solids.items; }
-static size_t place_of(const struct asked *a, uint32_t solid) { return first_from(solids(a), a->solids.count, sizeof solid, solid); }
+static struct written *solids(const struct asked *a) { return a->solids.items; }
+static size_t place_of(const struct asked *a, uint32_t solid) { return first_from(solids(a), a->solids.count, sizeof(struct written), solid); }
+
+/* A solid that is written down, or NULL. */
+static const struct written *written_of(const struct asked *a, uint32_t solid)
+{
+    const size_t place = place_of(a, solid);
+    return place < a->solids.count && solids(a)[place].solid == solid ? &solids(a)[place] : NULL;
+}
 
 static bool write_faces(struct solids *to, const gwb *g, uint32_t solid)
 {
@@ -52,39 +59,82 @@ static bool write_thing(struct list *to, const struct births *b, uint32_t kind, 
     return list_add(to, &(struct thing){key, birth_of(b, key)});
 }
 
-/* The births of what a solid has; its half-edges are written from a place on. */
-static bool write_things(struct asked *a, const struct births *b, const gwb *g, uint32_t solid, size_t from)
+/* The births of what a solid has. */
+static bool write_things(struct asked *a, const struct births *b, const gwb *g, const struct written *it)
 {
-    const gwb_half_edge_row *rows = a->before.half_edges.items;
+    const gwb_half_edge_row *rows = (gwb_half_edge_row *)a->before.half_edges.items + it->from;
     bool is_well = true;
-    for (uint32_t face = 0; is_well && gwb_face_after(g, solid, face, &face) == GWB_FOUND;)
+    for (uint32_t face = 0; is_well && gwb_face_after(g, it->solid, face, &face) == GWB_FOUND;)
         is_well = write_thing(&a->things, b, GWB_FACE, face);
-    for (size_t i = from; is_well && i < a->before.half_edges.count; i++)
+    for (size_t i = 0; is_well && i < it->count; i++)
         is_well = write_thing(&a->things, b, GWB_VERTEX, rows[i].start) &&
                   (rows[i].half_edge % 2 != 0 || write_thing(&a->things, b, GWB_EDGE, rows[i].half_edge / 2));
     return is_well;
 }
 
-/* Writes down what a solid is, if it isn't written down yet. Where all were, it has been made since. */
-void asked_write(struct asked *a, const struct births *b, const gwb *g, uint32_t solid)
+/* Whether a solid is the same later on, by its half-edges and where these start. */
+static bool is_same_later(const struct asked *a, const struct written *it, const struct asked *later)
 {
-    const size_t place = place_of(a, solid), half_edges = a->before.half_edges.count;
-    if (a->is_lost || a->are_all || (place < a->solids.count && solids(a)[place] == solid))
-        return;
-    if (!list_reserve(&a->solids, a->solids.count + 1) || !write_half_edges(&a->before, g, solid) || !write_things(a, b, g, solid, half_edges)) {
-        a->is_lost = true;
-        return;
-    }
-    uint32_t *at = solids(a) + place;
-    memmove(at + 1, at, (a->solids.count++ - place) * sizeof *at);
-    *at = solid;
+    const struct written *then = written_of(later, it->solid);
+    if (then == NULL || then->count != it->count)
+        return false;
+    const gwb_half_edge_row *rows = (gwb_half_edge_row *)a->before.half_edges.items + it->from;
+    const gwb_vertex_row *starts = (gwb_vertex_row *)a->before.vertices.items + it->from, *others = (gwb_vertex_row *)later->before.vertices.items + then->from;
+    bool is_same = it->count == 0 || memcmp(rows, (gwb_half_edge_row *)later->before.half_edges.items + then->from, it->count * sizeof *rows) == 0;
+    for (size_t i = 0; is_same && i < it->count; i++)
+        is_same = memcmp(&starts[i].point, &others[i].point, sizeof starts->point) == 0;
+    return is_same;
 }
 
-void asked_write_all(struct asked *a, const struct births *b, const gwb *g)
+/* Writes down what a solid is, but where that is the same later on. False where memory is refused. */
+static bool write_solid(struct asked *a, const struct births *b, const gwb *g, uint32_t solid, const struct asked *later)
 {
-    for (uint32_t solid = 0; !a->is_lost && gwb_number_after(g, GWB_SOLID, solid, &solid) == GWB_FOUND;)
-        asked_write(a, b, g, solid);
+    const size_t place = place_of(a, solid), from = a->before.half_edges.count;
+    if (!list_reserve(&a->solids, a->solids.count + 1) || !write_half_edges(&a->before, g, solid))
+        return false;
+    const struct written it = {solid, from, a->before.half_edges.count - from};
+    if (later != NULL && is_same_later(a, &it, later)) {
+        a->before.half_edges.count = a->before.vertices.count = from;
+        return true;
+    }
+    struct written *at = solids(a) + place;
+    memmove(at + 1, at, (a->solids.count++ - place) * sizeof *at);
+    *at = it;
+    return b == NULL || write_things(a, b, g, &it);
+}
+
+/* Where all solids were written down, it has been made since. */
+static void write_unless_written(struct asked *a, const struct births *b, const gwb *g, uint32_t solid, const struct asked *later)
+{
+    if (!a->is_lost && !a->are_all && written_of(a, solid) == NULL)
+        a->is_lost = !write_solid(a, b, g, solid, later);
+}
+
+/* Writes down all but those that are written down later on. */
+static void write_all(struct asked *a, const struct births *b, const gwb *g, const struct asked *later)
+{
+    for (uint32_t solid = 0; gwb_number_after(g, GWB_SOLID, solid, &solid) == GWB_FOUND;)
+        if (later == NULL || written_of(later, solid) == NULL)
+            write_unless_written(a, b, g, solid, NULL);
+}
+
+void asked_write(struct asked *a, const struct births *b, const gwb *g, uint32_t solid)
+{
+    if (solid != 0) {
+        write_unless_written(a, b, g, solid, NULL);
+        return;
+    }
+    write_all(a, b, g, NULL);
     a->are_all = !a->is_lost;
+}
+
+void asked_write_changed(struct asked *a, const struct births *b, const gwb *g, const struct asked *later)
+{
+    a->is_lost = later->is_lost;
+    for (size_t at = 0; at < later->solids.count; at++)
+        write_unless_written(a, b, g, solids(later)[at].solid, later);
+    if (later->are_all)
+        write_all(a, b, g, later);
 }
 
 /* ---- comparing */
@@ -93,8 +143,8 @@ void asked_write_all(struct asked *a, const struct births *b, const gwb *g)
 static uint32_t touched_after(const gwb *g, const struct asked *a, uint32_t solid)
 {
     size_t place = place_of(a, solid);
-    place += place < a->solids.count && solids(a)[place] == solid;
-    const uint32_t touched = place < a->solids.count ? solids(a)[place] : 0;
+    place += place < a->solids.count && solids(a)[place].solid == solid;
+    const uint32_t touched = place < a->solids.count ? solids(a)[place].solid : 0;
     uint32_t found = 0;
     if (a->are_all)
         gwb_number_after(g, GWB_SOLID, solid, &found);
@@ -187,7 +237,7 @@ bool asked_compare(struct asked *a, const struct births *b, const gwb *g, struct
     sort(&a->things);
     bool is_well = !a->is_lost && write_after(&after, a, g) && mark(b, a) && history_find(&a->before, &after, changes, became);
     free_solids(&after);
-    for (uint32_t of = OF_FACES; is_well && of <= OF_EDGES; of++)
+    for (uint32_t of = OF_FACES; is_well && changes != NULL && of <= OF_EDGES; of++)
         for (uint32_t which = MADE; which <= REMOVED; which++)
             put_births(b, a, of == OF_FACES ? GWB_FACE : GWB_EDGE, which == MADE, &changes[of][which]);
     if (is_well)

@@ -20,6 +20,9 @@ struct beside {
     gwb_stop stop;         /* whether a feature is to end, or NULL */
     void *stop_user;
     void *known; /* what features have read of the model, or NULL */
+    gwb_became_row *became; /* what came of what, as it was found last (last.h), or NULL */
+    size_t became_count;
+    uint64_t became_at; /* one more than `changes` was then: 0 where it isn't to be told any more */
 };
 
 /* NULL where the kernel alone opened the session, without calls.c. */
@@ -36,6 +39,9 @@ static inline void end_several(const gwb *g, bool is_accepted)
     if (beside_of(g) != NULL)
         beside_of(g)->end_several(g, is_accepted);
 }
+
+/* Whether a text is the listing of the model: the kernel's own answer, which is proved. GWB_FOUND, GWB_ABSENT, GWB_MEMORY or GWB_CLOSED. A reader. */
+uint32_t gwb_lent_is_listing(gwb *copy, const char *text, size_t n);
 
 /* Whether the caller ends what takes long. */
 static inline bool is_stopped(const gwb *g)

@@ -2,9 +2,10 @@
  * makes of the names in the lines CALL, CHANGE and OTHER. */
 #include "beside.h"
 #include "heap.h"
+#include "last.h"
 #include "record.h"
 #include "watch.h"
-#include <string.h>
+#include "words.h"
 
 static inline enum gwb_kind counted(const gwb *g, enum gwb_kind kind)
 {
@@ -79,22 +80,6 @@ enum gwb_kind kernel_gwb_lack(gwb *g);
         return counted(g, answer);                                                                                                         \
     }
 
-/* The words of commands, and what their values are (watch.h): those that a script has first. */
-static const struct word {
-    const char *word, *kinds;
-} words[] = {{"mvfs", "SFLV"}, {"kvfs", "s"},   {"mev", "h_EV"},   {"kev", "h"},    {"mef", "h_EFL"}, {"kef", "h"},  {"kemr", "hL"},
-             {"mekr", "hhE"},  {"kfmrh", "ff"}, {"mfkrh", "lF"},   {"ringmv", "lf_"}, {"lamina", "S*"}, {"block", "S*"}, {"sweep", "f*"},
-             {"glue", "gg+"},   {"split", "s____S*+"}, {"outer", "lf"}, {"merge", "ss"}, {"part", "fS"}};
-enum { WORDS = sizeof words / sizeof *words, SCRIPT_WORDS = WORDS - 3, MOST_VALUES = 8 };
-
-static const char *kinds_of(const char *word)
-{
-    size_t at = 0;
-    while (at + 1 < WORDS && strcmp(words[at].word, word) != 0)
-        at++;
-    return words[at].kinds;
-}
-
 /* One whose line is its word and its values, of these forms (record.h). */
 #define CHANGE(name, form, parameters, ...)                                                                                                \
     COMMAND(name, parameters, (g, __VA_ARGS__), record_write(r, #name, form, (const int64_t[]){__VA_ARGS__}, COUNT(__VA_ARGS__)),          \
@@ -103,6 +88,7 @@ static const char *kinds_of(const char *word)
 
 CALL(lent_reply, size_t, (gwb *g, char *buf, size_t room), (g, buf, room))
 CALL(lent_listing, size_t, (gwb *g, char *buf, size_t room), (g, buf, room))
+CALL(lent_is_listing, uint32_t, (gwb *g, const char *text, size_t n), (g, text, n))
 CHANGE(mvfs, "nnnnx", (gwb *g, uint32_t solid, uint32_t face, uint32_t loop, uint32_t vertex, int64_t x, int64_t y, int64_t z), solid, face,
        loop, vertex, x, y, z)
 CHANGE(kvfs, "n", (gwb *g, uint32_t solid), solid)
@@ -148,7 +134,7 @@ static bool write_part(struct record *r, const uint32_t *faces, size_t n, uint32
 }
 
 COMMAND(part, (gwb *g, const uint32_t *faces, size_t n, uint32_t solid), (g, faces, n, solid), write_part(r, faces, n, solid),
-        watch_touch(w, g, kinds_of("part"), (const int64_t[]){n > 0 ? faces[0] : 0, solid}, 2))
+        watch_touch(w, g, kinds_of("part"), (const int64_t[]){solid, n > 0 ? faces[0] : 0}, 2))
 COMMAND(lamina, (gwb *g, uint32_t solid, const gwb_point *points, size_t n), (g, solid, points, n), write_lamina(r, solid, points, n),
         watch_touch(w, g, kinds_of("lamina"), (const int64_t[]){solid}, 1))
 
@@ -206,8 +192,10 @@ enum gwb_kind gwb_draft(gwb *g)
         record_draft(r);
     if (w != NULL && answer == GWB_OK)
         watch_draft(w);
-    if (answer == GWB_OK)
+    if (answer == GWB_OK) {
         beside_of(g)->is_drafting = true;
+        forget_became(beside_of(g));
+    }
     gwb_used = before;
     return answer;
 }
@@ -220,44 +208,14 @@ enum gwb_kind gwb_commit(gwb *g)
         record_commit(beside_of(g)->record);
     if (answer == GWB_OK && beside_of(g)->watch != NULL)
         watch_commit(beside_of(g)->watch);
-    if (answer == GWB_OK)
+    if (answer == GWB_OK) {
         beside_of(g)->is_drafting = false;
+        forget_became(beside_of(g));
+    }
     return answer;
 }
 
 /* ---- lines */
-
-/* Whether a byte stands between words. */
-static bool is_blank(char c) { return c == ' ' || c == '\t' || c == '\r'; }
-
-/* Whether the first word of a line is this one. */
-static bool begins_with(const char *line, size_t n, const char *word)
-{
-    const size_t length = strlen(word);
-    for (; n > 0 && is_blank(*line); n--)
-        line++;
-    return n >= length && memcmp(line, word, length) == 0 && (n == length || is_blank(line[length]));
-}
-
-/* The command with whose word a line begins: NULL where that is none, or undo or redo. */
-static const struct word *command_of(const char *line, size_t n)
-{
-    size_t at = 0;
-    while (at < SCRIPT_WORDS && !begins_with(line, n, words[at].word))
-        at++;
-    return at < SCRIPT_WORDS ? &words[at] : NULL;
-}
-
-/* The word after a place, where it ends, and its number, without the sign. */
-static const char *read_value(const char *at, const char *end, int64_t *value)
-{
-    while (at < end && is_blank(*at))
-        at++;
-    for (*value = 0; at < end && !is_blank(*at); at++)
-        if (*at >= '0' && *at <= '9' && *value < UINT32_MAX)
-            *value = 10 * *value + (*at - '0');
-    return at;
-}
 
 /* Before a line is answered: what it makes is told by its first values. */
 static void touch_by_line(struct watch *w, const gwb *g, const struct word *command, const char *line, size_t n)
@@ -294,7 +252,7 @@ enum gwb_kind gwb_line(gwb *g, const char *line, size_t n)
     if (is_noting(g) && begins_with(line, n, "redo"))
         return followed_redo_line(g, line, n);
     struct used before = entered(g);
-    const struct word *command = is_noting(g) ? command_of(line, n) : NULL;
+    const struct word *command = is_noting(g) ? word_of(line, n, SCRIPT_WORDS) : NULL;
     enum gwb_kind answer = command != NULL ? noted_line(g, command, line, n) : kernel_gwb_line(g, line, n);
     gwb_used = before;
     return counted(g, answer);
@@ -343,6 +301,8 @@ void gwb_close(gwb *g)
     gwb_forget_features(of);
     record_free(of->record);
     watch_free(of->watch);
+    if (of->became != NULL)
+        rattle_dealloc(of->became);
     rattle_dealloc(of);
     gwb_close_pages(pages);
     g->beside = NULL;

@@ -13,7 +13,7 @@ static void *grow(void *user, void *block, size_t size) { return (void)user, rea
 static void give_back(void *user, void *block) { (void)user, free(block); }
 
 static const gwb_heap c_library = {take, grow, give_back, NULL};
-_Thread_local struct used gwb_used = {&c_library, NULL};
+__thread struct used gwb_used = {&c_library, NULL};
 static char nothing;
 
 const gwb_heap *gwb_use_heap(const gwb_heap *heap)
@@ -56,7 +56,7 @@ static void *grow_alone(const gwb_heap *heap, void *block, size_t size)
 
 /* ---- small blocks */
 
-enum { STEP = 16, BINS = 16, MOST_SMALL = BINS * STEP - sizeof(uintptr_t), LEAST_PAGE = 4096, MOST_PAGE = 1 << 16 };
+enum { STEP = 16, BINS = 32, MOST_SMALL = BINS * STEP - sizeof(uintptr_t), LEAST_PAGE = 4096, MOST_PAGE = 1 << 16 };
 
 /* Blocks of one size: each takes `room` bytes and the word before it. */
 struct bin {

@@ -17,13 +17,14 @@ void rattle_dealloc(void *at);
 /* The pages from which a session has its small blocks. */
 struct pages;
 
-/* Where this thread takes blocks: small ones from the pages, where there are any, as in a call that changes a session; others from the heap. */
+/* Where this thread takes blocks: small ones from the pages, where there are any, as in a call that changes a session; others from the heap.
+ * (`__thread` is the same in C and C++.) */
 struct used {
     const gwb_heap *heap;
     struct pages *pages;
 };
 
-extern _Thread_local struct used gwb_used __attribute__((visibility("hidden"), tls_model("initial-exec")));
+extern __thread struct used gwb_used __attribute__((visibility("hidden"), tls_model("initial-exec")));
 
 /* Pages of the heap that this thread uses: none, where each block is to lie alone. False where memory is refused. */
 bool gwb_open_pages(struct pages **pages);

@@ -130,13 +130,16 @@ static bool missing_edges(const struct reading *these, const struct reading *oth
     return true;
 }
 
+static bool find_changes(const struct reading *was, const struct reading *is, struct list changes[2][2])
+{
+    return missing_faces(is, was, face_before, &changes[OF_FACES][MADE]) && missing_faces(was, is, survivor, &changes[OF_FACES][REMOVED]) &&
+           missing_edges(is, was, &changes[OF_EDGES][MADE]) && missing_edges(was, is, &changes[OF_EDGES][REMOVED]);
+}
+
 bool history_find(struct solids *before, struct solids *after, struct list changes[2][2], struct list *became)
 {
     struct reading was = {0}, is = {0};
-    const bool is_well = read_solids(&was, before) && read_solids(&is, after) &&
-                         missing_faces(&is, &was, face_before, &changes[OF_FACES][MADE]) &&
-                         missing_faces(&was, &is, survivor, &changes[OF_FACES][REMOVED]) && missing_edges(&is, &was, &changes[OF_EDGES][MADE]) &&
-                         missing_edges(&was, &is, &changes[OF_EDGES][REMOVED]) &&
+    const bool is_well = read_solids(&was, before) && read_solids(&is, after) && (changes == NULL || find_changes(&was, &is, changes)) &&
                          became_find(&was, &is, became);
     forget(&was);
     forget(&is);

@@ -12,8 +12,8 @@ struct solids {
 /* What there are changes of, and which. */
 enum { OF_FACES, OF_EDGES, MADE = 0, REMOVED };
 
-/* Writes down the changes from what solids were to what they are, each list rising: of gwb_born_change, and what became of things, of
- * gwb_became_row, both without births. False where memory is refused. */
+/* Writes down the changes from what solids were to what they are, each list rising: of gwb_born_change, unless they are NULL, and what became of
+ * things, of gwb_became_row, both without births. False where memory is refused. */
 bool history_find(struct solids *before, struct solids *after, struct list changes[2][2], struct list *became);
 /* Brings what became of things in order, each once. */
 void became_sort(struct list *became);

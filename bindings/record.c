@@ -169,6 +169,13 @@ void record_back(struct record *r, size_t steps)
     r->steps = steps;
 }
 
+const char *record_last(const struct record *r, size_t *n)
+{
+    const size_t from = commands_first(&r->kept, r->kept.held - 1);
+    *n = commands_first(&r->kept, r->kept.held) - from;
+    return text(r) + from;
+}
+
 void record_undo(struct record *r) { r->kept.held--; }
 void record_redo(struct record *r) { r->kept.held++; }
 

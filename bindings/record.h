@@ -29,6 +29,9 @@ void record_commit(struct record *r);
 void record_abandon(struct record *r);
 void record_back(struct record *r, size_t steps);
 
+/* The lines of the last command that is held, outside of a draft. */
+const char *record_last(const struct record *r, size_t *n);
+
 void record_undo(struct record *r);
 void record_redo(struct record *r);
 

@@ -8,6 +8,7 @@
 #include "asked.h"
 #include "beside.h"
 #include "commands.h"
+#include "last.h"
 #include "seeing.h"
 
 /* A call of a draft that is open: where its items begin, and how many steps were there before it. */
@@ -34,7 +35,6 @@ struct watch {
     size_t places;             /* how many were given */
     struct list asked;         /* of struct asked */
     struct list changes[2][2]; /* of gwb_born_change: what was found last (history.h) */
-    struct list became;        /* of gwb_became_row, alike */
 };
 
 #define NO_CHANGES {.size = sizeof(gwb_born_change)}
@@ -58,7 +58,7 @@ struct watch *watch_new(bool is_drafting)
         return NULL;
     struct watch *w = block.at;
     *w = (struct watch){.items = NO_COMMANDS(struct thing), .births = NO_BIRTHS({.size = sizeof(uint64_t)}), .there.size = sizeof(uint32_t),
-                        .calls.size = sizeof(struct call), .asked.size = sizeof(struct asked), .became.size = sizeof(gwb_became_row),
+                        .calls.size = sizeof(struct call), .asked.size = sizeof(struct asked),
                         .changes = {{NO_CHANGES, NO_CHANGES}, {NO_CHANGES, NO_CHANGES}}};
     w->items.is_drafting = is_drafting;
     if (!list_reserve(&w->items.items, 2) || !commands_reserve(&w->items)) {
@@ -94,7 +94,6 @@ void watch_free(struct watch *w)
     list_free(&w->asked);
     list_free(&w->calls);
     list_free(&w->there);
-    list_free(&w->became);
     births_free(&w->births);
     commands_free(&w->items);
     rattle_dealloc(w);
@@ -104,7 +103,7 @@ void watch_free(struct watch *w)
 static void write_solid(struct watch *w, const gwb *g, uint32_t solid)
 {
     for (size_t at = 0; at < w->asked.count; at++)
-        solid != 0 ? asked_write(asked_at(w, at), &w->births, g, solid) : asked_write_all(asked_at(w, at), &w->births, g);
+        asked_write(asked_at(w, at), &w->births, g, solid);
 }
 
 /* ---- which are touched */
@@ -121,8 +120,7 @@ static uint32_t solid_of_loop(const gwb *g, uint32_t loop)
     return gwb_loop(g, loop, &face) == GWB_FOUND ? solid_of_face(g, face) : 0;
 }
 
-/* The solid of a value: 0 where there is none, so that the call will be refused. */
-static uint32_t solid_of(const gwb *g, char kind, int64_t value)
+uint32_t watch_solid_of(const gwb *g, char kind, int64_t value)
 {
     const uint32_t number = (uint32_t)value;
     switch (kind) {
@@ -184,9 +182,9 @@ void watch_touch(struct watch *w, const gwb *g, const char *kinds, const int64_t
     const struct used before = apart();
     bool is_well = begin_call(w, g, kinds);
     for (size_t i = 0; i < n && kinds[i] != '\0'; i++) {
-        const uint32_t value = (uint32_t)values[i], solid = solid_of(g, kinds[i], values[i]);
+        const uint32_t value = (uint32_t)values[i], solid = watch_solid_of(g, kinds[i], values[i]);
         is_well = is_well && (!is_of_several(g) || see_value(&w->births, g, kinds[i], value)) && see_made(&w->births, kinds[i], value);
-        if (solid == 0)
+        if (solid == 0) /* (so that the call will be refused) */
             continue;
         is_well = is_well && (solid > GREATEST_NUMBER || touch(w, solid));
         write_solid(w, g, solid);
@@ -500,11 +498,37 @@ void watch_redo(struct watch *w, const gwb *g)
     gwb_used = before;
 }
 
+/* ---- the last command, without a call */
+
+struct watch *watch_of_last(const gwb *g)
+{
+    struct watch *w = beside_of(g)->watch;
+    return w != NULL && w->items.held > (w->is_unknown ? 1 : 0) ? w : NULL;
+}
+
+const struct births *watch_births(const struct watch *w) { return &w->births; }
+
+void watch_write_last(const struct watch *w, const gwb *g, struct asked *a)
+{
+    size_t count = 0;
+    const struct thing *things = of_command(w, w->items.held - 1, &count);
+    for (size_t i = 0; i < count; i++)
+        if (kind_of(things[i].key) == TOUCHED)
+            asked_write(a, NULL, g, number_of(things[i].key));
+}
+
+void watch_step(struct watch *w, bool is_back)
+{
+    size_t count;
+    struct thing *things = of_command(w, w->items.held - 1, &count);
+    is_back ? births_take_back(&w->births, things, count) : births_restore(&w->births, things, count);
+}
+
 /* ---- what is asked of it */
 
-static void forget_changes(struct watch *w)
+static void forget_changes(struct watch *w, const gwb *g)
 {
-    w->became.count = 0;
+    forget_became(beside_of(g));
     for (size_t of = OF_FACES; of <= OF_EDGES; of++)
         w->changes[of][MADE].count = w->changes[of][REMOVED].count = 0;
 }
@@ -541,8 +565,7 @@ static bool begin(struct beside *of, const gwb *g, bool is_asked, size_t place)
         return false;
     if (!begin_births(of->watch, g))
         return false;
-    const struct asked none = {.place = place, .born = of->watch->births.next, .solids.size = sizeof(uint32_t), .things.size = sizeof(struct thing),
-                               .before = NO_SOLIDS};
+    const struct asked none = {.place = place, .born = of->watch->births.next, NOTHING_WRITTEN};
     return !is_asked || list_add(&of->watch->asked, &none);
 }
 
@@ -568,7 +591,7 @@ enum gwb_kind gwb_watch(gwb *g, bool is_asked)
         return answer;
     if (was_asked) /* (before what is asked for now) */
         end_asked(of->watch, 0);
-    forget_changes(of->watch);
+    forget_changes(of->watch, g);
     return GWB_OK;
 }
 
@@ -610,15 +633,17 @@ enum gwb_kind gwb_compare_from(gwb *g, size_t place)
         return GWB_CLOSED;
     const struct beside *of = beside_of(g);
     struct asked *a = of->watch != NULL ? asked_from(of->watch, place) : NULL;
+    struct list became = {.size = sizeof(gwb_became_row)};
     if (of->watch != NULL)
-        forget_changes(of->watch);
+        forget_changes(of->watch, g);
     if (a == NULL)
         return GWB_NO_CALL;
     struct used before = gwb_used;
     gwb_used = (struct used){of->heap, NULL};
-    const bool is_well = asked_compare(a, &of->watch->births, g, of->watch->changes, &of->watch->became);
+    const bool is_well = asked_compare(a, &of->watch->births, g, of->watch->changes, &became);
     if (!is_well)
-        forget_changes(of->watch);
+        forget_changes(of->watch, g);
+    keep_became(beside_of(g), &became, is_well);
     gwb_used = before;
     return is_well ? GWB_OK : GWB_MEMORY;
 }
@@ -651,14 +676,5 @@ size_t gwb_compared_births(const gwb *g, uint32_t entity, bool is_made, gwb_born
     const size_t count = list != NULL ? list->count : 0;
     if (count > 0 && room > 0)
         memcpy(rows, list->items, (count < room ? count : room) * list->size);
-    return count;
-}
-
-size_t gwb_became(const gwb *g, gwb_became_row *rows, size_t room)
-{
-    const struct watch *w = gwb_is_open(g) ? beside_of(g)->watch : NULL;
-    const size_t count = w != NULL ? w->became.count : 0;
-    if (count > 0 && room > 0)
-        memcpy(rows, w->became.items, (count < room ? count : room) * sizeof *rows);
     return count;
 }

@@ -3,7 +3,12 @@
 #define GWB_WATCH_H
 #include "gwb.h"
 
+struct asked;
+struct births;
 struct watch;
+
+/* The solid of a value of such a kind as follows: 0 where there is none. */
+uint32_t watch_solid_of(const gwb *g, char kind, int64_t value);
 
 /* Watches nothing yet: NULL where memory is refused. Of the steps of a draft that is open already nothing is known. */
 struct watch *watch_new(bool is_drafting);
@@ -35,5 +40,12 @@ void watch_see_undo(struct watch *w, const gwb *g);
 void watch_see_redo(struct watch *w, const gwb *g);
 void watch_undo(struct watch *w, const gwb *g);
 void watch_redo(struct watch *w, const gwb *g);
+
+/* The watch of a session, where all of the last command is known, or NULL. Without a call the solids that it touched are written down, and births are as
+ * before it, or as after it again. */
+struct watch *watch_of_last(const gwb *g);
+const struct births *watch_births(const struct watch *w);
+void watch_write_last(const struct watch *w, const gwb *g, struct asked *a);
+void watch_step(struct watch *w, bool is_back);
 
 #endif

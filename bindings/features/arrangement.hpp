@@ -6,13 +6,21 @@
 
 namespace gwb_session::arrangement {
 
+using exact::Box;
 using outlines::Joins;
 using sectors::Made;
 using sheets::Sheet;
 using within::IsWithin;
 
-/// The faces of what is made of solids, each by its faces, of the first one perhaps those near the others alone. Not possible: OffLattice, with the least
-/// factor by which all must be scaled, or 0. Throws `why` where one of them touches itself, or what is made does where they meet.
-std::vector<Sheet> made_of(const std::vector<std::vector<Sheet>> &solids, const Made &made, Joins joins, const IsWithin &is_within, const Failure &why);
+/// Solids of which something is made, each by its faces, perhaps by those near the others alone, and a box beyond which nothing lies within it.
+struct Solids {
+    const std::vector<std::vector<Sheet>> &faces;
+    std::vector<Box> boxes;
+    IsWithin is_within;
+};
+
+/// The faces of what is made of them. Not possible: OffLattice, with the least factor by which all must be scaled, or 0. Throws `why` where one of them
+/// touches itself, or what is made does where they meet.
+std::vector<Sheet> made_of(const Solids &solids, const Made &made, Joins joins, const Failure &why);
 
 } // namespace gwb_session::arrangement

@@ -1,4 +1,5 @@
 #include "assembly.hpp"
+#include "turns.hpp"
 #include <deque>
 
 namespace gwb_session::sheets {
@@ -138,9 +139,7 @@ private:
             const Vector &across = placed->region->plane.across;
             return placed->runs_back(way) ? negative(across) : across;
         };
-        Vector from{};
-        from[axes[0]] = 1;
-        std::sort(sides.begin(), sides.end(), [&](const Placed *one, const Placed *other) { return comes_before(from, normal(other), normal(one), axes); });
+        std::sort(sides.begin(), sides.end(), [&](const Placed *one, const Placed *other) { return turns::order(normal(one), normal(other), axes) < 0; });
     }
 
     /// A vertex that only divides an edge goes, unless it was there for no other reason before.
@@ -256,13 +255,14 @@ private:
 
 // ---- what is held
 
-Held::Held(const Bench &bench, Model parts, bool keeps_vertices) : model(std::move(parts)), bench_(bench), keeps_vertices_(keeps_vertices)
+Held::Held(const Bench &bench, Model parts, bool keeps_vertices, const std::set<Solid> &gone)
+    : model(std::move(parts)), bench_(bench), keeps_vertices_(keeps_vertices)
 {
     for (const auto &[vertex, at] : model.vertices)
         vertices_at[at].push_back(vertex);
     for (const auto &[half, run] : model.runs)
         put_ends(half, *run);
-    put_rest();
+    put_rest(gone);
 }
 
 Loop Held::loop_of(HalfEdge half) const
@@ -300,13 +300,14 @@ bool Held::is_held(HalfEdge half) const
     return loop != Loop() && (loops_with_runs_.count(loop) == 0 || beside_runs_.count(half) != 0);
 }
 
-void Held::put_rest()
+void Held::put_rest(const std::set<Solid> &gone)
 {
     std::set<HalfEdge> left;
     for (const auto &[loop, halves] : model.loops)
-        for (HalfEdge half : halves)
-            if (is_run(half) || !is_held(half.twin()))
-                left.insert(half.twin());
+        if (gone.empty() || gone.count(bench_.face(bench_.face_of(loop)).solid) == 0)
+            for (HalfEdge half : halves)
+                if (is_run(half) || !is_held(half.twin()))
+                    left.insert(half.twin());
     while (!left.empty()) {
         Cycle &cycle = rest.emplace_back();
         for (HalfEdge half = *left.begin(); left.erase(half) != 0; half = after(half)) {

@@ -9,8 +9,8 @@ namespace gwb_session::sheets {
 /// Faces of a solid, what of them was there by places, and the rest of the solid as a region that lies at their open edges.
 class Held {
 public:
-    /// Where a vertex of two edges isn't to stay, edges that go straight on there become one.
-    Held(const Bench &bench, Model parts, bool keeps_vertices = true);
+    /// Where a vertex of two edges isn't to stay, edges that go straight on there become one. Of some solids the rest goes as well.
+    Held(const Bench &bench, Model parts, bool keeps_vertices = true, const std::set<Solid> &gone = {});
 
     /// The loop of a half-edge: none where that is one of the rest.
     [[nodiscard]] Loop loop_of(HalfEdge half) const;
@@ -29,7 +29,7 @@ private:
     [[nodiscard]] bool is_held(HalfEdge half) const;
 
     /// Each half-edge of the rest leads to the next one round the vertex at its end, where edges of the rest alone are missing.
-    void put_rest();
+    void put_rest(const std::set<Solid> &gone);
     [[nodiscard]] HalfEdge after(HalfEdge half) const;
 
     std::unordered_map<HalfEdge, HalfEdge> run_to_; ///< by the last half-edge of each
@@ -49,8 +49,8 @@ struct Combined {
     [[nodiscard]] std::vector<Face> marked(std::size_t mark) const;
 };
 
-/// A closed surface of regions put together as the model of a solid, without the rest. Throws `why` where the surface isn't closed, or faces lie back to back at
-/// an edge.
+/// A closed surface of regions put together as the model of a solid, without the rest. Throws `why` where the surface isn't closed, or faces lie back to back
+/// at an edge.
 Combined assembled(const Held &held, const std::vector<Sheet> &regions, AllNames &names, Solid solid, const Failure &why);
 
 } // namespace gwb_session::sheets

@@ -7,6 +7,8 @@ namespace gwb_session::booleans {
 
 namespace {
 
+const Box everywhere{{-farthest, -farthest, -farthest}, {farthest, farthest, farthest}};
+
 static_assert(steepest <= points::greatest_normal, "faces that are given fit what points are reckoned with");
 
 arrangement::Made made_by(Operation operation)
@@ -21,40 +23,78 @@ arrangement::Made made_by(Operation operation)
 /// Whether a point that lies on no face of a solid lies within it: by what is known of its surface along the rays of is_bound().
 bool is_within(const Bench &bench, const Surface &surface, const ScaledPoint &point)
 {
-    Vector low = point.at, high = {farthest, farthest, farthest}; // the rays lead into this octant
-    for (Wide &part : low)
-        part = part / point.scale - 1;
+    const Box octant = {box_of(point).low, {farthest, farthest, farthest}}; // into which the rays lead
     std::vector<Sheet> walls;
-    for (const auto &[face, loops] : surface.near(bench, {low, high})) {
+    for (const auto &[face, loops] : surface.near(bench, octant)) {
         require(surface.plane(face) != nullptr, refused(GWB_WHY_NOT_FLAT, face.number()));
         walls.push_back({surface.shape(face, loops), {face}, {}});
     }
     return is_bound(walls, point);
 }
 
-void require_flat(const std::vector<Sheet> &sheets)
+/// Whether so many faces of a solid are there that it may be worth while to leave out those that are far from the others.
+bool is_large(const Bench &bench, Solid solid)
 {
-    for (const Sheet &sheet : sheets)
-        require(sheet.is_flat(), refused(GWB_WHY_NOT_FLAT, sheet.owners[0].number()));
+    std::size_t left = 64;
+    const auto faces = bench.faces(solid);
+    for (auto face = faces.begin(); face != faces.end() && left != 0; ++face)
+        left--;
+    return left == 0;
+}
+
+/// A solid near a box, or whole: where a face of it may be refused, or where for a union it costs less to make it anew than to look at all of both solids.
+Operand operand_near(Bench &bench, Operation operation, Solid first, Solid solid, const Box &box)
+{
+    Surroundings &known = Surroundings::of(bench);
+    const Surface &surface = known.surface(bench, solid), &beside = known.surface(bench, first);
+    if (operation == Operation::unite && surface.is_even() && beside.is_even() && has_room_to_join(bench)) {
+        std::size_t near = 0;
+        for (const auto &[face, loops] : surface.near(bench, box))
+            near += loops.size();
+        if (16 * (surface.size() - near) > surface.size() + beside.size())
+            return {solid, box, true};
+    }
+    if (operation != Operation::unite && surface.is_even())
+        return {solid, box, false};
+    return {solid, std::nullopt, false, Model::whole(bench, solid)};
+}
+
+/// Solids that are made one: each is looked at near the others, but the first of what all have in common as a whole, and so are small ones.
+std::vector<Operand> operands_of(Bench &bench, Operation operation, const std::vector<Solid> &solids)
+{
+    Surroundings &known = Surroundings::of(bench);
+    std::vector<Operand> found;
+    std::vector<Box> boxes;
+    for (Solid solid : solids) {
+        const bool is_read = found.empty() || is_large(bench, solid);
+        found.push_back({solid, std::nullopt, found.empty(), is_read ? Model() : Model::whole(bench, solid)});
+        boxes.push_back(is_read ? known.surface(bench, solid).box() : box_around(found.back().whole));
+    }
+    for (std::size_t at = 0; at < solids.size(); at++) {
+        if (!found[at].whole.faces.empty())
+            continue;
+        Box near = boxes[at == 0 ? 1 : 0];
+        for (std::size_t other = 0; other < solids.size(); other++)
+            if (other != at)
+                near.take(boxes[other]);
+        if (at == 0)
+            found[at].near = operation == Operation::intersect ? everywhere : near;
+        else
+            found[at] = operand_near(bench, operation, solids[0], solids[at], near);
+    }
+    return found;
 }
 
 /// The first solid becomes what is made of it and others, which go: only faces near those are looked at, of what all have in common all.
-Combined combined_with(Bench &bench, Operation operation, Solid first, const std::vector<Model> &others)
+Combined combined_with(Bench &bench, Operation operation, const std::vector<Solid> &solids)
 {
-    std::vector<std::vector<Sheet>> operands = {{}};
-    for (const Model &other : others)
-        require_flat(operands.emplace_back(sheets_of(other)));
-    Box near = box_of(operands[1]);
-    for (std::size_t at = 2; at < operands.size(); at++)
-        near.take(box_of(operands[at]));
-    if (operation == Operation::intersect)
-        near = {{-farthest, -farthest, -farthest}, {farthest, farthest, farthest}};
-    const Failure why = impossible(Misfit::meets, first.number(), met(GWB_CAUSE_TOUCHES_ITSELF));
-    const auto lay = [&](const std::vector<Sheet> &sheets) {
-        operands[0] = sheets;
-        return laid(bench, operation, first, operands, why);
-    };
-    return make_near(bench, first, near, others, why, lay);
+    const std::vector<Operand> operands = operands_of(bench, operation, solids);
+    std::map<std::size_t, Solid> others;
+    for (std::size_t at = 1; at < operands.size(); at++)
+        if (operands[at].near)
+            others[at] = solids[at];
+    const Failure why = impossible(Misfit::meets, solids[0].number(), met(GWB_CAUSE_TOUCHES_ITSELF));
+    return make_of(bench, operands, why, [&](const std::vector<std::vector<Sheet>> &sheets) { return laid(bench, operation, solids[0], sheets, why, others); });
 }
 
 /// The faces that regions became, with those that they are parts of.
@@ -68,24 +108,28 @@ Sources sources_of(const std::vector<Sheet> &regions)
 
 } // namespace
 
-std::vector<Sheet> laid(const Bench &bench, Operation operation, Solid first, const std::vector<std::vector<Sheet>> &operands, const Failure &why)
+std::vector<Sheet> laid(const Bench &bench, Operation operation, Solid first, const std::vector<std::vector<Sheet>> &operands, const Failure &why,
+                        const std::map<std::size_t, Solid> &others)
 {
     require_flat(operands[0]);
-    const Surface &surface = Surroundings::of(bench).surface(bench, first);
-    const arrangement::IsWithin is_in = [&](points::Number of, const ScaledPoint &point) {
-        return of == 0 ? is_within(bench, surface, point) : is_bound(operands[of], point);
-    };
-    return arrangement::made_of(operands, made_by(operation), arrangement::Joins::of_two, is_in, why);
+    Surroundings &known = Surroundings::of(bench);
+    std::vector<const Surface *> surfaces(operands.size(), nullptr);
+    surfaces[0] = &known.surface(bench, first);
+    for (const auto &[at, solid] : others)
+        surfaces[at] = &known.surface(bench, solid);
+    arrangement::Solids solids{operands, {everywhere}, [&](points::Number of, const ScaledPoint &point) {
+        return surfaces[of] != nullptr ? is_within(bench, *surfaces[of], point) : is_bound(operands[of], point);
+    }};
+    for (std::size_t at = 1; at < operands.size(); at++)
+        solids.boxes.push_back(surfaces[at] != nullptr ? surfaces[at]->box() : operands[at].empty() ? everywhere : box_of(operands[at]));
+    return arrangement::made_of(solids, made_by(operation), arrangement::Joins::of_two, why);
 }
 
 Sources combine(Bench &bench, Operation operation, std::vector<Solid> solids)
 {
     for (Solid solid : solids)
         require_solid(bench, solid);
-    std::vector<Model> others;
-    for (auto solid = solids.begin() + 1; solid != solids.end(); ++solid)
-        others.push_back(Model::whole(bench, *solid));
-    return sources_of(combined_with(bench, operation, solids[0], others).regions);
+    return sources_of(combined_with(bench, operation, solids).regions);
 }
 
 Sources join_faces(Bench &bench, Solid solid)
@@ -94,17 +138,18 @@ Sources join_faces(Bench &bench, Solid solid)
     const Model before = Model::whole(bench, solid);
     const std::vector<Sheet> sheets = sheets_of(before);
     require_flat(sheets);
-    const arrangement::IsWithin is_nothing = [](points::Number, const ScaledPoint &) { return false; };
-    const Result<Combined> found = tried([&] {
-        const auto regions = arrangement::made_of({sheets, {}}, made_by(Operation::unite), arrangement::Joins::all, is_nothing, why);
+    const std::vector<std::vector<Sheet>> operands = {sheets, {}};
+    const arrangement::Solids solids{operands, {everywhere, everywhere}, [](points::Number, const ScaledPoint &) { return false; }};
+    const auto [found, failure] = tried([&] {
+        const auto regions = arrangement::made_of(solids, made_by(Operation::unite), arrangement::Joins::all, why);
         AllNames names(bench);
         return assembled(Held(bench, before, false), regions, names, solid, why);
     });
     if (!found)
-        throw places::told(found.error(), {&before});
+        throw places::told(failure, {&before});
     if (found->model.edges.size() == before.edges.size())
         return {};
-    make_anew(bench, found->model);
+    changing::change(bench, before, found->model);
     return sources_of(found->regions);
 }
 

@@ -11,9 +11,11 @@ enum class Operation { unite, subtract, intersect };
 /// Faces that there are, and those of all solids as they were that went into them.
 using Sources = std::map<Face, std::set<Face>>;
 
-/// What faces of a solid come to with the flat faces of other operands, each of which closes round some room: the solid's come first. Refused: NotFlat. Not
-/// possible: OffLattice. Throws `why` where one of them, or what is made where they meet, touches itself.
-std::vector<Sheet> laid(const Bench &bench, Operation operation, Solid first, const std::vector<std::vector<Sheet>> &operands, const Failure &why);
+/// What faces of a solid come to with the flat faces of other operands, each of which closes round some room, or is a solid too, of which only faces near
+/// the others are there. The solid's come first. Refused: NotFlat. Not possible: OffLattice. Throws `why` where one of them, or what is made where they
+/// meet, touches itself.
+std::vector<Sheet> laid(const Bench &bench, Operation operation, Solid first, const std::vector<std::vector<Sheet>> &operands, const Failure &why,
+                        const std::map<std::size_t, Solid> &others = {});
 
 /// The first of some solids becomes what is made of them all at once: all, the first without the others, or what all have in common; the others go. Refused:
 /// NoSolid; NotFlat. Not possible: OffLattice; Meets; NothingLeft.

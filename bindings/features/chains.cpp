@@ -2,9 +2,17 @@
 
 namespace gwb_session::machining {
 
+namespace {
+
+/// A coordinate times the scale of a point, which is mostly 1.
+Wide scaled(Wide part, const ScaledPoint &point) { return point.scale == 1 ? part : part * point.scale; }
+
+} // namespace
+
 // ---- blocks
 
-Chain::Block::Block(std::vector<Side> of) : sides(std::move(of)), box(box_of(sides[0])), area(area_of(sides)), least(&*std::min_element(sides.begin(), sides.end()))
+Chain::Block::Block(std::vector<Side> of)
+    : sides(std::move(of)), box(box_of(sides[0])), area(area_of(sides)), least(&*std::min_element(sides.begin(), sides.end()))
 {
     for (const Side &side : sides)
         box.take(box_of(side));
@@ -13,11 +21,11 @@ Chain::Block::Block(std::vector<Side> of) : sides(std::move(of)), box(box_of(sid
 std::optional<bool> Chain::Block::is_crossed(const ScaledPoint &point, Axes axes) const
 {
     const auto [x, y] = axes;
-    const Wide level = point.at[y], scale = point.scale;
-    if (box.low[y] * scale > level || box.high[y] * scale < level || box.high[x] * scale < point.at[x])
+    const Wide level = point.at[y];
+    if (scaled(box.low[y], point) > level || scaled(box.high[y], point) < level || scaled(box.high[x], point) < point.at[x])
         return false;
-    if (box.low[x] * scale > point.at[x]) // all of it lies before the point
-        return (sides.front().start[y] * scale > level) != (sides.back().end[y] * scale > level);
+    if (scaled(box.low[x], point) > point.at[x]) // all of it lies before the point
+        return (scaled(sides.front().start[y], point) > level) != (scaled(sides.back().end[y], point) > level);
     return machining::is_crossed(sides, point, axes);
 }
 
@@ -25,12 +33,15 @@ std::optional<bool> Chain::Block::is_crossed(const ScaledPoint &point, Axes axes
 
 Chain::Chain(const std::vector<Side> &sides)
 {
-    for (const Side &side : sides)
-        if (side.run != nullptr)
-            for (const auto &block : side.run->blocks_)
-                put(block);
-        else
-            put(side);
+    if (has_runs(sides) || sides.size() > most)
+        for (const Side &side : sides)
+            if (side.run != nullptr)
+                for (const auto &block : side.run->blocks_)
+                    put(block);
+            else
+                put(side);
+    else
+        open_ = sides;
     end_block();
 }
 
@@ -109,7 +120,8 @@ std::vector<Side> Chain::beside(const Plane &plane) const
     for (const auto &block : blocks_) {
         Vector low, high; // the corners of the box where the plane's height is the least, and the greatest
         for (std::size_t axis = 0; axis < 3; axis++)
-            std::tie(low[axis], high[axis]) = plane.across[axis] < 0 ? std::tie(block->box.high[axis], block->box.low[axis]) : std::tie(block->box.low[axis], block->box.high[axis]);
+            std::tie(low[axis], high[axis]) =
+                plane.across[axis] < 0 ? std::tie(block->box.high[axis], block->box.low[axis]) : std::tie(block->box.low[axis], block->box.high[axis]);
         if (plane.height(low) > 0 || plane.height(high) < 0)
             found.push_back(block->sides.front());
         else
@@ -211,7 +223,7 @@ std::optional<bool> is_crossed(const std::vector<Side> &sides, const ScaledPoint
             is_odd = is_odd != *passes;
             continue;
         }
-        const Wide start = side.start[axes[1]] * point.scale, end = side.end[axes[1]] * point.scale, level = point.at[axes[1]];
+        const Wide start = scaled(side.start[axes[1]], point), end = scaled(side.end[axes[1]], point), level = point.at[axes[1]];
         if (std::min(start, end) > level || std::max(start, end) < level) // it lies beside the ray
             continue;
         if (side.holds(point, axes))

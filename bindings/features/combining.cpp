@@ -7,10 +7,11 @@ namespace {
 
 // ---- what lies near
 
-/// Faces of a solid, and those of them of which some rings aren't in the model.
+/// Faces of a solid, as a model and as sheets, and those of them of which some rings aren't there.
 struct Part {
     Model model;
     std::set<Face> fast;
+    std::vector<Sheet> sheets;
 
     /// The loops of which some isn't in it.
     [[nodiscard]] std::set<Loop> loops_with_runs() const
@@ -23,14 +24,35 @@ struct Part {
     }
 };
 
-/// The faces of a solid whose outlines meet a box or are wanted, without the other rings where the face looks the same way without them. Of loops of flat faces
-/// that aren't wanted what lies near.
+/// Reads a face into a part, with these of its loops: of those of a flat face that aren't wanted what lies near.
+void read_face(const Bench &bench, const Surface &surface, Face face, const std::vector<Loop> &loops, const Box &box, const std::set<Loop> &wanted, Part &to)
+{
+    const Plane *plane = surface.plane(face);
+    const auto read = [&](Loop loop) {
+        const bool is_whole = plane == nullptr || wanted.count(loop) != 0;
+        Chain::Near near;
+        if (is_whole)
+            near.sides = surface.chain(loop).sides();
+        else
+            near = surface.chain(loop).near(box);
+        is_whole ? to.model.read(bench, face, loop) : to.model.read(bench, face, loop, near);
+        const auto least = std::min_element(near.sides.begin(), near.sides.end(), [](const Side &one, const Side &other) { return one.half < other.half; });
+        std::rotate(near.sides.begin(), least, near.sides.end());
+        return std::move(near.sides);
+    };
+    const std::vector<Cycle> cycles = mapped(loops, read);
+    if (surface.is_even())
+        to.sheets.push_back({Shape(*plane, cycles), {face}, {}});
+}
+
+/// The faces of a solid whose outlines meet a box or are wanted, without the other rings where the face looks the same way without them.
 Part part_near(const Bench &bench, const Surface &surface, Solid solid, const Box &box, const std::set<Loop> &wanted)
 {
-    Part found{Model(solid), {}};
+    Part found{Model(solid), {}, {}};
     std::map<Face, std::set<Loop>> near = surface.near(bench, box);
     for (Loop loop : wanted)
-        near[bench.face_of(loop)].insert(loop);
+        if (const Face face = bench.face_of(loop); bench.face(face).solid == solid)
+            near[face].insert(loop);
     for (const auto &[face, loops] : near) {
         const Loop outer = bench.face(face).outer_loop;
         if (loops.count(outer) == 0)
@@ -41,92 +63,84 @@ Part part_near(const Bench &bench, const Surface &surface, Solid solid, const Bo
         const bool is_fast = !needs_all && any(rings, [&near = loops](Loop ring) { return near.count(ring) == 0; });
         if (is_fast)
             found.fast.insert(face);
-        const auto read = [&, &of = face](Loop loop) {
-            if (plane == nullptr || wanted.count(loop) != 0)
-                found.model.read(bench, of, loop);
-            else
-                found.model.read(bench, of, loop, surface.chain(loop).near(box));
-        };
-        read(outer);
-        for (Loop ring : is_fast ? loops : std::set<Loop>(rings.begin(), rings.end()))
-            if (ring != outer)
-                read(ring);
+        std::vector<Loop> read = {outer};
+        if (is_fast)
+            std::copy_if(loops.begin(), loops.end(), std::back_inserter(read), [&](Loop ring) { return ring != outer; });
+        else
+            read.insert(read.end(), rings.begin(), rings.end());
+        read_face(bench, surface, face, read, box, wanted, found);
     }
     return found;
 }
+
+/// The parts of solids, with what those of them are together that stay.
+struct Parts {
+    std::vector<Part> all;
+    Part staying;
+
+    Parts(const Bench &bench, const std::vector<Operand> &operands, const std::set<Loop> &wanted) : staying{Model(operands[0].solid), {}, {}}
+    {
+        for (const Operand &operand : operands) {
+            const Surface *surface = operand.near ? &Surroundings::of(bench).surface(bench, operand.solid) : nullptr;
+            if (surface != nullptr)
+                all.push_back(part_near(bench, *surface, operand.solid, *operand.near, wanted));
+            else
+                all.push_back({operand.whole, {}, {}});
+            if (operand.stays)
+                staying.model.take_in(all.back().model), staying.fast.insert(all.back().fast.begin(), all.back().fast.end());
+        }
+    }
+    [[nodiscard]] std::vector<const Model *> models() const
+    {
+        return mapped(all, [](const Part &part) { return &part.model; });
+    }
+    /// The model of them all.
+    [[nodiscard]] Model joined() const
+    {
+        Model found = all[0].model;
+        for (auto part = all.begin() + 1; part != all.end(); ++part)
+            found.take_in(part->model);
+        return found;
+    }
+};
 
 // ---- what is made
 
-Box common_to(const Box &one, const Box &other)
+/// Whether all faces of the solids that stay are in their parts.
+bool have_all_faces(const Bench &bench, const std::vector<Operand> &operands, const Parts &parts)
 {
-    Box found = one;
-    for (std::size_t axis = 0; axis < 3; axis++) {
-        found.low[axis] = std::max(one.low[axis], other.low[axis]);
-        found.high[axis] = std::min(one.high[axis], other.high[axis]);
+    return all(operands, [&](const Operand &operand) {
+        return !operand.stays || all(bench.faces(operand.solid), [&](Face face) { return parts.staying.model.faces.count(face) != 0; });
+    });
+}
+
+/// Parts of solids with what is laid on their faces, which may be those of each other. Not possible: NothingLeft; what `lay` says.
+template <class LayAll>
+Combined combined(const Bench &bench, const std::vector<Operand> &operands, Parts &parts, AllNames &names, const Failure &why, const LayAll &lay)
+{
+    std::vector<std::vector<Sheet>> sheets(operands.size());
+    const auto take = [&](std::size_t at) { sheets[at] = !parts.all[at].sheets.empty() ? std::move(parts.all[at].sheets) : sheets_of(parts.all[at].model); };
+    for (std::size_t at = 1; at < operands.size(); at++) {
+        take(at);
+        require_flat(sheets[at]);
     }
-    return found;
+    take(0);
+    const std::vector<Sheet> regions = lay(sheets);
+    const Solid solid = operands[0].solid;
+    if (regions.empty() && have_all_faces(bench, operands, parts))
+        throw impossible(Misfit::nothing_left, solid.number());
+    std::set<Solid> gone;
+    for (const Operand &operand : operands)
+        if (!operand.stays)
+            gone.insert(operand.solid);
+    const Held held(bench, parts.joined(), true, gone);
+    return assembled(held, regions, names, solid, why);
 }
 
-/// Around all points of a solid.
-Box box_around(const Model &solid)
-{
-    Box found = box_of(solid.vertices.begin()->second);
-    for (const auto &[vertex, point] : solid.vertices)
-        found.take(box_of(point));
-    return found;
-}
-
-/// Where what is made may meet itself anew, within a box: where two of the solids may lie at once; all of it where what is added is of no solid.
-std::optional<Box> shared_by(const std::vector<Sheet> &part, const std::vector<Model> &others, const Box &box)
-{
-    if (others.empty())
-        return box;
-    std::vector<Box> boxes;
-    if (!part.empty())
-        boxes.push_back(box_of(part));
-    for (const Model &other : others)
-        boxes.push_back(box_around(other));
-    std::optional<Box> found;
-    for (auto one = boxes.begin(); one != boxes.end(); ++one)
-        for (auto other = one + 1; other != boxes.end(); ++other)
-            if (one->meets(*other)) {
-                const Box both = common_to(*one, *other);
-                found = found.value_or(both);
-                found->take(both);
-            }
-    return found;
-}
-
-std::vector<const Model *> all_of(const Model &part, const std::vector<Model> &others)
-{
-    std::vector<const Model *> all = {&part};
-    for (const Model &other : others)
-        all.push_back(&other);
-    return all;
-}
-
-/// A part of a solid with what is laid on its faces, which may be the faces of other solids. Not possible: NothingLeft; what `lay` says; what the
-/// caller says where what comes of them meets or touches itself near a box as nothing did before.
-Combined combined(const Bench &bench, const Model &part, const Box &box, const std::vector<Model> &others, AllNames &names, const Failure &why, const Lay &lay)
-{
-    const std::vector<Sheet> sheets = sheets_of(part), regions = lay(sheets);
-    if (regions.empty() && all(bench.faces(part.solid), [&](Face face) { return part.faces.count(face) != 0; }))
-        throw impossible(Misfit::nothing_left, part.solid.number());
-    Model all = part;
-    for (const Model &other : others)
-        all.take_in(other);
-    const Held held(bench, std::move(all));
-    Combined found = assembled(held, regions, names, part.solid, why);
-    const std::optional<Box> shared = shared_by(sheets, others, box);
-    if (const std::optional<ScaledPoint> point = shared ? touch_anew(all_of(part, others), {&found.model}, *shared) : std::nullopt)
-        throw failed_at(why, *point);
-    return found;
-}
-
-/// Puts in the operators that move rings of a face that weren't looked at to the faces that it went into, where these are several. Whether the face is one
+/// Puts in the steps that move rings of a face that weren't looked at to the faces that it went into, where these are several. Whether the face is one
 /// of them, and no ring has all of its corners on outlines.
 bool put_moves(const Bench &bench, const Surface &surface, Face face, const std::vector<Loop> &looked_at, const Combined &combined,
-                      std::vector<Operator> &moves)
+               rows::Steps &moves)
 {
     std::map<Face, const Sheet *> became;
     for (const Sheet &region : combined.regions)
@@ -140,26 +154,34 @@ bool put_moves(const Bench &bench, const Surface &surface, Face face, const std:
             return any(surface.chain(ring).sides(), [&](const Side &side) { return region.second->locate({side.start}) == Place::inside; });
         });
         if (around != became.end() && around->first != face)
-            moves.push_back(changing::operator_of(&Bench::ring_in, ring, around->first));
+            moves.push_back({rows::Operator::ringmv, {ring.number(), around->first.number()}});
         return around != became.end();
     };
     return became.count(face) != 0 && (became.size() == 1 || all(bench.rings(face), is_moved));
 }
 
-/// The operators that turn a part of a solid into what comes of it; none where they aren't of the kind, or rings not looked at are in the way.
-std::optional<std::vector<Operator>> operators_for(const Bench &bench, const Surface &surface, const Part &part, const Combined &combined,
-                                                          AllNames &names)
+/// The steps that turn parts of solids, which are one by then, into what comes of them; none where they aren't of the kind, or rings not looked at are in
+/// the way.
+std::optional<rows::Steps> steps_for(const Bench &bench, const std::vector<Operand> &operands, const Parts &parts, const Combined &combined)
 {
-    std::vector<Operator> moves;
-    if (!all(part.fast, [&](Face face) { return put_moves(bench, surface, face, part.model.faces.at(face), combined, moves); }))
-        return std::nullopt;
-    auto operators = changing::operators_between(part.model, combined.model, part.fast, names);
-    if (operators)
-        append(*operators, moves);
-    return operators;
+    const Model &old = parts.staying.model, &made = combined.model;
+    if (std::tie(old.faces, old.loops, old.edges, old.vertices) == std::tie(made.faces, made.loops, made.edges, made.vertices))
+        return rows::Steps();
+    rows::Steps moves;
+    for (std::size_t at = 0; at < operands.size(); at++) {
+        const auto are_put = [&, &part = parts.all[at]](Face face) {
+            return put_moves(bench, Surroundings::of(bench).surface(bench, operands[at].solid), face, part.model.faces.at(face), combined, moves);
+        };
+        if (operands[at].stays && !all(parts.all[at].fast, are_put))
+            return std::nullopt;
+    }
+    auto steps = changing::steps_between(bench, old, made, parts.staying.fast);
+    if (steps)
+        append(*steps, moves);
+    return steps;
 }
 
-/// The loops that are wanted besides a part's, where no operators make of it what is to come: those along which edges at its rim become one, and the
+/// The loops that are wanted besides a part's, where no steps make of it what is to come: those along which edges at its rim become one, and the
 /// outlines around them; where there are none, all of those of which it has what is near, or the rings that it lacks.
 std::set<Loop> wanted_besides(const Bench &bench, const Part &part, const Combined &combined)
 {
@@ -179,8 +201,12 @@ std::set<Loop> wanted_besides(const Bench &bench, const Part &part, const Combin
 void follow(Surface &surface, const Model &part, const Model &made)
 {
     const auto is_in = [](const Model &model, Face face, const Model &other) {
+        const auto is_same = [&](Loop loop) {
+            const std::vector<HalfEdge> &halves = model.loops.at(loop);
+            return other.loops.at(loop) == halves && all(halves, [&](HalfEdge half) { return other.at(half) == model.at(half); });
+        };
         const std::vector<Loop> *loops = look_up(other.faces, face);
-        return loops != nullptr && *loops == model.faces.at(face) && other.cycles(face) == model.cycles(face);
+        return loops != nullptr && *loops == model.faces.at(face) && all(*loops, is_same);
     };
     for (const auto &[face, loops] : part.faces)
         if (!is_in(part, face, made))
@@ -188,6 +214,77 @@ void follow(Surface &surface, const Model &part, const Model &made)
     for (const auto &[face, loops] : made.faces)
         if (!is_in(made, face, part))
             surface.put(face, loops, made.cycles(face));
+}
+
+/// The faces of another solid become those of a first one: by a triangle beside each, which are glued and go again.
+class Joining {
+public:
+    Joining(Bench &bench, AllNames &names) : bench_(bench), names_(names) {}
+
+    void join(Solid first, Solid other)
+    {
+        const Triangle own = put(first), beside = put(other);
+        bench_.glue(own.front, beside.back);
+        bench_.kef(plus(own.edges[2]));
+        const Face left = bench_.face_of(plus(own.edges[0]));
+        const Loop loop = bench_.loop_of(plus(own.edges[0]));
+        for (std::size_t at : {1, 0})
+            bench_.kev(plus(own.edges[at]));
+        bench_.kfmrh(own.face, left);
+        bench_.mekr(own.corner, lone(loop), own.spur);
+        bench_.kev(plus(own.spur));
+    }
+
+private:
+    /// Two faces back to back as a shell of their own, and where they grew: at a corner of a face, by an edge that went again.
+    struct Triangle {
+        Face face;
+        HalfEdge corner;
+        Edge spur;
+        std::array<Edge, 3> edges;
+        Face front, back;
+    };
+
+    Triangle put(Solid solid)
+    {
+        const Face face = *bench_.faces(solid).begin();
+        const Triangle made{face, *bench_.half_edges(bench_.face(face).outer_loop).begin(), names_.edges.spare(),
+                            {names_.edges.spare(), names_.edges.spare(), names_.edges.spare()}, names_.faces.spare(), names_.faces.spare()};
+        bench_.mev(made.corner, made.corner, made.spur, names_.vertices.spare(), {0, 0, 0});
+        HalfEdge last = minus(made.spur);
+        for (std::size_t at : {0, 1}) {
+            bench_.mev(last, last, made.edges[at], names_.vertices.spare(), at == 0 ? Point{1, 0, 0} : Point{0, 1, 0});
+            last = minus(made.edges[at]);
+        }
+        bench_.mef(plus(made.edges[0]), last, made.edges[2], made.front, names_.loops.spare());
+        const Loop ring = names_.loops.spare();
+        bench_.kemr(plus(made.spur), ring);
+        bench_.mfkrh(ring, made.back);
+        return made;
+    }
+
+    Bench &bench_;
+    AllNames &names_;
+};
+
+/// The other solids go, or are joined with the first one.
+void put_together(Bench &bench, const std::vector<Operand> &operands, AllNames &names)
+{
+    for (auto other = operands.begin() + 1; other != operands.end(); ++other)
+        if (other->stays)
+            Joining(bench, names).join(operands[0].solid, other->solid);
+        else
+            take_away(bench, other->solid);
+}
+
+/// What is known of the solids follows that.
+void follow(Bench &bench, Surroundings &known, const std::vector<Operand> &operands, const Model &before, const Model &made)
+{
+    known.follow(bench, operands[0].solid, [&](Surface &of) {
+        for (auto other = operands.begin() + 1; other != operands.end(); ++other)
+            other->stays ? known.join(operands[0].solid, other->solid) : known.forget(other->solid);
+        follow(of, before, made);
+    });
 }
 
 } // namespace
@@ -216,45 +313,60 @@ std::vector<Sheet> sheets_of(const Model &model)
     return sheets;
 }
 
-void give(Bench &bench, const std::vector<Operator> &operators)
+void require_flat(const std::vector<Sheet> &sheets)
 {
-    for (const Operator &give_one : operators) {
-        go_on();
-        give_one(bench);
-    }
+    for (const Sheet &sheet : sheets)
+        require(sheet.is_flat(), refused(GWB_WHY_NOT_FLAT, sheet.owners[0].number()));
 }
 
-Combined make_near(Bench &bench, Solid solid, const Box &box, const std::vector<Model> &others, const Failure &why, const Lay &lay)
+Box box_around(const Model &solid)
+{
+    Box found = box_of(solid.vertices.begin()->second);
+    for (const auto &[vertex, point] : solid.vertices)
+        found.take(box_of(point));
+    return found;
+}
+
+bool has_room_to_join(const Bench &bench)
+{
+    constexpr std::uint32_t most = greatest_number - 16;
+    return bench.greatest<Face>().number() < most && bench.greatest<Loop>().number() < most && bench.greatest<Edge>().number() < most &&
+           bench.greatest<Vertex>().number() < most;
+}
+
+Combined make_near(Bench &bench, Solid solid, const Box &box, const Failure &why, const Lay &lay)
+{
+    return make_of(bench, {{solid, box, true}}, why, [&](const std::vector<std::vector<Sheet>> &sheets) { return lay(sheets[0]); });
+}
+
+Combined make_of(Bench &bench, const std::vector<Operand> &operands, const Failure &why,
+                 const std::function<std::vector<Sheet>(const std::vector<std::vector<Sheet>> &)> &lay)
 {
     Surroundings &known = Surroundings::of(bench);
     for (std::set<Loop> wanted, more;; wanted.merge(more)) {
-        const Surface &surface = known.surface(bench, solid);
-        const Part part = part_near(bench, surface, solid, box, wanted);
+        Parts parts(bench, operands, wanted);
         AllNames names(bench);
-        std::optional<Combined> found;
-        std::optional<Failure> failure;
+        Tried<Combined> found;
         try {
-            found = combined(bench, part.model, box, others, names, why, lay);
+            found = tried([&] { return combined(bench, operands, parts, names, why, lay); });
         } catch (const FarInTheWay &) {
-            more = part.loops_with_runs();
+            more = parts.staying.loops_with_runs();
             continue;
-        } catch (const Failure &thrown) { // (which is told when it is caught: nothing may be thrown meanwhile)
-            failure = thrown;
         }
-        if (failure)
-            throw places::told(*failure, all_of(part.model, others));
-        const auto operators = found->beyond.empty() ? operators_for(bench, surface, part, *found, names) : std::nullopt;
-        if (!operators && !(more = wanted_besides(bench, part, *found)).empty())
+        if (!found.made) // (what was thrown is caught: nothing may be thrown meanwhile)
+            throw places::told(found.why, parts.models());
+        Combined &made = *found.made;
+        const auto steps = made.beyond.empty() ? steps_for(bench, operands, parts, made) : std::nullopt;
+        if (!steps && !(more = wanted_besides(bench, parts.staying, made)).empty())
             continue;
-        for (const Model &other : others)
-            take_away(bench, other.solid);
-        if (!operators) {
-            make_anew(bench, Model::whole(bench, solid).with(part.model, found->model));
-            return *found;
+        put_together(bench, operands, names);
+        if (steps) {
+            rows::give(bench, *steps);
+            follow(bench, known, operands, parts.staying.model, made.model);
+        } else {
+            make_anew(bench, Model::whole(bench, operands[0].solid).with(parts.staying.model, made.model));
         }
-        give(bench, *operators);
-        known.follow(bench, solid, [&](Surface &of) { follow(of, part.model, found->model); });
-        return *found;
+        return std::move(made);
     }
 }
 

@@ -91,16 +91,6 @@ std::vector<std::vector<Face>> components_of(const Model &model)
     return found;
 }
 
-/// Some faces of a model as a solid of their own.
-Model part_of(const Bench &bench, const Model &model, const std::vector<Face> &faces, Solid solid)
-{
-    Model found(solid);
-    for (Face face : faces)
-        for (Loop loop : model.faces.at(face))
-            found.read(bench, face, loop);
-    return found;
-}
-
 } // namespace
 
 std::vector<Solid> separate(Bench &bench, Solid solid)
@@ -114,12 +104,9 @@ std::vector<Solid> separate(Bench &bench, Solid solid)
     while (solids.size() < components.size())
         solids.push_back(names.solids.take());
     names.require_enough();
-    std::vector<Model> parts;
-    for (std::size_t at = 0; at < components.size(); at++)
-        parts.push_back(part_of(bench, model, components[at], solids[at]));
     take_away(bench, solid);
-    for (const Model &part : parts)
-        bench.load(part.listing());
+    for (std::size_t at = 0; at < components.size(); at++)
+        rows::make(bench, rows_of(model.part(components[at], solids[at])));
     return solids;
 }
 

@@ -11,14 +11,6 @@ struct Near {
     Shape shape;
 };
 
-bool is_in(const ScaledPoint &point, const Box &box)
-{
-    for (std::size_t axis = 0; axis < 3; axis++)
-        if (point.at[axis] < box.low[axis] * point.scale || point.at[axis] > box.high[axis] * point.scale)
-            return false;
-    return true;
-}
-
 std::size_t count_sides(const Shape &shape)
 {
     return std::accumulate(shape.sides.begin(), shape.sides.end(), std::size_t{0},

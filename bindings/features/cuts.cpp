@@ -1,5 +1,7 @@
 #include "cuts.hpp"
 #include "combining.hpp"
+#include "places.hpp"
+#include "touching.hpp"
 
 namespace gwb_session::cuts {
 
@@ -96,35 +98,68 @@ void put_caps(std::vector<Sheet> &left, const Plane &plane, const Failure &why)
         put_joined(sheets, plane, why, left);
 }
 
-/// The part of a solid below a plane, closed by caps, which are its faces that have marks.
-Combined part_below(const Held &held, const std::vector<Sheet> &sheets, const Plane &plane, Solid solid, AllNames &names)
+/// Points of edges.
+using Points = std::vector<ScaledPoint>;
+
+/// The corners in a plane, and the middles of edges in it, which lie as all of the edge does.
+Points points_in(const Bench &bench, Solid solid, const Plane &plane)
+{
+    Points found;
+    for (const gwb_half_edge_row &row : bench.half_edge_rows(solid)) {
+        go_on();
+        const Side side = side_at(bench, HalfEdge(row.half_edge));
+        if (plane.height(side.start) != 0)
+            continue;
+        found.push_back({side.start});
+        if (plane.height(side.end) == 0)
+            found.push_back(side.middle());
+    }
+    return found;
+}
+
+/// Refuses the faces of a part that touch themselves at one of the points in the plane, where one of them is a cap.
+void require_apart(const std::vector<Sheet> &faces, const Points &points, const Model &before)
+{
+    const auto of_solid = [](const Sheet &face) { return face.marks.empty() ? std::optional(0U) : std::nullopt; };
+    if (const auto point = touching::touched(faces, points, of_solid))
+        throw places::told(failed_at(impossible(Misfit::meets, before.solid.number(), met(GWB_CAUSE_TOUCHES_ITSELF)), *point), {&before});
+}
+
+/// The part of a solid below a plane, closed by caps, which are its faces that have marks. Not possible: Meets.
+Combined part_below(const Held &held, const std::vector<Sheet> &sheets, const Plane &plane, const Points &points, Solid solid, AllNames &names)
 {
     const Failure meets = impossible(Misfit::meets, held.model.solid.number(), met(GWB_CAUSE_TOUCHES_ITSELF));
     std::vector<Sheet> left;
     for (const Sheet &sheet : sheets)
         put_below(sheet, plane, meets, left);
     put_caps(left, plane, meets);
+    require_apart(left, points, held.model);
     return assembled(held, left, names, solid, meets);
 }
 
 // ---- what is cut
 
+/// The faces of a solid that was cut, its caps with marks.
+std::vector<Sheet> faces_of(const Model &model, const std::vector<Face> &caps)
+{
+    std::vector<Sheet> found;
+    for (const auto &[face, loops] : model.faces)
+        if (const std::vector<Cycle> cycles = model.cycles(face); !joined(cycles).empty())
+            found.push_back({Shape(cycles), {face}, std::vector<std::size_t>(std::find(caps.begin(), caps.end(), face) != caps.end() ? 1 : 0)});
+    return found;
+}
+
 /// Cuts a solid face by face. What lies above may not be wanted.
-Caps cut_by_faces(Bench &bench, Solid solid, const Plane &plane, const Path &corners, Solid above, bool is_wanted)
+Caps cut_by_faces(Bench &bench, Solid solid, const Plane &plane, const Points &points, Solid above, bool is_wanted)
 {
     const Held held(bench, Model::whole(bench, solid));
     const std::vector<Sheet> sheets = sheets_of(held.model);
     AllNames names(bench);
-    const Combined lower = part_below(held, sheets, plane, solid, names);
-    const Combined upper = is_wanted ? part_below(held, sheets, plane.turned(), above, names) : Combined();
-    const bool touch = !corners.empty() && touch_anew({&held.model}, {&lower.model, &upper.model}, box_of(corners));
-    require(!touch, impossible(Misfit::meets, solid.number(), met(GWB_CAUSE_TOUCHES_ITSELF)));
-    if (const auto operators = changing::operators_between(held.model, lower.model, {}, names))
-        give(bench, *operators);
-    else
-        make_anew(bench, lower.model);
+    const Combined lower = part_below(held, sheets, plane, points, solid, names);
+    const Combined upper = is_wanted ? part_below(held, sheets, plane.turned(), points, above, names) : Combined();
+    changing::change(bench, held.model, lower.model);
     if (is_wanted)
-        bench.load(upper.model.listing());
+        rows::make(bench, rows_of(upper.model));
     return {lower.marked(0), upper.marked(0)};
 }
 
@@ -153,25 +188,19 @@ Caps split(Bench &bench, Solid solid, const gwb_cut_plane &row, Solid above)
 Caps cut(Bench &bench, Solid solid, const gwb_cut_plane &row, Solid above, bool is_wanted)
 {
     const Plane plane = Plane::of(row);
-    const Path points = mapped(bench.half_edge_rows(solid), [&](const gwb_half_edge_row &half) {
-        go_on();
-        return vector(bench.vertex(Vertex(half.start)));
-    });
-    const Path corners = filtered(points, [&](const Vector &at) { return plane.height(at) == 0; });
-    const Model before = corners.empty() ? Model() : Model::whole(bench, solid);
+    const Points points = points_in(bench, solid, plane);
+    const Model before = points.empty() ? Model() : Model::whole(bench, solid);
     const bool has_level = has_face_in(before, plane);
     const std::size_t mark = gwb_mark(bench.handle());
-    Result<Caps> caps = tried([&] { return split(bench, solid, row, above); });
+    auto [caps, why] = tried([&] { return split(bench, solid, row, above); });
     constexpr std::array coped_with = {GWB_WHY_TOUCHED_FACE, GWB_WHY_CUT_OFTEN, GWB_WHY_CUT_CROSSED, GWB_WHY_BRANCHED_VERTEX, GWB_WHY_SECTION_HOLES};
-    require(has(caps) || any(coped_with, [&](gwb_why why) { return caps.error().is(why); }), caps.error());
+    require(caps || any(coped_with, [&why = why](gwb_why one) { return why.is(one); }), why);
     if (caps && has_level)
         (void)gwb_back(bench.handle(), mark);
     if (!caps || has_level)
-        return cut_by_faces(bench, solid, plane, corners, above, is_wanted);
-    if (!corners.empty()) {
-        const Model lower = Model::whole(bench, solid), upper = is_wanted ? Model::whole(bench, above) : Model();
-        require(!touch_anew({&before}, {&lower, &upper}, box_of(corners)), impossible(Misfit::meets, solid.number(), met(GWB_CAUSE_TOUCHES_ITSELF)));
-    }
+        return cut_by_faces(bench, solid, plane, points, above, is_wanted);
+    for (std::size_t part = 0; !points.empty() && part < (is_wanted ? 2 : 1); part++)
+        require_apart(faces_of(Model::whole(bench, part == 0 ? solid : above), (*caps)[part]), points, before);
     if (!is_wanted) {
         (*caps)[1].clear();
         take_away(bench, above);

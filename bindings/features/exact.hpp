@@ -61,12 +61,6 @@ inline int compare_products(Wide a, Wide b, Wide c, Wide d)
     return one * ((large > beside) - (large < beside));
 }
 
-/// A whole number of 640 bits, its lowest word first.
-using Words = std::array<std::uint64_t, 10>;
-
-/// The product of the magnitudes of five numbers.
-Words product_of(const std::array<Wide, 5> &factors);
-
 /// A closed path from its least member on.
 template <class Path> Path from_least(Path path)
 {
@@ -181,11 +175,14 @@ template <class Item> Box box_of(const std::vector<Item> &items)
     return box;
 }
 
-/// Numbers by boxes. Each lies in a grid whose cells are longer than its box, by a power of two, in the cell of the box's lowest corner.
+/// Numbers by boxes. Each lies in a grid whose cells are longer than its box, by a power of two, in the cell of the box's lowest corner; all are rows in one
+/// vector, by their grids and cells. Rows that came since they were sorted last are few, or are sorted in when something is asked.
 class BoxIndex {
 public:
-    void put(const Box &box, std::size_t number) { entries(box).emplace_back(box, number); }
+    void put(const Box &box, std::size_t number) { fresh_.push_back(row(box, number)); }
 
+    /// Takes in all that another one has.
+    void take_in(BoxIndex &&other);
     /// A number that was put with this box goes.
     void take_away(const Box &box, std::size_t number);
 
@@ -193,14 +190,35 @@ public:
     [[nodiscard]] std::vector<std::size_t> meeting(const Box &box) const;
 
 private:
-    using Entries = std::vector<std::pair<Box, std::size_t>>;
-    using Grid = std::map<Vector, Entries>;
+    /// Coordinates, or a cell: in 31 bits, in which those of points in range fit; what lies beyond is taken as the greatest there.
+    using Short = std::array<std::int32_t, 3>;
+    struct Row {
+        std::int32_t size; ///< of the cells of its grid: this power of two
+        Short low, high;
+        std::uint32_t number; ///< `gone` where it was taken away
 
-    /// Those of the cell in which a box lies.
-    Entries &entries(const Box &box);
-    static Vector cell(const Vector &at, int size) { return {at[0] >> size, at[1] >> size, at[2] >> size}; }
+        [[nodiscard]] bool meets(const Short &from, const Short &to) const
+        {
+            return low[0] <= to[0] && from[0] <= high[0] && low[1] <= to[1] && from[1] <= high[1] && low[2] <= to[2] && from[2] <= high[2];
+        }
+        [[nodiscard]] Short cell() const { return cell_of(low, size); }
+        friend bool operator<(const Row &a, const Row &b) { return a.size != b.size ? a.size < b.size : a.cell() < b.cell(); }
+    };
+    using Rows = std::vector<Row>;
+    static constexpr std::uint32_t gone = UINT32_MAX;
 
-    std::map<int, Grid> grids_;
+    static Short short_of(const Vector &at);
+    static Short cell_of(const Short &at, int size) { return {at[0] >> size, at[1] >> size, at[2] >> size}; }
+    static Row row(const Box &box, std::size_t number);
+    /// Whether a cell lies after all of a range, or outside of it: then the first one is told that may lie within after it.
+    static bool is_outside(Short &cell, const Short &first, const Short &last);
+
+    /// Sorts in what is new, where that isn't little.
+    void settle() const;
+    /// Finds among the rows of one grid.
+    void find(Rows::const_iterator from, Rows::const_iterator to, const Short &low, const Short &high, std::vector<std::size_t> &found) const;
+
+    mutable Rows sorted_, fresh_;
 };
 
 // ---- places

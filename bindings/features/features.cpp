@@ -1,4 +1,5 @@
-// The calls of gwb_features.h. Nothing is thrown past them: memory that is refused in here is their answer GWB_MEMORY, and the draft is where it was.
+// The calls of gwb_features.h, and of gwb.h those for whole texts. Nothing is thrown past them: memory that is refused in here is their answer GWB_MEMORY, and
+// the draft is where it was.
 #pragma GCC visibility push(default)
 #include "gwb_features.h"
 #pragma GCC visibility pop
@@ -16,6 +17,7 @@
 #include <numeric>
 
 extern "C" {
+#include "heap.h"
 #include "watch.h"
 void gwb_forget_features(struct beside *of); // for calls.c
 }
@@ -56,6 +58,15 @@ gwb_kind told(const Failure &failure, gwb_refusal *why)
     }
 }
 
+/// What was made where nothing was held before is just what the text says: that is the kernel's to say. No call where it isn't.
+void judge(const gwb *g, std::string_view listing)
+{
+    gwb copy = *g;
+    const std::uint32_t told = gwb_lent_is_listing(&copy, listing.data(), listing.size());
+    if (told != GWB_FOUND)
+        throw Failure{told == GWB_ABSENT ? Problem::no_call : Problem::memory};
+}
+
 /// A feature is one call, of however many operators. It is accepted where it is kept.
 class OneCall {
 public:
@@ -94,6 +105,18 @@ template <class Call> gwb_kind guarded(const gwb *g, gwb_refusal *why, Call call
     }
     making = before;
     return kind;
+}
+
+/// Makes something as one command, or as steps of the draft that is open, or nothing of it.
+template <class Make> void make_whole(gwb *g, Make make)
+{
+    const Borrowed::Steps commands(g);
+    if (!commands.are_begun())
+        throw Failure{commands.kind() == GWB_MEMORY ? Problem::memory : Problem::closed};
+    OneCall call(g);
+    make();
+    call.keep();
+    commands.keep();
 }
 
 // ---- what was made, where the caller wants it
@@ -153,14 +176,14 @@ template <class Make> void make_numbered(Bench &bench, Lists &lists, Make make)
 /// What is answered to a call whose arguments make none.
 gwb_kind no_call(const gwb *g) { return gwb_is_open(g) ? GWB_NO_CALL : GWB_CLOSED; }
 
-/// Makes something as one command, in the heap of the session, where the arguments make a call. What makes something is given the session, and the lists
-/// for what it tells by them. In the end, when nothing can be refused any more, it writes what the caller is told.
+/// Makes something as one command, in the heap and pages of the session, where the arguments make a call. What makes something is given the session, and the
+/// lists for what it tells by them. In the end, when nothing can be refused any more, it writes what the caller is told.
 template <class Make> gwb_kind made_if(bool is_call, gwb *g, gwb_refusal *why, Make make) noexcept
 {
     if (!is_call || !gwb_is_open(g))
         return no_call(g);
     struct beside &of = *beside_of(g);
-    const gwb_heap *heap = gwb_use_heap(of.heap);
+    const used before = std::exchange(gwb_used, {of.heap, of.pages});
     const gwb_kind kind = guarded(g, why, [&] {
         if (of.known == nullptr)
             of.known = new machining::Surroundings();
@@ -170,24 +193,25 @@ template <class Make> gwb_kind made_if(bool is_call, gwb *g, gwb_refusal *why, M
         for (auto &list : known.lists)
             list.clear();
         known.hit.reset();
+        const auto stay_known = [&] { // where it is again what it was
+            if (was_known && known.changes == before)
+                known.changes = of.changes;
+        };
         try {
             Borrowed session(g);
-            const Borrowed::Steps commands(session.handle());
-            if (!commands.are_begun())
-                throw Failure{commands.kind() == GWB_MEMORY ? Problem::memory : Problem::closed};
-            OneCall call(session.handle());
-            make_numbered(session, known.lists, make);
-            call.keep();
-            commands.keep();
+            make_whole(session.handle(), [&] { make_numbered(session, known.lists, make); });
+        } catch (const FailureAt &failure) {
+            known.hit = failure.row;
+            stay_known();
+            throw;
         } catch (const Failure &failure) {
             if (failure.problem == Problem::refused || failure.problem == Problem::impossible)
-                known.hit = failure.hit;
-            if (was_known && known.changes == before) // it is again what it was
-                known.changes = of.changes;
+                known.hit = FailureAt(failure).row;
+            stay_known();
             throw;
         }
     });
-    gwb_use_heap(heap);
+    gwb_used = before;
     return kind;
 }
 
@@ -203,10 +227,29 @@ template <class Make> gwb_kind listed(gwb *g, gwb_list first, gwb_refusal *why, 
     });
 }
 
+/// A pocket or a boss, so far along the normal or by a vector: the face is looked at first.
+template <class ReachOf>
+gwb_kind raised(gwb *g, std::uint32_t face, Items<Point> points, ReachOf reach_of, bool is_boss, gwb_outline_made *out, std::uint32_t *sides, gwb_refusal *why)
+{
+    return made(g, why, [&](Bench &bench, Lists &) {
+        const Face at = given<Face>(face);
+        put(machining::make_raised(bench, at, points, reach_of(), is_boss), out, sides);
+    });
+}
+
 /// The same of what makes a floor and walls at a face.
 template <class Make> gwb_kind shaped(gwb *g, std::uint32_t face, gwb_refusal *why, Make make)
 {
     return listed(g, GWB_MADE_FLOOR, why, [&](Bench &bench) { return make(bench, given<Face>(face)); });
+}
+
+/// The same of what cuts a solid in two, of which the number is judged before that of the other one.
+template <class Cut> gwb_kind halved(gwb *g, std::uint32_t solid, std::uint32_t above, gwb_refusal *why, Cut cut)
+{
+    return listed(g, GWB_MADE_LOWER_CAPS, why, [&](Bench &bench) {
+        const Solid lower = given<Solid>(solid);
+        return cut(bench, lower, given<Solid>(above));
+    });
 }
 
 /// A row of solids, each as its place in it makes the model.
@@ -245,7 +288,7 @@ gwb_kind combined(booleans::Operation operation, gwb *g, std::optional<std::uint
 using exact::wide;
 
 /// Writes rows, as far as there is room: how many there are.
-template <class Row, class Items, class Of> std::size_t rows(const Items &items, Row *to, std::size_t room, Of of)
+template <class Row, class Items, class Of> std::size_t written(const Items &items, Row *to, std::size_t room, Of of)
 {
     std::transform(items.begin(), items.begin() + static_cast<std::ptrdiff_t>(std::min(items.size(), room)), to, of);
     return items.size();
@@ -270,7 +313,7 @@ gwb_kind sought(const gwb *g, const Query &query, Find find, std::uint32_t *buf,
     return looked_at(g, why, [&](const Bench &bench) {
         if (query.solid != 0)
             (void)given<Solid>(query.solid);
-        *count = rows(find(bench, query), buf, room, number_of);
+        *count = written(find(bench, query), buf, room, number_of);
     });
 }
 
@@ -287,6 +330,32 @@ void go_on()
 using namespace gwb_session;
 
 extern "C" {
+
+enum gwb_kind gwb_load(gwb *g, const char *listing, size_t n, gwb_refusal *refusal)
+{
+    return guarded(g, refusal, [&] {
+        const std::string_view text(listing, n);
+        const rows::Rows rows = rows::read(text);
+        const bool was_empty = gwb_greatest_number(g, GWB_SOLID) == 0;
+        make_whole(g, [&] {
+            rows::make(g, rows);
+            if (was_empty)
+                judge(g, text);
+        });
+    });
+}
+
+enum gwb_kind gwb_lines(gwb *g, const char *script, size_t n, size_t *line)
+{
+    gwb_kind kind = gwb_is_open(g) ? GWB_SILENT : GWB_CLOSED;
+    const char *at = script, *end = script + n;
+    for (*line = 0; at < end && gwb_succeeded(kind); ++*line) {
+        const char *newline = std::find(at, end, '\n');
+        kind = gwb_line(g, at, static_cast<size_t>(newline - at));
+        at = newline != end ? newline + 1 : end;
+    }
+    return kind;
+}
 
 void gwb_forget_features(struct beside *of) { delete static_cast<machining::Surroundings *>(of->known); }
 
@@ -312,7 +381,7 @@ size_t gwb_made(const gwb *g, uint32_t list, uint32_t *buf, size_t room)
     const auto *known = static_cast<const machining::Surroundings *>(beside_of(g)->known);
     if (known == nullptr || list >= std::tuple_size_v<Lists>)
         return 0;
-    return rows(known->lists[list], buf, room, [](uint32_t number) { return number; });
+    return written(known->lists[list], buf, room, [](uint32_t number) { return number; });
 }
 
 bool gwb_hit(const gwb *g, gwb_hit_row *hit)
@@ -332,20 +401,20 @@ gwb_kind gwb_kill_solid(gwb *g, uint32_t solid, gwb_refusal *why)
 gwb_kind gwb_copy_solid(gwb *g, uint32_t solid, const gwb_motion *motion, uint32_t *out, gwb_refusal *why)
 {
     return made_if(models::is_motion(*motion), g, why, [&](Bench &bench, Lists &lists) {
-        *out = models::make(bench, models::moved(sheets::Model::whole(bench, given<Solid>(solid)), {Motion(*motion)}), lists).number();
+        *out = models::copy(bench, models::moved(rows::read(bench, {given<Solid>(solid)}), Motion(*motion)), lists).number();
     });
 }
 
 gwb_kind gwb_move_solid(gwb *g, uint32_t solid, const gwb_motion *motion, gwb_refusal *why)
 {
     return made_if(models::is_motion(*motion), g, why, [&](Bench &bench, Lists &) {
-        sheets::make_anew(bench, models::moved(sheets::Model::whole(bench, given<Solid>(solid)), {Motion(*motion)}));
+        models::replace(bench, {given<Solid>(solid)}, [&](const rows::Rows &rows) { return models::moved(rows, Motion(*motion)); });
     });
 }
 
 gwb_kind gwb_pattern(gwb *g, uint32_t solid, uint32_t count, const gwb_point *step, uint32_t *solids, gwb_refusal *why)
 {
-    const auto place = [&](const sheets::Model &model, uint32_t at) { return models::moved(model, Motion(), exact::times(exact::vector(*step), at)); };
+    const auto place = [&](const rows::Rows &rows, uint32_t at) { return models::moved(rows, Motion(), exact::times(exact::vector(*step), at)); };
     return row_of(true, g, solid, count, place, solids, why);
 }
 
@@ -353,7 +422,7 @@ gwb_kind gwb_pattern_around(gwb *g, uint32_t solid, uint32_t count, uint32_t axi
                             gwb_refusal *why)
 {
     const bool are_apart = quarters == 2 ? count <= 2 : quarters % 2 == 1 && quarters < 4 && count <= 4;
-    const auto place = [&](const sheets::Model &model, uint32_t at) { return models::turned(model, axis, quarters * at, *about); };
+    const auto place = [&](const rows::Rows &rows, uint32_t at) { return models::turned(rows, axis, quarters * at, *about); };
     return row_of(axis <= 2 && are_apart, g, solid, count, place, solids, why);
 }
 
@@ -361,8 +430,8 @@ gwb_kind gwb_scale(gwb *g, int64_t factor, gwb_refusal *why)
 {
     return made(g, why, [&](Bench &bench, Lists &) {
         const auto [by] = machining::sizes_of(factor);
-        for (const sheets::Model &model : models::all_read(bench))
-            sheets::make_anew(bench, models::moved(model, Motion(), {}, by.length()));
+        for (Solid solid : models::solids_of(bench))
+            models::replace(bench, {solid}, [&](const rows::Rows &rows) { return models::moved(rows, Motion(), {}, by.length()); });
     });
 }
 
@@ -386,12 +455,12 @@ gwb_kind gwb_glue_all(gwb *g, const uint32_t *solids, size_t n, gwb_refusal *why
 
 gwb_kind gwb_split_solid(gwb *g, uint32_t solid, const gwb_cut_plane *plane, uint32_t above, gwb_refusal *why)
 {
-    return listed(g, GWB_MADE_LOWER_CAPS, why, [&](Bench &bench) { return cuts::split(bench, given<Solid>(solid), *plane, given<Solid>(above)); });
+    return halved(g, solid, above, why, [&](Bench &bench, Solid lower, Solid upper) { return cuts::split(bench, lower, *plane, upper); });
 }
 
 gwb_kind gwb_cut(gwb *g, uint32_t solid, const gwb_cut_plane *plane, uint32_t above, gwb_refusal *why)
 {
-    return listed(g, GWB_MADE_LOWER_CAPS, why, [&](Bench &bench) { return cuts::cut(bench, given<Solid>(solid), *plane, given<Solid>(above), true); });
+    return halved(g, solid, above, why, [&](Bench &bench, Solid lower, Solid upper) { return cuts::cut(bench, lower, *plane, upper, true); });
 }
 
 gwb_kind gwb_trim(gwb *g, uint32_t solid, const gwb_cut_plane *plane, gwb_refusal *why)
@@ -459,24 +528,24 @@ gwb_kind gwb_ring(gwb *g, uint32_t face, const gwb_point *points, size_t n, gwb_
 
 gwb_kind gwb_pocket(gwb *g, uint32_t face, const gwb_point *points, size_t n, int64_t depth, gwb_outline_made *out, uint32_t *sides, gwb_refusal *why)
 {
-    return made(g, why, [&](Bench &bench, Lists &) { put(machining::make_raised(bench, given<Face>(face), {points, n}, machining::sizes_of(depth)[0], false), out, sides); });
+    return raised(g, face, {points, n}, [&] { return machining::sizes_of(depth)[0]; }, false, out, sides, why);
 }
 
 gwb_kind gwb_boss(gwb *g, uint32_t face, const gwb_point *points, size_t n, int64_t height, gwb_outline_made *out, uint32_t *sides, gwb_refusal *why)
 {
-    return made(g, why, [&](Bench &bench, Lists &) { put(machining::make_raised(bench, given<Face>(face), {points, n}, machining::sizes_of(height)[0], true), out, sides); });
+    return raised(g, face, {points, n}, [&] { return machining::sizes_of(height)[0]; }, true, out, sides, why);
 }
 
 gwb_kind gwb_pocket_along(gwb *g, uint32_t face, const gwb_point *points, size_t n, const gwb_point *along, gwb_outline_made *out, uint32_t *sides,
                           gwb_refusal *why)
 {
-    return made(g, why, [&](Bench &bench, Lists &) { put(machining::make_raised(bench, given<Face>(face), {points, n}, *along, false), out, sides); });
+    return raised(g, face, {points, n}, [&] { return *along; }, false, out, sides, why);
 }
 
 gwb_kind gwb_boss_along(gwb *g, uint32_t face, const gwb_point *points, size_t n, const gwb_point *along, gwb_outline_made *out, uint32_t *sides,
                         gwb_refusal *why)
 {
-    return made(g, why, [&](Bench &bench, Lists &) { put(machining::make_raised(bench, given<Face>(face), {points, n}, *along, true), out, sides); });
+    return raised(g, face, {points, n}, [&] { return *along; }, true, out, sides, why);
 }
 
 gwb_kind gwb_hole(gwb *g, uint32_t face, const gwb_point *points, size_t n, gwb_outline_made *out, uint32_t *sides, gwb_refusal *why)
@@ -596,7 +665,8 @@ gwb_kind gwb_find_crossings(const gwb *g, uint32_t solid, uint32_t other, gwb_cr
 {
     return looked_at(g, why, [&](const Bench &bench) {
         const Solid own = given<Solid>(solid);
-        *found = rows(crossings::all(bench, own, other != 0 ? std::optional(given<Solid>(other)) : std::nullopt), buf, room, [](const crossings::Crossing &of) {
+        const auto all = crossings::all(bench, own, other != 0 ? std::optional(given<Solid>(other)) : std::nullopt);
+        *found = written(all, buf, room, [](const crossings::Crossing &of) {
             const gwb_hit_row at = of.point.met_at({});
             return gwb_crossing{of.first.number(), of.second.number(), {at.point[0], at.point[1], at.point[2]}, at.scale};
         });
@@ -614,7 +684,7 @@ bool gwb_advice_fits(const gwb_advice *advice) { return advice->fits; }
 
 size_t gwb_advice_cuts(const gwb_advice *advice, gwb_edge_cut *to, size_t room)
 {
-    return rows(advice->cuts, to, room, [](const cutting::EdgeCut &cut) {
+    return written(advice->cuts, to, room, [](const cutting::EdgeCut &cut) {
         const auto &[x, y, z] = cut.point;
         return gwb_edge_cut{cut.edge.number(),
                             {wide(x.numerator), wide(y.numerator), wide(z.numerator)},
@@ -624,7 +694,7 @@ size_t gwb_advice_cuts(const gwb_advice *advice, gwb_edge_cut *to, size_t room)
 
 size_t gwb_advice_planes(const gwb_advice *advice, gwb_near_plane *to, size_t room)
 {
-    return rows(advice->near, to, room, [](const gwb_near_plane &near) { return near; });
+    return written(advice->near, to, room, [](const gwb_near_plane &near) { return near; });
 }
 
 size_t gwb_advice_text(const gwb_advice *advice, uint32_t above, char *buf, size_t room)

@@ -24,23 +24,59 @@ Vector way_of(Face face, const Vector &across, const Reach &reach, bool is_out)
 
 // ---- what is met
 
-/// How what an outline sweeps over meets a face: it touches that where no point lies on its other side.
-gwb_hit_row met_by(const Surface &surface, Face face, const Path &path, const Path &far)
-{
-    const Plane *plane = surface.plane(face);
-    const auto lies = [&](const Vector &at, int side) { return plane == nullptr || sign(plane->height(at)) == side; };
-    const auto some = [&](int side) {
-        const auto is_there = [&](const Vector &at) { return lies(at, side); };
-        return any(path, is_there) || any(far, is_there);
-    };
-    return met(some(-1) && some(1) ? GWB_CAUSE_COMES_THROUGH : GWB_CAUSE_TOUCHES_FACE, face);
-}
+/// What an outline in a face sweeps over: the outlines before and after, and walls between, with the outline after where that ends in no face.
+class Swept {
+public:
+    Swept(const Vector &across, const Path &path, const Path &far, bool is_open)
+        : way_(subtract(far[0], path[0])),
+          lids_{Shape(Plane::through(path[0], across), {cycle_of(path)}), Shape(Plane::through(far[0], across), {cycle_of(far)})},
+          walls_(mapped(lids_[0].sides, [&](const Side &side) {
+              return Shape({cycle_of({side.start, side.end, add(side.end, way_), add(side.start, way_)})});
+          }))
+    {
+        if (!is_open)
+            walls_.push_back(lids_[1]);
+        for (std::size_t at = 0; at < walls_.size(); at++)
+            boxes_.put(walls_[at].box, at);
+    }
+
+    /// Whether a face has a point of a side of a wall.
+    [[nodiscard]] bool meets(const Shape &face) const
+    {
+        go_on();
+        const auto touches = [&](std::size_t at) { return any(walls_[at].sides, [&](const Side &side) { return face.meets(side); }); };
+        return any(boxes_.meeting(face.box), touches);
+    }
+    /// Whether an edge has a point on a wall, or within.
+    [[nodiscard]] bool meets(const Side &edge) const
+    {
+        go_on();
+        const auto passes = [&](const Shape &lid) { return sign(lid.height({edge.start})) * sign(lid.height({edge.end})) < 0 && lid.meets(edge); };
+        return any(boxes_.meeting(box_of(edge)), [&](std::size_t at) { return walls_[at].meets(edge); }) || any(lids_, passes) ||
+               (lids_[0].hit({edge.start}, negative(way_)) != Place::outside && lids_[1].hit({edge.start}, way_) != Place::outside);
+    }
+    /// Whether points of a face lie within, and not on walls alone.
+    [[nodiscard]] bool has_within(const Shape &face) const
+    {
+        const auto crosses = [&](const Shape &wall) {
+            return any(face.cut_by(wall.plane), [&](const Shape::Span &part) { return !wall.cut_by(face.plane, part).empty(); });
+        };
+        const std::optional<ScaledPoint> inner = face.inner_point();
+        return any(walls_, crosses) ||
+               (inner && lids_[0].hit(*inner, negative(way_)) == Place::inside && lids_[1].hit(*inner, way_) == Place::inside);
+    }
+
+private:
+    Vector way_;
+    std::array<Shape, 2> lids_;
+    std::vector<Shape> walls_;
+    BoxIndex boxes_; ///< of the walls
+};
 
 /// Refuses to move an outline in a face to another place where what it sweeps over would meet or touch the solid elsewhere than in the face,
-/// or in the other one where it ends there. In these only what is on the outline counts.
+/// or in the other one where it ends there. In these only what is on the outline counts. (This is asked before anything is made.)
 void require_room(const Bench &bench, const Surface &surface, const Vector &across, const Path &path, const Path &far, Face face, Face other)
 {
-    const Vector way = subtract(far[0], path[0]);
     Box box = box_of(path);
     box.take(box_of(far));
     std::vector<Side> edges; // that are near, and other faces
@@ -53,33 +89,15 @@ void require_room(const Bench &bench, const Surface &surface, const Vector &acro
     }
     if (edges.empty() && faces.empty())
         return;
-    const std::array lids = {Shape(Plane::through(path[0], across), {cycle_of(path)}), Shape(Plane::through(far[0], across), {cycle_of(far)})};
-    std::vector<Shape> walls = mapped(lids[0].sides, [&](const Side &side) {
-        return Shape({cycle_of({side.start, side.end, add(side.end, way), add(side.start, way)})});
-    });
-    if (other == Face())
-        walls.push_back(lids[1]);
-    BoxIndex boxes;
-    for (std::size_t at = 0; at < walls.size(); at++)
-        boxes.put(walls[at].box, at);
-    const auto meets = [&](const Side &edge) { // has a point on a wall, or within
-        go_on();
-        const auto touches = [&](std::size_t at) { return walls[at].meets(edge); };
-        const auto passes = [&](const Shape &lid) { return sign(lid.height({edge.start})) * sign(lid.height({edge.end})) < 0 && lid.meets(edge); };
-        const auto lies_beside = [&](const Shape &lid, const Vector &ray) { return lid.hit({edge.start}, ray) != Place::outside; };
-        return any(boxes.meeting(box_of(edge)), touches) || any(lids, passes) || (lies_beside(lids[0], negative(way)) && lies_beside(lids[1], way));
-    };
-    const auto is_met = [&](const auto &beside) {
-        go_on();
-        const auto touches = [&](std::size_t at) { return any(walls[at].sides, [&](const Side &side) { return beside.second.meets(side); }); };
-        return any(boxes.meeting(beside.second.box), touches);
-    };
-    const auto met_face = std::find_if(faces.begin(), faces.end(), is_met);
-    if (met_face != faces.end())
-        throw impossible(Misfit::meets, face.number(), met_by(surface, met_face->first, path, far));
-    const auto edge = std::find_if(edges.begin(), edges.end(), meets);
-    if (edge != edges.end())
-        throw impossible(Misfit::meets, face.number(), met_by(surface, beyond(bench, edge->half, face), path, far));
+    const Swept swept(across, path, far, other != Face());
+    const auto met_face = std::find_if(faces.begin(), faces.end(), [&](const auto &beside) { return swept.meets(beside.second); });
+    const auto met_edge = met_face != faces.end() ? edges.end() : std::find_if(edges.begin(), edges.end(), [&](const Side &edge) { return swept.meets(edge); });
+    if (met_face == faces.end() && met_edge == edges.end())
+        return;
+    const auto through = std::find_if(faces.begin(), faces.end(), [&](const auto &beside) { return swept.has_within(beside.second); });
+    const Face touched = met_face != faces.end() ? met_face->first : beyond(bench, met_edge->half, face);
+    const gwb_hit_row hit = through != faces.end() ? met(GWB_CAUSE_COMES_THROUGH, through->first) : met(GWB_CAUSE_TOUCHES_FACE, touched);
+    throw impossible(Misfit::meets, face.number(), hit);
 }
 
 /// The faces that a ray from a point of a face comes to on its way to an end, by how many times as far as the ray is long.

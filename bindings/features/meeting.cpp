@@ -25,12 +25,7 @@ struct Along {
 /// to the next: each such side changes it.
 class Line {
 public:
-    Line(Operands &all, std::vector<Trace> &traces, const Pair &faces) : all_(all), traces_(traces), faces_(faces)
-    {
-        const Vector product = cross(all.sheet(faces[0]).plane.across, all.sheet(faces[1]).plane.across);
-        way_ = line_of(product);
-        turn_ = reduced(product) == way_ ? 1 : -1;
-    }
+    Line(Operands &all, std::vector<Trace> &traces, const Pair &faces) : all_(all), traces_(traces), faces_(faces) {}
 
     void meet()
     {
@@ -38,6 +33,8 @@ public:
         put_stops(small);
         if (stops_.empty() && !all_.is_large(faces_[small])) // (of a large one sides that aren't near may have some)
             return;
+        const Vector product = reduced(cross(all_.sheet(faces_[0]).plane.across, all_.sheet(faces_[1]).plane.across));
+        way_ = std::max(product, negative(product)), turn_ = product == way_ ? 1 : -1;
         put_stops(1 - small);
         const auto comes_before = [&](const Stop &a, const Stop &b) { return all_.points.comes_before(a.point, b.point); };
         std::stable_sort(stops_.begin(), stops_.end(), comes_before);

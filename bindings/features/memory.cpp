@@ -1,16 +1,10 @@
 // Memory of the features: of the heap that their thread uses (heap.c). These are seen in the library alone, whose symbols but gwb_* are made local.
-#include <cstddef>
 #include <cstdlib>
 #include <new>
 #include <utility>
 
 extern "C" {
-struct tried {
-    bool ok;
-    void *at;
-};
-tried rattle_alloc(std::size_t size, std::size_t align);
-void rattle_dealloc(void *at);
+#include "heap.h"
 }
 
 void *operator new(std::size_t size, const std::nothrow_t &) noexcept

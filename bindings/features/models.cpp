@@ -1,13 +1,16 @@
 #include "models.hpp"
+#include "surroundings.hpp"
 
 namespace gwb_session::models {
 
 namespace {
 
+using namespace machining;
+
 // ---- polyhedra
 
 /// Sides of faces, each from one place among points to another, with its half-edge and the place of its face.
-using Sides = std::map<std::pair<std::uint32_t, std::uint32_t>, std::pair<HalfEdge, std::size_t>>;
+using Sides = std::map<std::pair<std::uint32_t, std::uint32_t>, std::pair<std::uint32_t, std::size_t>>;
 
 /// What was met where a side runs the same way in two faces.
 gwb_hit_row met_twice(std::size_t one, std::size_t other)
@@ -15,19 +18,20 @@ gwb_hit_row met_twice(std::size_t one, std::size_t other)
     return one != other ? machining::met_place(GWB_CAUSE_SIDE_TWICE, place(one)) : gwb_hit_row{};
 }
 
-/// The half-edges of a face: each edge has two sides, one each way. Not possible: NotClosed.
-std::vector<HalfEdge> halves_of(Items<std::uint32_t> corners, std::size_t face, FreeNumbers<Edge> &edges, Sides &sides)
+/// Puts in the half-edges of a face, from one corner to the next: each edge has two sides, one each way. Not possible: NotClosed.
+void put_sides(Items<std::uint32_t> corners, std::uint32_t first, FreeNumbers<Edge> &edges, Sides &sides, Rows &rows)
 {
-    std::vector<HalfEdge> halves;
+    const std::size_t face = rows.faces.size();
     for (std::size_t at = 0; at < corners.size(); at++) {
         const std::uint32_t from = corners.data()[at], to = corners.data()[(at + 1) % corners.size()];
         const auto mate = sides.find({to, from});
-        halves.push_back(mate != sides.end() ? mate->second.first.twin() : plus(edges.spare()));
-        const bool is_new = sides.emplace(std::pair(from, to), std::pair(halves.back(), face)).second;
+        if (mate == sides.end())
+            rows.edges.push_back({edges.spare().number(), first + from, first + to});
+        rows.cycles.push_back(mate != sides.end() ? mate->second.first ^ 1U : 2 * rows.edges.back().number);
+        const auto [side, is_new] = sides.emplace(std::pair(from, to), std::pair(rows.cycles.back(), face));
         if (from == to || !is_new)
-            throw impossible(Misfit::not_closed, place(face), met_twice(sides.find({from, to})->second.second, face));
+            throw impossible(Misfit::not_closed, place(face), met_twice(side->second.second, face));
     }
-    return halves;
 }
 
 /// Where a motion takes a point.
@@ -40,57 +44,46 @@ Vector image(const Vector &at, const Motion &motion)
 
 // ---- numbers
 
-/// The numbers that parts of each kind get, by those that they have.
-class Numbering {
-public:
-    template <gwb_entity Kind> [[nodiscard]] Id<Kind> of(Id<Kind> old) const { return Id<Kind>(made_[Kind].at(old.number())); }
-    [[nodiscard]] HalfEdge of(HalfEdge half) const { return half.is_second() ? minus(of(half.edge())) : plus(of(half.edge())); }
+/// The numbers that solids get, by the places of their rows.
+using Numbers = std::array<std::vector<std::uint32_t>, GWB_VERTEX + 1>;
 
-    /// Free numbers for the parts of a kind, asked for as the old ones rise.
-    template <class Kind, class Row> void take(const std::map<Kind, Row> &parts, FreeNumbers<Kind> &free)
-    {
-        for (const auto &[old, row] : parts)
-            made_[Kind::kind].emplace_hint(made_[Kind::kind].end(), old.number(), free.take().number());
-    }
-    /// All numbers in use as low as they can be, in their order.
-    void rank(const Bench &bench)
-    {
-        for (std::uint32_t kind = GWB_SOLID; kind < made_.size(); kind++)
-            for (std::uint32_t old = 0, made = 1; gwb_number_after(bench.handle(), kind, old, &old) == GWB_FOUND; made++)
-                made_[kind].emplace_hint(made_[kind].end(), old, made);
-    }
-    /// Writes down which numbers became which.
-    void tell(Lists &lists) const
-    {
-        constexpr std::array list_of = {GWB_MADE_SOLIDS, GWB_MADE_FACES, GWB_MADE_LOOPS, GWB_MADE_EDGES, GWB_MADE_VERTICES};
-        for (std::size_t kind = GWB_SOLID; kind < made_.size(); kind++)
-            for (auto [old, made] : made_[kind])
-                lists[list_of[kind]].insert(lists[list_of[kind]].end(), {old, made});
-    }
-
-private:
-    std::array<std::map<std::uint32_t, std::uint32_t>, GWB_VERTEX + 1> made_;
-};
-
-/// The model with other numbers. Each edge runs as it did.
-Model numbered(const Model &model, const Numbering &numbers, Solid solid)
+/// Writes down which numbers became which.
+template <class Row> void tell(const std::vector<Row> &rows, const std::vector<std::uint32_t> &made, std::vector<std::uint32_t> &list)
 {
-    Model made(solid);
-    const auto put = [](auto &all, auto number, auto row) { all.emplace_hint(all.end(), number, std::move(row)); }; // (they rise, but in gaps)
-    for (const auto &[face, loops] : model.faces) {
-        std::vector<Loop> row = mapped(loops, [&](Loop loop) { return numbers.of(loop); });
-        std::sort(row.begin() + 1, row.end());
-        put(made.faces, numbers.of(face), std::move(row));
-    }
-    for (const auto &[loop, halves] : model.loops)
-        put(made.loops, numbers.of(loop), from_least(mapped(halves, [&](HalfEdge half) { return numbers.of(half); })));
-    for (const auto &[loop, vertex] : model.lone)
-        put(made.lone, numbers.of(loop), numbers.of(vertex));
-    for (const auto &[edge, ends] : model.edges)
-        put(made.edges, numbers.of(edge), std::pair(numbers.of(ends.first), numbers.of(ends.second)));
-    for (const auto &[vertex, at] : model.vertices)
-        put(made.vertices, numbers.of(vertex), at);
-    return made;
+    for (std::size_t at = 0; at < rows.size(); at++)
+        list.insert(list.end(), {rows::number_of(rows[at]), made[at]});
+}
+void tell_all(const Rows &rows, const Numbers &made, Lists &lists)
+{
+    tell(rows.faces, made[GWB_FACE], lists[GWB_MADE_FACES]), tell(rows.loops, made[GWB_LOOP], lists[GWB_MADE_LOOPS]);
+    tell(rows.edges, made[GWB_EDGE], lists[GWB_MADE_EDGES]), tell(rows.vertices, made[GWB_VERTEX], lists[GWB_MADE_VERTICES]);
+}
+
+/// Rows get their numbers, by which they rise then.
+template <class Row> void number(std::vector<Row> &rows, const std::vector<std::uint32_t> &made, std::uint32_t Row::*number)
+{
+    for (std::size_t at = 0; at < rows.size(); at++)
+        rows[at].*number = made[at];
+    rows::sort(rows);
+}
+
+/// The solids with other numbers. Each edge runs as it did.
+Rows numbered(const Rows &rows, const Numbers &made)
+{
+    const auto of = [](const auto &kind, const auto &numbers) { return [&](std::uint32_t &old) { old = numbers[rows::place_of(kind, old)]; }; };
+    const auto solid = of(rows.solids, made[GWB_SOLID]);
+    const auto loop = of(rows.loops, made[GWB_LOOP]);
+    const auto vertex = of(rows.vertices, made[GWB_VERTEX]);
+    const auto each = [](auto &items, auto change) { std::for_each(items.begin(), items.end(), change); };
+    Rows found = rows;
+    each(found.solids, solid), each(found.owned, loop);
+    each(found.faces, [&](rows::FaceRow &row) { solid(row.solid); });
+    each(found.loops, [&](rows::LoopRow &row) { row.count == 0 ? vertex(row.lone) : void(); });
+    each(found.cycles, [&](std::uint32_t &half) { half = 2 * made[GWB_EDGE][rows::place_of(rows.edges, half / 2)] + half % 2; });
+    each(found.edges, [&](rows::EdgeRow &row) { vertex(row.from), vertex(row.to); });
+    number(found.faces, made[GWB_FACE], &rows::FaceRow::number), number(found.loops, made[GWB_LOOP], &rows::LoopRow::number);
+    number(found.edges, made[GWB_EDGE], &rows::EdgeRow::number), number(found.vertices, made[GWB_VERTEX], &gwb_vertex_row::vertex);
+    return found;
 }
 
 } // namespace
@@ -98,28 +91,27 @@ Model numbered(const Model &model, const Numbering &numbers, Solid solid)
 gwb_polyhedron_made make_polyhedron(Bench &bench, Solid solid, Items<Point> points, const std::uint32_t *corners, Items<std::uint32_t> sizes)
 {
     AllNames names(bench);
-    Model model(solid);
+    Rows rows;
+    rows.solids = {solid.number()};
     for (const Point &at : points) {
-        require(is_in_range(vector(at)), refused(GWB_WHY_POINT_RANGE, place(model.vertices.size())));
-        model.vertices[names.vertices.spare()] = vector(at);
+        require(is_in_range(vector(at)), refused(GWB_WHY_POINT_RANGE, place(rows.vertices.size())));
+        rows.vertices.push_back({names.vertices.spare().number(), at});
     }
-    const std::uint32_t first = model.vertices.begin()->first.number(); // which the others follow one by one
+    const std::uint32_t first = rows.vertices[0].vertex; // which the others follow one by one
     Sides sides;
     for (std::uint32_t size : sizes) {
         go_on();
         require(size >= 3, refused(GWB_WHY_FEW_POINTS, size));
-        const Loop loop = names.loops.spare();
-        model.loops[loop] = from_least(halves_of({std::exchange(corners, corners + size), size}, model.faces.size(), names.edges, sides));
-        model.faces[names.faces.spare()] = {loop};
+        rows.loops.push_back({names.loops.spare().number(), 0, rows.cycles.size(), size});
+        put_sides({std::exchange(corners, corners + size), size}, first, names.edges, sides, rows);
+        rows.faces.push_back({names.faces.spare().number(), solid.number(), rows.owned.size(), 1});
+        rows.owned.push_back(rows.loops.back().number);
     }
-    for (const auto &[ends, side] : sides) {
+    for (const auto &[ends, side] : sides)
         require(sides.count({ends.second, ends.first}) != 0, impossible(Misfit::not_closed, place(side.second), met(GWB_CAUSE_SIDE_OPEN)));
-        if (!side.first.is_second())
-            model.edges[side.first.edge()] = {Vertex(first + ends.first), Vertex(first + ends.second)};
-    }
     names.require_enough();
-    bench.load(model.listing());
-    return gwb_polyhedron_made{first, model.faces.begin()->first.number()};
+    rows::make(bench, rows);
+    return {first, rows.faces[0].number};
 }
 
 bool is_motion(const gwb_motion &motion)
@@ -128,59 +120,64 @@ bool is_motion(const gwb_motion &motion)
     return has_image(1) && has_image(2) && has_image(3);
 }
 
-Model moved(Model model, const Motion &motion, const Vector &by, Wide factor)
+Rows moved(Rows rows, const Motion &motion, const Vector &by, std::int64_t factor)
 {
-    for (auto &[vertex, at] : model.vertices)
-        require(is_in_range(at = add(image(times(at, factor), motion), by)), refused(GWB_WHY_POINT_RANGE, vertex.number()));
-    if (!motion.is_mirror())
-        return model;
-    for (auto &[loop, halves] : model.loops) {
-        std::reverse(halves.begin(), halves.end());
-        halves = from_least(mapped(halves, [](HalfEdge half) { return half.twin(); }));
+    for (gwb_vertex_row &row : rows.vertices) {
+        const Vector at = add(image(times(vector(row.point), factor), motion), by);
+        require(is_in_range(at), refused(GWB_WHY_POINT_RANGE, row.vertex));
+        row.point = point(at);
     }
-    return model;
+    if (!motion.is_mirror())
+        return rows;
+    for (const rows::LoopRow &loop : rows.loops) {
+        const auto first = rows.cycles.begin() + static_cast<std::ptrdiff_t>(loop.first), end = first + static_cast<std::ptrdiff_t>(loop.count);
+        std::reverse(first, end);
+        std::for_each(first, end, [](std::uint32_t &half) { half ^= 1U; });
+    }
+    return rows;
 }
 
-Solid make(Bench &bench, const Model &model, Lists &lists)
+Rows turned(const Rows &rows, std::uint32_t axis, std::uint32_t quarters, const gwb_point &about)
+{
+    const Motion turn = Motion::quarter_turns(axis, quarters);
+    return moved(rows, turn, subtract(vector(about), image(vector(about), turn)));
+}
+
+Solid copy(Bench &bench, const Rows &rows, Lists &lists)
 {
     AllNames names(bench);
     const Solid solid = names.solids.take();
-    Numbering numbers;
-    numbers.take(model.faces, names.faces), numbers.take(model.loops, names.loops);
-    numbers.take(model.edges, names.edges), numbers.take(model.vertices, names.vertices);
+    const auto taken = [](const auto &rows, auto &free) { return mapped(rows, [&](const auto &) { return free.take().number(); }); };
+    const Numbers made = {std::vector{solid.number()}, taken(rows.faces, names.faces), taken(rows.loops, names.loops), taken(rows.edges, names.edges),
+                          taken(rows.vertices, names.vertices)};
     names.require_enough();
-    const Result<void> made = bench.attempt().load(numbered(model, numbers, solid).listing());
-    if (made.error().is(GWB_WHY_NUMBER_RANGE)) { // what comes on the way and goes again has none
-        (void)names.faces.take(), (void)names.loops.take(), (void)names.edges.take();
-        names.require_enough();
-        throw refused(GWB_WHY_NUMBERS_SPENT, GWB_FACE + 1U);
+    try {
+        rows::make(bench, numbered(rows, made));
+    } catch (const Failure &failure) {
+        if (failure.is(GWB_WHY_NUMBERS_SPENT)) { // what comes on the way and goes again has none
+            (void)names.faces.take(), (void)names.loops.take(), (void)names.edges.take();
+            names.require_enough();
+            throw refused(GWB_WHY_NUMBERS_SPENT, GWB_FACE + 1U);
+        }
+        throw;
     }
-    require(has(made), made.error());
-    numbers.tell(lists);
+    tell_all(rows, made, lists);
     return solid;
-}
-
-Model turned(const Model &model, std::uint32_t axis, std::uint32_t quarters, const gwb_point &about)
-{
-    const Motion turn = Motion::quarter_turns(axis, quarters);
-    return moved(model, turn, subtract(vector(about), image(vector(about), turn)));
-}
-
-std::vector<Model> all_read(const Bench &bench)
-{
-    return mapped(bench.numbers<Solid>(), [&](Solid solid) { return Model::whole(bench, solid); });
 }
 
 void renumber(Bench &bench, Lists &lists)
 {
-    const std::vector<Model> models = all_read(bench);
-    Numbering numbers;
-    numbers.rank(bench);
-    numbers.tell(lists);
-    for (const Model &model : models)
-        take_away(bench, model.solid);
-    for (const Model &model : models)
-        bench.load(numbered(model, numbers, numbers.of(model.solid)).listing());
+    const auto ranks = [](const auto &rows) {
+        std::vector<std::uint32_t> found(rows.size());
+        std::iota(found.begin(), found.end(), 1U);
+        return found;
+    };
+    replace(bench, solids_of(bench), [&](const Rows &rows) {
+        const Numbers made = {ranks(rows.solids), ranks(rows.faces), ranks(rows.loops), ranks(rows.edges), ranks(rows.vertices)};
+        tell(rows.solids, made[GWB_SOLID], lists[GWB_MADE_SOLIDS]);
+        tell_all(rows, made, lists);
+        return numbered(rows, made);
+    });
 }
 
 } // namespace gwb_session::models

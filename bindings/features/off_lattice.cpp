@@ -1,4 +1,6 @@
 #include "off_lattice.hpp"
+#include "cut_advice.hpp"
+#include "integers.hpp"
 #include "selection.hpp"
 #include <cmath>
 #include <limits>
@@ -7,6 +9,8 @@
 namespace gwb_session::cutting {
 
 namespace {
+
+using namespace integers;
 
 /// The offset of a plane lies within this.
 constexpr Wide farthest_offset = 3 * Wide{farthest} * farthest;
@@ -130,10 +134,9 @@ struct SquareMoved {
     friend bool operator<(const SquareMoved &a, const SquareMoved &b)
     {
         const auto across = [](const SquareMoved &one, const SquareMoved &other) {
-            return product_of({one.way.numerator, one.way.numerator, one.square, other.way.denominator, other.way.denominator});
+            return product_of(one.way.numerator, one.way.numerator) * product_of(other.way.denominator, other.way.denominator) * Int<2>(one.square);
         };
-        const Words first = across(a, b), second = across(b, a);
-        return std::lexicographical_compare(first.rbegin(), first.rend(), second.rbegin(), second.rend());
+        return across(a, b) < across(b, a);
     }
 };
 
@@ -322,6 +325,15 @@ Wide least_factor(const std::vector<EdgeCut> &cuts)
     return factor;
 }
 
+/// A comment, in which the values stand for X and Y.
+std::string said(const char *text, const std::string &value = "", const std::string &other = "")
+{
+    std::string told = "# ";
+    for (const char *letter = text; *letter != '\0'; letter++)
+        told += *letter == 'X' ? value : *letter == 'Y' ? other : std::string(1, *letter);
+    return told;
+}
+
 } // namespace
 
 std::string Fraction::digits(Wide number)
@@ -336,26 +348,25 @@ std::string OffLattice::advice(Solid above) const
 {
     std::string text;
     const auto offer = [&](const std::string &comment, const gwb_cut_plane &by) {
-        text += comment;
-        put(text, ":\nsplit ", solid.number(), by.a, by.b, by.c, by.d, above.number());
+        text += comment + ":\nsplit";
+        for (std::int64_t number : {std::int64_t{solid.number()}, by.a, by.b, by.c, by.d, std::int64_t{above.number()}})
+            text += ' ' + std::to_string(number);
         text += "\n";
     };
     for (const EdgeCut &cut : cuts)
         if (const auto &[x, y, z] = cut.point; !x.is_whole() || !y.is_whole() || !z.is_whole())
-            text += "# edge " + std::to_string(cut.edge.number()) + " is cut at " + x.text() + " " + y.text() + " " + z.text() + "\n";
+            text += said(advice::cut_at, std::to_string(cut.edge.number()), x.text() + " " + y.text() + " " + z.text()) + "\n";
     const std::string times = factor != 0 ? Fraction::digits(factor) : "more than 10^36";
     if (!fits)
-        text += "# times " + times + " all points are whole, but the model would lie past 1,000,000,000\n";
+        text += said(advice::past_range, times) + "\n";
     else if (factor != 1)
-        offer("# times " + times + " (gwb-script --scale " + times + ") all points are whole",
-              {plane.a, plane.b, plane.c, static_cast<std::int64_t>(plane.d * factor)});
+        offer(said(advice::scaled, times), {plane.a, plane.b, plane.c, static_cast<std::int64_t>(plane.d * factor)});
     if (factor != 1 && (near.empty() || !near.front().is_parallel))
-        text += "# no parallel plane cuts at whole points\n";
+        text += said(advice::no_parallel) + "\n";
     for (const gwb_near_plane &beside : near) {
         const auto hundredths = static_cast<std::int64_t>(beside.moved * 100 + 0.5);
-        offer(std::string(beside.is_parallel ? "# parallel" : "# tilted") + ", the cut moves by at most " + std::to_string(hundredths / 100) + "." +
-                  std::to_string(100 + hundredths % 100).substr(1) + " along an edge",
-              beside.plane);
+        const std::string moved = std::to_string(hundredths / 100) + "." + std::to_string(100 + hundredths % 100).substr(1);
+        offer(said(advice::moved, beside.is_parallel ? "parallel" : "tilted", moved), beside.plane);
     }
     return text;
 }

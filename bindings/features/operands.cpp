@@ -3,15 +3,13 @@
 
 namespace gwb_session::operands {
 
-Operands::Operands(const std::vector<std::vector<Sheet>> &solids)
+Operands::Operands(const std::vector<std::vector<Sheet>> &solids, const std::vector<Box> &boxes) : around_(boxes)
 {
-    const Box everywhere{{-farthest, -farthest, -farthest}, {farthest, farthest, farthest}};
     for (const std::vector<Sheet> &sheets : solids) {
         const auto solid = static_cast<Number>(firsts_.size());
         firsts_.push_back(static_cast<Number>(faces.size()));
         for (const Sheet &sheet : sheets)
             put(sheet, solid);
-        around_.push_back(solid == 0 || sheets.empty() ? everywhere : box_of(sheets));
     }
     firsts_.push_back(static_cast<Number>(faces.size()));
 }
@@ -60,12 +58,11 @@ Place Operands::locate(Number face, const ScaledPoint &point)
     if (!is_large(face))
         return own.locate(point);
     const Axes axes = flat_axes(own.plane.across);
+    const Box here = box_of(point);
     Box ray = own.box; // from the point on along the first axis
-    for (std::size_t axis : axes) {
-        const Wide below = point.at[axis] / point.scale - (point.at[axis] < 0 ? 1 : 0);
-        ray.low[axis] = std::max(ray.low[axis], below);
-        ray.high[axis] = axis == axes[0] ? ray.high[axis] : std::min(ray.high[axis], below + 1);
-    }
+    for (std::size_t axis : axes)
+        ray.low[axis] = std::max(ray.low[axis], here.low[axis]);
+    ray.high[axes[1]] = std::min(ray.high[axes[1]], here.high[axes[1]]);
     return machining::locate(mapped(sides_by_boxes(face).meeting(ray), [&](std::size_t at) { return own.sides[at]; }), point, axes);
 }
 
@@ -106,6 +103,15 @@ Spot Operands::spot(Number solid, Number point) const
     while (at != none && rows_[at].solid != solid)
         at = rows_[at].next;
     return at != none ? rows_[at].spot : Spot();
+}
+
+std::vector<ScaledPoint> Operands::common() const
+{
+    std::vector<ScaledPoint> found;
+    for (Number point = 0; point < first_rows_.size(); point++)
+        if (const Number first = first_rows_[point]; first != none && rows_[first].next != none && !points.is_fine(point))
+            found.push_back(points.at(point));
+    return found;
 }
 
 } // namespace gwb_session::operands

@@ -39,7 +39,8 @@ struct Spot {
 /// Solids by their faces.
 class Operands {
 public:
-    explicit Operands(const std::vector<std::vector<Sheet>> &solids);
+    /// Beyond its box nothing lies within a solid: none are there where that isn't asked.
+    explicit Operands(const std::vector<std::vector<Sheet>> &solids, const std::vector<Box> &boxes = {});
 
     Points points;
     std::vector<FlatFace> faces; ///< those of the first solid first, and so on
@@ -48,7 +49,7 @@ public:
     [[nodiscard]] Number count() const { return static_cast<Number>(firsts_.size() - 1); }
     /// The first face of a solid: that of the one after it comes after its last one.
     [[nodiscard]] Number first_face(Number solid) const { return firsts_[solid]; }
-    /// A box beyond which nothing lies within a solid: of the first one, of which perhaps only faces near the others are known, that of all points.
+    /// A box beyond which nothing lies within a solid.
     [[nodiscard]] const Box &box(Number solid) const { return around_[solid]; }
 
     [[nodiscard]] const Sheet &sheet(Number face) const { return *faces[face].sheet; }
@@ -66,6 +67,8 @@ public:
     void touch_edge(Number edge, Number point);
     void put_spot(Number solid, Number point, const Spot &spot);
     [[nodiscard]] Spot spot(Number solid, Number point) const;
+    /// The points that lie on several solids, but for fine ones.
+    [[nodiscard]] std::vector<ScaledPoint> common() const;
 
 private:
     static constexpr std::size_t many_sides = 48;

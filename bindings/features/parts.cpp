@@ -5,7 +5,7 @@ namespace gwb_session::sheets {
 void make_anew(Bench &bench, const Model &model)
 {
     take_away(bench, model.solid);
-    bench.load(model.listing());
+    rows::make(bench, rows_of(model));
 }
 
 std::vector<Cycle> Model::cycles(Face face) const
@@ -61,12 +61,36 @@ Model Model::whole(const Bench &bench, Solid solid)
     return found;
 }
 
+Model Model::part(const std::vector<Face> &of, Solid as) const
+{
+    Model found(as);
+    const auto take = [](auto &to, const auto &all, auto key) {
+        if (const auto row = all.find(key); row != all.end())
+            to.insert(*row);
+    };
+    for (Face face : of)
+        for (Loop loop : found.faces[face] = faces.at(face)) {
+            take(found.lone, lone, loop);
+            for (HalfEdge half : found.loops[loop] = loops.at(loop)) {
+                take(found.edges, edges, half.edge());
+                take(found.runs, runs, half);
+            }
+        }
+    for (const auto &[loop, vertex] : found.lone)
+        take(found.vertices, vertices, vertex);
+    for (const auto &[edge, ends] : found.edges)
+        take(found.vertices, vertices, ends.first), take(found.vertices, vertices, ends.second);
+    return found;
+}
+
 void Model::take_in(const Model &other)
 {
     faces.insert(other.faces.begin(), other.faces.end());
     loops.insert(other.loops.begin(), other.loops.end());
     edges.insert(other.edges.begin(), other.edges.end());
     vertices.insert(other.vertices.begin(), other.vertices.end());
+    runs.insert(other.runs.begin(), other.runs.end());
+    lone.insert(other.lone.begin(), other.lone.end());
 }
 
 Model Model::with(const Model &part, const Model &made) const
@@ -85,29 +109,23 @@ Model Model::with(const Model &part, const Model &made) const
     return found;
 }
 
-std::string Model::listing() const
+rows::Rows rows_of(const Model &model)
 {
-    std::string text;
-    put(text, "solid ", solid.number());
-    for (const auto &[face, row] : faces) {
-        put(text, "\nface ", face.number(), solid.number());
-        for (Loop loop : row)
-            put(text, " ", loop.number());
+    rows::Rows found;
+    found.solids = {model.solid.number()};
+    for (const auto &[face, loops] : model.faces) {
+        found.faces.push_back({face.number(), model.solid.number(), found.owned.size(), loops.size()});
+        append(found.owned, mapped(loops, [](Loop loop) { return loop.number(); }));
     }
-    for (const auto &[loop, halves] : loops) {
-        put(text, "\nloop ", loop.number());
-        if (halves.empty())
-            put(text, " at ", lone.at(loop).number());
-        for (HalfEdge half : halves)
-            put(text, half.is_second() ? " -" : " +", half.edge().number());
+    for (const auto &[loop, halves] : model.loops) {
+        found.loops.push_back({loop.number(), halves.empty() ? model.lone.at(loop).number() : 0, found.cycles.size(), halves.size()});
+        append(found.cycles, mapped(halves, [](HalfEdge half) { return half.code(); }));
     }
-    for (const auto &[edge, ends] : edges)
-        put(text, "\nedge ", edge.number(), ends.first.number(), ends.second.number());
-    for (const auto &[vertex, at] : vertices) {
-        const Point place = point(at);
-        put(text, "\nvertex ", vertex.number(), place.x, place.y, place.z);
-    }
-    return text + '\n';
+    for (const auto &[edge, ends] : model.edges)
+        found.edges.push_back({edge.number(), ends.first.number(), ends.second.number()});
+    for (const auto &[vertex, at] : model.vertices)
+        found.vertices.push_back({vertex.number(), point(at)});
+    return found;
 }
 
 } // namespace gwb_session::sheets

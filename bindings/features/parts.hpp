@@ -1,5 +1,6 @@
 /// @file parts.hpp Faces of a solid as a model of their own.
 #pragma once
+#include "rows.hpp"
 #include "sheets.hpp"
 
 namespace gwb_session::sheets {
@@ -37,12 +38,16 @@ struct Model {
     void read(const Bench &bench, Edge number);
     /// All of a solid. Refused: NoSolid.
     static Model whole(const Bench &bench, Solid solid);
+    /// Some of its faces as a model of a solid.
+    [[nodiscard]] Model part(const std::vector<Face> &of, Solid as) const;
     /// Takes in all of a model of others.
     void take_in(const Model &other);
     /// What this one is where a part of it has become another one.
     [[nodiscard]] Model with(const Model &part, const Model &made) const;
-    [[nodiscard]] std::string listing() const;
 };
+
+/// A model of all of a solid, as rows.
+rows::Rows rows_of(const Model &model);
 
 /// A solid becomes what a model of all of it says.
 void make_anew(Bench &bench, const Model &model);

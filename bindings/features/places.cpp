@@ -50,9 +50,9 @@ template <class At> bool put(gwb_hit_row &hit, const std::vector<const Model *> 
 
 } // namespace
 
-Failure told(Failure why, const std::vector<const Model *> &models)
+FailureAt told(FailureAt why, const std::vector<const Model *> &models)
 {
-    gwb_hit_row &hit = why.hit;
+    gwb_hit_row &hit = why.row;
     if (hit.number == 0 && point_of(hit).scale != 0)
         put(hit, models, vertex_at) || put(hit, models, edge_at) || put(hit, models, face_at);
     return why;

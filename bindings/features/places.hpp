@@ -7,6 +7,6 @@ namespace gwb_session::places {
 using namespace sheets;
 
 /// A failure that has a point, with the thing that models have there: a vertex, else an edge, else a face; without one where none of them has the point.
-Failure told(Failure why, const std::vector<const Model *> &models);
+FailureAt told(FailureAt why, const std::vector<const Model *> &models);
 
 } // namespace gwb_session::places

@@ -48,7 +48,7 @@ bool Points::Before::operator()(const FinePoint &a, const FinePoint &b) const
     return false;
 }
 
-Failure Points::failed_between(const Failure &why, Number one, Number other) const
+FailureAt Points::failed_between(const Failure &why, Number one, Number other) const
 {
     if (is_fine(one) && is_fine(other))
         return why;
@@ -63,28 +63,16 @@ bool Points::comes_before(Number one, Number other) const
     return one != other && (a.scale == 1 && b.scale == 1 ? a.at < b.at : a < b);
 }
 
-bool Points::is_in(Number point, const Box &box) const
-{
-    const auto &[at, scale] = points_[point];
-    for (std::size_t axis = 0; axis < 3; axis++)
-        if (at[axis] < box.low[axis] * scale || at[axis] > box.high[axis] * scale)
-            return false;
-    return true;
-}
-
 Box Points::box(Number point) const
 {
-    const auto &[at, scale] = points_[point];
+    if (!is_fine(point))
+        return box_of(points_[point]);
+    const FinePoint &of = fine_points_[static_cast<std::size_t>(points_[point].at[0])];
     Box found;
-    for (std::size_t axis = 0; is_fine(point) && axis < 3; axis++) {
-        const FinePoint &of = fine_points_[static_cast<std::size_t>(at[0])];
+    for (std::size_t axis = 0; axis < 3; axis++) {
         const Wide whole = integers::divided(of.at[axis].magnitude(), of.scale).first.narrow();
         found.low[axis] = of.at[axis].sign() < 0 ? -whole - 1 : whole;
         found.high[axis] = of.at[axis].sign() < 0 ? -whole : whole + 1;
-    }
-    for (std::size_t axis = 0; !is_fine(point) && axis < 3; axis++) {
-        found.low[axis] = at[axis] / scale - (at[axis] % scale < 0 ? 1 : 0);
-        found.high[axis] = at[axis] / scale + (at[axis] % scale > 0 ? 1 : 0);
     }
     return found;
 }

@@ -52,11 +52,11 @@ public:
     [[nodiscard]] Wide scale(Number point) const { return is_fine(point) ? greatest_scale + 1 : points_[point].scale; }
     [[nodiscard]] std::size_t count() const { return points_.size(); }
     /// A failure with a point between two, or one of them where the other is fine; without any where both are.
-    [[nodiscard]] Failure failed_between(const Failure &why, Number one, Number other) const;
+    [[nodiscard]] FailureAt failed_between(const Failure &why, Number one, Number other) const;
     /// Along a line, one way: by x, then y, then z.
     [[nodiscard]] bool comes_before(Number one, Number other) const;
     /// Whether a point that isn't fine lies in a box.
-    [[nodiscard]] bool is_in(Number point, const Box &box) const;
+    [[nodiscard]] bool is_in(Number point, const Box &box) const { return machining::is_in(points_[point], box); }
     /// A box around a point whose corners are whole: the least one, but of a fine point.
     [[nodiscard]] Box box(Number point) const;
 

@@ -26,8 +26,9 @@ public:
     void put(const Piece &piece, Bounds &found)
     {
         turn(piece);
-        if (turned_.size() == 1) { // what lies beyond isn't near, and stays
-            if (made_.at({true, within_.others}, others_))
+        if (turned_.size() == 1) { // what lies beyond isn't near: it lies within no other solid
+            within_.put(turned_[0].solid, true);
+            if (made_.at(within_, others_))
                 found.kept.push_back(bound(0, 1, turned_[0].wing.is_left));
             return;
         }
@@ -100,7 +101,7 @@ private:
     }
 
     /// Why nothing is made, where something touches itself at the piece.
-    [[nodiscard]] Failure touched() const { return all_.points.failed_between(why_, piece_->from, piece_->to); }
+    [[nodiscard]] FailureAt touched() const { return all_.points.failed_between(why_, piece_->from, piece_->to); }
 
     /// The piece as the side of a face that is made of those wings, at one angle. What is made there has the least face's name, and of several in one plane
     /// looks as those do that bound it.

@@ -42,17 +42,6 @@ std::optional<ScaledPoint> Shape::inner_point() const
     return std::nullopt;
 }
 
-std::optional<ScaledPoint> Shape::part_of(const Side &side) const
-{
-    Vector up{};
-    up[widest(plane.across)] = 1;
-    const Span whole = std::minmax({ScaledPoint{side.start}, ScaledPoint{side.end}});
-    const std::vector<Span> parts = cut_by(Plane::through(side.start, cross(up, side.way())), whole);
-    if (parts.empty())
-        return std::nullopt;
-    return std::max(parts[0].first, whole.first).between(std::min(parts[0].second, whole.second));
-}
-
 Place Shape::hit(const ScaledPoint &start, const Vector &ray) const
 {
     const Wide below = height(start), slope = dot(plane.across, ray);

@@ -60,9 +60,6 @@ public:
     /// A point within, half way between two corners that are next to each other along an axis.
     [[nodiscard]] std::optional<ScaledPoint> inner_point() const;
 
-    /// A point within of a side in the plane: none where no part of the side lies within.
-    [[nodiscard]] std::optional<ScaledPoint> part_of(const Side &side) const;
-
     /// Where a ray from a point off its plane meets it.
     [[nodiscard]] Place hit(const ScaledPoint &start, const Vector &ray) const;
 

@@ -3,6 +3,9 @@
 
 namespace gwb_session::sheets {
 
+namespace {
+
+/// Whether one way comes before another in the turn clockwise from a third one, which itself comes last.
 bool comes_before(const Vector &from, const Vector &one, const Vector &other, Axes axes)
 {
     const std::size_t x = axes[0], y = axes[1];
@@ -14,6 +17,8 @@ bool comes_before(const Vector &from, const Vector &one, const Vector &other, Ax
     const int quarters = quarter(one) - quarter(other);
     return quarters != 0 ? quarters < 0 : turned(one, other) < 0;
 }
+
+} // namespace
 
 std::vector<Cycle> cycles_of(const std::vector<Side> &sides, Axes axes, const Failure &why)
 {

@@ -16,9 +16,6 @@ struct Sheet : Shape {
 
 // ---- sides traced as cycles
 
-/// Whether one way comes before another in the turn clockwise from a third one, which itself comes last.
-bool comes_before(const Vector &from, const Vector &one, const Vector &other, Axes axes);
-
 /// The cycles of sides, which rise: from each side on to the one that bounds the same corner of the region, each from its least side on, and these rising.
 /// Throws `why` where there is none.
 std::vector<Cycle> cycles_of(const std::vector<Side> &sides, Axes axes, const Failure &why);

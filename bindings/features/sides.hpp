@@ -20,7 +20,10 @@ inline gwb_hit_row met_factor(gwb_cause cause, Wide factor)
     return {static_cast<std::uint32_t>(cause), GWB_HIT_FACTOR, static_cast<std::uint32_t>(factor), {}, {}};
 }
 /// Why a feature isn't possible, with its value and what was met.
-inline Failure impossible(Misfit why, std::uint32_t value, const gwb_hit_row &hit = {}) { return {Problem::impossible, static_cast<std::uint32_t>(why), value, hit}; }
+inline FailureAt impossible(Misfit why, std::uint32_t value, const gwb_hit_row &hit = {})
+{
+    return {Failure{Problem::impossible, static_cast<std::uint32_t>(why), value}, hit};
+}
 inline Failure refused(gwb_why why, std::uint32_t value) { return {Problem::refused, static_cast<std::uint32_t>(why), value}; }
 /// Throws why not, where something doesn't hold.
 template <class Why> void require(bool holds, const Why &why)
@@ -74,10 +77,30 @@ struct ScaledPoint {
     friend bool operator<(const ScaledPoint &a, const ScaledPoint &b) { return a.compare(b) < 0; }
 };
 
-/// A failure with the point at which something was met.
-inline Failure failed_at(Failure why, const ScaledPoint &point)
+/// The least box around a point whose corners are whole.
+inline Box box_of(const ScaledPoint &point)
 {
-    why.hit = point.met_at(why.hit);
+    Box found;
+    for (std::size_t axis = 0; axis < 3; axis++) {
+        const Wide part = point.at[axis];
+        found.low[axis] = part / point.scale - (part % point.scale < 0 ? 1 : 0);
+        found.high[axis] = part / point.scale + (part % point.scale > 0 ? 1 : 0);
+    }
+    return found;
+}
+
+inline bool is_in(const ScaledPoint &point, const Box &box)
+{
+    for (std::size_t axis = 0; axis < 3; axis++)
+        if (point.at[axis] < box.low[axis] * point.scale || point.at[axis] > box.high[axis] * point.scale)
+            return false;
+    return true;
+}
+
+/// A failure with the point at which something was met.
+inline FailureAt failed_at(FailureAt why, const ScaledPoint &point)
+{
+    why.row = point.met_at(why.row);
     return why;
 }
 

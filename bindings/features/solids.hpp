@@ -1,4 +1,4 @@
-/// @file solids.hpp Whole solids taken away, and free numbers.
+/// @file solids.hpp What is done with items, free numbers, and the lists of what was made.
 #pragma once
 #include "exact.hpp"
 #include "gwb_made.hpp"
@@ -29,13 +29,6 @@ template <class All, class Of> auto mapped(const All &items, Of of)
         found.reserve(items.size());
     std::transform(items.begin(), items.end(), std::back_inserter(found), of);
     return found;
-}
-
-/// Writes a word after a text, and numbers after it.
-template <class... All> void put(std::string &text, const char *word, std::int64_t number, All... numbers)
-{
-    (text += word) += std::to_string(number);
-    ((text += ' ', text += std::to_string(numbers)), ...);
 }
 
 // ---- free numbers
@@ -98,10 +91,5 @@ struct AllNames {
 
 /// Lists of what was made, by enum gwb_list.
 using Lists = std::array<std::vector<std::uint32_t>, GWB_MADE_SOLIDS + 1>;
-
-// ---- solids taken away
-
-/// Takes a solid away in the draft that is open. Refused: NoSolid.
-void take_away(Bench &bench, Solid solid);
 
 } // namespace gwb_session

@@ -2,11 +2,38 @@
 
 namespace gwb_session::machining {
 
+namespace {
+
+/// Whether a corner of an outline, or the middle of a side, lies there in a face, or outside it.
+bool has_point(Place where, const Shape &beside, const Path &path)
+{
+    const auto is_there = [&](const ScaledPoint &at) { return beside.locate(at) == where; };
+    return any(cycle_of(path), [&](const Side &side) { return is_there({side.start}) || is_there(side.middle()); });
+}
+
+/// Whether an outline in a plane has corners on both sides of the line of a side there.
+bool is_passed(const Side &side, const Path &path, const Plane &plane)
+{
+    const Axes axes = flat_axes(plane.across);
+    const auto lies = [&](int where) { return any(path, [&](const Vector &at) { return side.turn({at}, axes) * where > 0; }); };
+    return lies(-1) && lies(1);
+}
+
+/// Sides whose ends are the starts of the next ones.
+Cycle closed(Cycle cycle)
+{
+    for (std::size_t at = 0; at < cycle.size(); at++)
+        cycle[at].end = cycle[at + 1 < cycle.size() ? at + 1 : 0].start;
+    return cycle;
+}
+
+} // namespace
+
 Cycle cycle_at(const Bench &bench, Loop loop)
 {
     if (const std::optional<Vertex> vertex = bench.lone_vertex(loop))
         return cycle_of({vector(bench.vertex(*vertex))});
-    return mapped(bench.half_edges(loop), [&](HalfEdge half) { return side_at(bench, half); });
+    return closed(mapped(bench.half_edges(loop), [&](HalfEdge half) { return Side{vector(bench.vertex(bench.start_of(half))), {}, half}; }));
 }
 
 std::vector<Cycle> cycles_at(const Bench &bench, Face face)
@@ -41,6 +68,78 @@ Face beyond(const Bench &bench, HalfEdge half, Face face)
     return bench.face_of(half) != face ? bench.face_of(half) : bench.face_of(half.twin());
 }
 
+// ---- what is known of a solid
+
+KnownLoop::KnownLoop(std::vector<Corner> corners) : corners_(std::move(corners))
+{
+    Corner low = corners_[0], high = low;
+    for (const Corner &corner : corners_)
+        for (std::size_t axis = 0; axis < 3; axis++) {
+            low.at[axis] = std::min(low.at[axis], corner.at[axis]);
+            high.at[axis] = std::max(high.at[axis], corner.at[axis]);
+        }
+    box_ = {low.vector(), high.vector()};
+}
+
+const Chain &KnownLoop::chain() const
+{
+    if (!chain_) {
+        chain_.emplace(closed(mapped(corners_, [](const Corner &corner) { return Side{corner.vector(), {}, corner.half}; })));
+        corners_ = {};
+    }
+    return *chain_;
+}
+
+namespace {
+
+/// The corners of a loop with edges, from the least half-edge on.
+std::vector<KnownLoop::Corner> corners_of(const Bench &bench, const std::vector<gwb_half_edge_row> &rows)
+{
+    const auto least = std::min_element(rows.begin(), rows.end(), [](const auto &one, const auto &other) { return one.half_edge < other.half_edge; });
+    std::vector<KnownLoop::Corner> found;
+    found.reserve(rows.size());
+    const auto put = [&](const gwb_half_edge_row &row) {
+        const Point at = bench.vertex(Vertex(row.start));
+        found.push_back({{static_cast<std::int32_t>(at.x), static_cast<std::int32_t>(at.y), static_cast<std::int32_t>(at.z)}, HalfEdge(row.half_edge)});
+    };
+    std::for_each(least, rows.end(), put);
+    std::for_each(rows.begin(), least, put);
+    return found;
+}
+
+using Way = std::array<std::int64_t, 3>;
+
+/// The way from the first of some corners to one of them.
+Way way_to(const std::vector<KnownLoop::Corner> &corners, std::size_t at)
+{
+    const auto part = [&](std::size_t axis) { return std::int64_t{corners[at].at[axis]} - corners[0].at[axis]; };
+    return {part(0), part(1), part(2)};
+}
+
+/// Twice the area that corners go round, as a vector.
+Vector area_of(const std::vector<KnownLoop::Corner> &corners)
+{
+    Vector sum{};
+    for (std::size_t at = 2; at < corners.size(); at++) { // (each part is the difference of two products of up to 4 10^18)
+        const Way a = way_to(corners, at - 1), b = way_to(corners, at);
+        sum = add(sum, {a[1] * b[2] - a[2] * b[1], a[2] * b[0] - a[0] * b[2], a[0] * b[1] - a[1] * b[0]});
+    }
+    return sum;
+}
+
+/// The plane of corners, with their area as its normal: none where a side has no length, the area is zero, or one lies off the plane.
+std::optional<Plane> plane_through(const std::vector<KnownLoop::Corner> &corners)
+{
+    const Vector across = area_of(corners);
+    const auto is_on = [&](const Way &way) { return across[0] * way[0] + across[1] * way[1] + across[2] * way[2] == 0; };
+    bool is_flat = !is_zero(across);
+    for (std::size_t at = 0; is_flat && corners.size() > 3 && at < corners.size(); at++)
+        is_flat = is_on(way_to(corners, at)) && corners[at].at != corners[at + 1 < corners.size() ? at + 1 : 0].at;
+    return is_flat ? std::optional(Plane::through(corners[0].vector(), across)) : std::nullopt;
+}
+
+} // namespace
+
 Surface::Surface(const Bench &bench, Solid solid)
 {
     for (Face face : bench.faces(solid))
@@ -49,32 +148,82 @@ Surface::Surface(const Bench &bench, Solid solid)
 
 void Surface::put(const Bench &bench, Face face)
 {
-    const auto loops = bench.loops_of(face);
-    put(face, {loops.begin(), loops.end()}, cycles_at(bench, face));
+    const std::vector<gwb_half_edge_row> rows = bench.half_edge_rows(face);
+    if (const auto rings = bench.rings(face); rows.empty() || !rings.empty()) {
+        const auto loops = bench.loops_of(face);
+        put(face, {loops.begin(), loops.end()}, cycles_at(bench, face));
+        return;
+    }
+    go_on();
+    std::vector<KnownLoop::Corner> corners = corners_of(bench, rows);
+    const std::optional<Plane> plane = plane_through(corners);
+    put(Loop(rows[0].loop), KnownLoop(std::move(corners)));
+    put(face, plane ? std::optional(KnownPlane{*plane, false}) : std::nullopt);
 }
 
 void Surface::put(Face face, const std::vector<Loop> &loops, const std::vector<Cycle> &cycles)
 {
-    for (std::size_t at = 0; at < loops.size(); at++) {
-        const Chain &chain = loops_.insert_or_assign(loops[at], Chain(cycles[at])).first->second;
-        boxes_.put(chain.box(), loops[at].number());
-    }
-    if (const std::optional<Plane> plane = planes_.count(face) == 0 ? flat_plane(joined(cycles)) : std::nullopt)
+    for (std::size_t at = 0; at < loops.size(); at++)
+        put(loops[at], KnownLoop(cycles[at]));
+    if (planes_.count(face) != 0)
+        return;
+    const std::optional<Plane> plane = flat_plane(joined(cycles));
+    put(face, plane ? std::optional(KnownPlane{*plane, true}) : std::nullopt);
+}
+
+void Surface::put(Loop loop, KnownLoop &&known)
+{
+    const Box box = known.box();
+    loops_.insert_or_assign(loop, std::move(known));
+    boxes_.put(box, loop.number());
+    if (loops_.size() == 1)
+        box_ = box;
+    box_.take(box);
+}
+
+void Surface::put(Face face, const std::optional<KnownPlane> &plane)
+{
+    if (plane)
         planes_.emplace(face, *plane);
+    if (!plane || (longest(plane->plane.across) > steepest && longest(this->plane(face)->across) > steepest))
+        uneven_.insert(face);
+}
+
+const Plane *Surface::plane(Face face) const
+{
+    const KnownPlane *known = look_up(planes_, face);
+    if (known == nullptr)
+        return nullptr;
+    if (!std::exchange(known->is_reduced, true)) {
+        auto &[across, offset] = known->plane;
+        const Wide parts = parts_of(across);
+        across = {across[0] / parts, across[1] / parts, across[2] / parts}, offset /= parts;
+    }
+    return &known->plane;
+}
+
+void Surface::take_in(Surface &&other)
+{
+    loops_.merge(other.loops_);
+    planes_.merge(other.planes_);
+    uneven_.merge(other.uneven_);
+    boxes_.take_in(std::move(other.boxes_));
+    box_.take(other.box_);
 }
 
 void Surface::forget(Face face, const std::vector<Loop> &loops)
 {
     planes_.erase(face);
+    uneven_.erase(face);
     for (Loop loop : loops) {
-        boxes_.take_away(chain(loop).box(), loop.number());
+        boxes_.take_away(loops_.at(loop).box(), loop.number());
         loops_.erase(loop);
     }
 }
 
 Shape Surface::shape(Face face, const std::set<Loop> &loops) const
 {
-    return {planes_.at(face), mapped(loops, [&](Loop loop) { return Cycle{chain(loop).closed()}; })};
+    return {*plane(face), mapped(loops, [&](Loop loop) { return Cycle{chain(loop).closed()}; })};
 }
 
 std::map<Face, std::set<Loop>> Surface::near(const Bench &bench, const Box &box) const
@@ -89,7 +238,7 @@ std::map<Face, std::set<Loop>> Surface::near(const Bench &bench, const Box &box)
 
 Path Surface::ring_path(const Bench &bench, Face face, const Path &path) const
 {
-    const Plane &plane = planes_.at(face);
+    const Plane &plane = *this->plane(face);
     require_in(plane, path, met(GWB_CAUSE_OFF_FACE, face));
     const Vector across = simple_normal(path);
     const auto [beside, sides] = beside_of(bench, face, path);
@@ -111,21 +260,20 @@ std::pair<Shape, std::vector<Surface::LoopSide>> Surface::beside_of(const Bench 
     return found;
 }
 
-bool Surface::has_point_outside(const Shape &beside, const Path &path)
-{
-    const auto is_out = [&](const ScaledPoint &at) { return beside.locate(at) == Place::outside; };
-    return any(cycle_of(path), [&](const Side &side) { return is_out({side.start}) || is_out({add(side.start, side.end), 2}); });
-}
-
 gwb_hit_row Surface::met_by(const Bench &bench, Face face, const Shape &beside, const std::vector<LoopSide> &sides, const Path &path) const
 {
     const Cycle own = cycle_of(path);
     const auto crossed = std::find_if(sides.begin(), sides.end(), [&](const auto &side) { return beside.is_crossed(side.second, own); });
-    const auto &[loop, side] = crossed != sides.end() ? *crossed : sides.front();
+    const auto has_both_sides = [&](const auto &met) { return is_passed(met.second, path, beside.plane); };
+    const auto passed = crossed != sides.end() ? crossed : std::find_if(sides.begin(), sides.end(), has_both_sides);
+    const bool is_out = has_point(Place::outside, beside, path);
+    const auto &[loop, side] = passed != sides.end() && (is_out || passed == crossed) ? *passed : sides.front();
     if (loop != bench.face(face).outer_loop)
         return met(GWB_CAUSE_RING_MET, loop);
-    if (crossed != sides.end() || has_point_outside(beside, path))
+    if (crossed != sides.end() || (is_out && has_point(Place::inside, beside, path)))
         return met(GWB_CAUSE_EDGE_CROSSED, side.half.edge());
+    if (is_out)
+        return met(GWB_CAUSE_WHOLLY_OUTSIDE);
     for (HalfEdge half : {side.half, side.half.twin()})
         if (const Vector at = vector(bench.vertex(bench.start_of(half))); beside.is_on(at, own))
             return ScaledPoint{at}.met_at(met(GWB_CAUSE_VERTEX_TOUCHED, bench.start_of(half)));

@@ -1,5 +1,5 @@
-/// @file surroundings.hpp What is known of the solids of a model: their loops and the planes of their faces, by places. What was read of a solid for one feature
-/// is known to the next ones, until another command comes.
+/// @file surroundings.hpp What is known of the solids of a model: their loops and the planes of their faces, by places. What was read of a solid for one
+/// feature is known to the next ones, until another command comes.
 #pragma once
 #include "simple_outlines.hpp"
 #include <unordered_map>
@@ -18,6 +18,30 @@ std::vector<Cycle> cycles_at(const Bench &bench, Face face);
 
 // ---- what lies near
 
+/// A normal within this fits, with heights above its plane, where faces are compared.
+constexpr Wide steepest = Wide{farthest} * farthest;
+
+/// A loop of a face: its corners, or as soon as more is asked, its sides as a chain.
+class KnownLoop {
+public:
+    struct Corner {
+        std::array<std::int32_t, 3> at;
+        HalfEdge half;
+        [[nodiscard]] Vector vector() const { return {at[0], at[1], at[2]}; }
+    };
+
+    explicit KnownLoop(std::vector<Corner> corners);
+    explicit KnownLoop(const Cycle &cycle) : chain_(cycle), box_(chain_->box()) {}
+
+    [[nodiscard]] const Box &box() const { return box_; }
+    [[nodiscard]] const Chain &chain() const;
+
+private:
+    mutable std::vector<Corner> corners_;
+    mutable std::optional<Chain> chain_;
+    Box box_;
+};
+
 /// The loops of a solid with their sides, by boxes, and the planes of its faces. Loops have many sides, of which a feature reads those near it.
 class Surface {
 public:
@@ -31,11 +55,19 @@ public:
     /// A face is gone, or lies elsewhere, and so do these loops.
     void forget(Face face, const std::vector<Loop> &loops);
 
+    /// Takes in all of another solid, whose faces are this one's from now on.
+    void take_in(Surface &&other);
+
+    /// How many loops there are; a box around all; and whether all faces are flat, and none too steep to be compared.
+    [[nodiscard]] std::size_t size() const { return loops_.size(); }
+    [[nodiscard]] const Box &box() const { return box_; }
+    [[nodiscard]] bool is_even() const { return uneven_.empty(); }
+
     /// The plane of a face, where that is plain and flat.
-    [[nodiscard]] const Plane *plane(Face face) const { return look_up(planes_, face); }
+    [[nodiscard]] const Plane *plane(Face face) const;
     /// Such a face, so far as some of its loops tell.
     [[nodiscard]] Shape shape(Face face, const std::set<Loop> &loops) const;
-    [[nodiscard]] const Chain &chain(Loop loop) const { return loops_.at(loop); }
+    [[nodiscard]] const Chain &chain(Loop loop) const { return loops_.at(loop).chain(); }
 
     /// The loops that meet a box, by faces.
     [[nodiscard]] std::map<Face, std::set<Loop>> near(const Bench &bench, const Box &box) const;
@@ -44,18 +76,25 @@ public:
     [[nodiscard]] Path ring_path(const Bench &bench, Face face, const Path &path) const;
 
 private:
+    /// A plane, whose normal is reduced when it is asked for.
+    struct KnownPlane {
+        mutable Plane plane;
+        mutable bool is_reduced;
+    };
+    void put(Loop loop, KnownLoop &&known);
+    void put(Face face, const std::optional<KnownPlane> &plane);
+
     using LoopSide = std::pair<Loop, Side>;
     /// A face so far as it lies beside an outline in it, and its sides that the outline meets.
     [[nodiscard]] std::pair<Shape, std::vector<LoopSide>> beside_of(const Bench &bench, Face face, const Path &path) const;
-    /// Whether a corner of an outline, or the middle of a side, lies outside a face.
-    [[nodiscard]] static bool has_point_outside(const Shape &beside, const Path &path);
-
     /// What an outline meets of a face: of the sides that it meets first one that it crosses.
     [[nodiscard]] gwb_hit_row met_by(const Bench &bench, Face face, const Shape &beside, const std::vector<LoopSide> &sides, const Path &path) const;
 
-    std::unordered_map<Loop, Chain> loops_;
-    std::map<Face, Plane> planes_;
+    std::unordered_map<Loop, KnownLoop> loops_;
+    std::unordered_map<Face, KnownPlane> planes_;
+    std::set<Face> uneven_;
     BoxIndex boxes_;
+    Box box_; ///< around what there ever was
 };
 
 /// What is kept with a session: what is known of the solids of its model, and what the last feature made.
@@ -74,6 +113,14 @@ public:
         put(surfaces_.at(solid));
         changes = beside_of(bench.handle())->changes;
     }
+
+    /// Another solid has become a part of one, or is gone: to be called where that is followed.
+    void join(Solid solid, Solid other)
+    {
+        surfaces_.at(solid).take_in(std::move(surfaces_.at(other)));
+        surfaces_.erase(other);
+    }
+    void forget(Solid solid) { surfaces_.erase(solid); }
 
     Lists lists; ///< what the last feature made
     std::optional<gwb_hit_row> hit; ///< what it met, where it was refused

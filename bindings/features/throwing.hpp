@@ -22,16 +22,34 @@ struct Failing {
 
 using Bench = Commands<Failing>;
 
+/// A failure with all that gwb_hit tells of it.
+struct FailureAt : Failure {
+    FailureAt() = default;
+    FailureAt(const Failure &failure) : Failure(failure), row{hit.cause, hit.kind, hit.number, {}, {}} {}
+    FailureAt(const Failure &failure, const gwb_hit_row &met) : Failure(failure), row(met)
+    {
+        hit = {static_cast<std::uint16_t>(met.cause), static_cast<std::uint16_t>(met.kind), met.number};
+    }
+
+    gwb_hit_row row{};
+};
+
 /// Whether there is what a reader was asked for.
 template <class T> bool has(const Result<T> &found) { return static_cast<bool>(found); }
 
-/// What a call gives, or the failure that it throws.
-template <class Call> auto tried(Call call) -> Result<decltype(call())>
+/// What a call gives, or why it gives nothing.
+template <class T> struct Tried {
+    std::optional<T> made;
+    FailureAt why;
+};
+template <class Call> auto tried(Call call) -> Tried<decltype(call())>
 {
     try {
-        return call();
+        return {call(), {}};
+    } catch (const FailureAt &failure) {
+        return {std::nullopt, failure};
     } catch (const Failure &failure) {
-        return failure;
+        return {std::nullopt, failure};
     }
 }
 

@@ -144,7 +144,7 @@ Combined change(Bench &bench, Operation operation, Face face, const Tool &tool)
             put_marks(region, tool);
         return regions;
     };
-    return make_near(bench, solid, box, {}, meets, lay);
+    return make_near(bench, solid, box, meets, lay);
 }
 
 } // namespace gwb_session::tools

@@ -17,14 +17,4 @@ inline int order(const Vector &one, const Vector &other, Axes axes)
 }
 inline bool same_turn(const Vector &one, const Vector &other, Axes axes) { return order(one, other, axes) == 0; }
 
-/// Whether one way comes before another in the turn counterclockwise from a third one; none where two of them point the same way.
-inline std::optional<bool> comes_first(const Vector &from, const Vector &one, const Vector &other, Axes axes)
-{
-    const int second = order(from, one, axes), third = order(from, other, axes), between = order(one, other, axes);
-    if (second == 0 || third == 0 || between == 0)
-        return std::nullopt;
-    const bool is_later = second < 0, is_other_later = third < 0; // than the third way, before the turn is round
-    return is_later != is_other_later ? is_later : between < 0;
-}
-
 } // namespace gwb_session::turns

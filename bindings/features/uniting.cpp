@@ -1,4 +1,5 @@
 #include "uniting.hpp"
+#include "sheets.hpp"
 
 namespace gwb_session::uniting {
 
@@ -33,38 +34,68 @@ std::vector<Match> matches(const Bench &bench, Items<Solid> solids)
     return found;
 }
 
-} // namespace
+/// Matches along which solids join the first one, the face of one that has joined before first in each; and why not all do, or some are left.
+struct Tree {
+    std::vector<Match> matches;
+    std::optional<FailureAt> failure;
+};
 
-void glue_all(Bench &bench, Items<Solid> solids)
+/// Each time the first match of which one solid has joined.
+Tree tree_of(const std::vector<Match> &all, Items<Solid> solids)
 {
-    const std::vector<Match> all = matches(bench, solids);
     std::map<Solid, std::vector<std::size_t>> of; // the places of a solid's matches
     for (std::size_t at = 0; at < all.size(); at++)
         for (Solid solid : {all[at].first.solid, all[at].second.solid})
             of[solid].push_back(at);
     std::set<Solid> joined;
-    std::set<std::size_t> ready, left; // the matches of which one solid is joined; those that joined none
-    for (std::size_t at = 0; at < all.size(); at++)
-        left.insert(left.end(), at);
+    std::set<std::size_t> ready; // the matches of which one solid has joined
+    std::vector<bool> is_left(all.size(), true);
     const auto join = [&](Solid solid) {
         joined.insert(solid);
         for (std::size_t at : of[solid])
             if (!ready.insert(at).second)
                 ready.erase(at);
     };
+    Tree found;
     for (join(*solids.begin()); !ready.empty();) {
-        go_on();
         auto [one, other] = all[*ready.begin()];
         if (joined.count(one.solid) == 0)
             std::swap(one, other);
-        bench.glue(one.face, other.face);
-        left.erase(*ready.begin());
+        found.matches.emplace_back(one, other);
+        is_left[*ready.begin()] = false;
         join(other.solid);
     }
-    for (Solid solid : solids)
-        require(joined.count(solid) != 0, impossible(Misfit::no_match, solid.number()));
-    if (!left.empty())
-        throw impossible(Misfit::glued_twice, all[*left.begin()].first.face.number());
+    const auto alone = std::find_if(solids.begin(), solids.end(), [&](Solid solid) { return joined.count(solid) == 0; });
+    const auto left = std::find(is_left.begin(), is_left.end(), true);
+    if (alone != solids.end())
+        found.failure = impossible(Misfit::no_match, alone->number());
+    else if (left != is_left.end())
+        found.failure = impossible(Misfit::glued_twice, all[static_cast<std::size_t>(left - is_left.begin())].first.face.number());
+    return found;
+}
+
+} // namespace
+
+void glue_all(Bench &bench, Items<Solid> solids)
+{
+    const Tree tree = tree_of(matches(bench, solids), solids);
+    sheets::JoinedSets<Solid> parts;
+    for (std::vector<Match> left = tree.matches, later; !left.empty(); left = std::exchange(later, {})) { // in rounds: so each solid is read a few times
+        std::set<Solid> glued; // each once in a round
+        for (const auto &match : left) {
+            const Solid one = parts.name(match.first.solid), other = parts.name(match.second.solid);
+            if (glued.count(one) + glued.count(other) != 0) {
+                later.push_back(match);
+                continue;
+            }
+            go_on();
+            bench.glue(match.first.face, match.second.face);
+            parts.join(one, other);
+            glued.insert({one, other});
+        }
+    }
+    if (tree.failure)
+        throw *tree.failure;
 }
 
 } // namespace gwb_session::uniting

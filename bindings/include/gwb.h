@@ -750,12 +750,17 @@ typedef struct gwb_became_row {
     uint64_t old_birth, made_birth;
 } gwb_became_row;
 
-/** Writes what became of faces, edges and vertices by what the last of these compared, such as a feature, by kinds and the old ones, as far as there is room.
- * Of an edge that hasn't both ends where they were came each other one that runs along a part of it, of a vertex that isn't where it was each other one at
- * its point, and of a face whose sides aren't what they were each other one of its plane that looks its way and has a part of a side in common with it. What
- * is as it was has no row. A reader.
- * @return how many there are */
-size_t gwb_became(const gwb *g, gwb_became_row *rows, size_t room);
+/** Writes what became of faces, edges and vertices, by kinds and the old ones, as far as there is room: by what the last of these compared, where no command,
+ * undo, redo or draft came since; else by the last command that is held, as a feature, watched or not, of the solids that it changed. Of an edge that hasn't
+ * both ends where they were came each other one that runs along a part of it, of a vertex that isn't where it was each other one at its point, and of a face
+ * whose sides aren't what they were each other one of its plane that looks its way and has a part of a side in common with it. What is as it was has no row.
+ *
+ * For the last command it takes that back and does it again, so it is no reader: the last answer and gwb_fresh are then as after gwb_redo, and nothing else has
+ * changed. It takes as long as reading twice the solids that a watched or recorded command touched, else all, and no time when it is asked again. Births are 0
+ * where the command wasn't watched; then a number that went and came again within it is one thing's. As long as a draft is open there is no last command, so
+ * no row.
+ * @return how many there are; SIZE_MAX where memory is refused or the handle is closed, and then nothing is written */
+size_t gwb_became(gwb *g, gwb_became_row *rows, size_t room);
 
 /** Whether work is to end. It is asked often while it is done, by the thread that does it, and gives no call for that handle. */
 typedef bool (*gwb_stop)(void *user) GWB_NOEXCEPT;

@@ -184,12 +184,19 @@ enum class Problem {
     version,  ///< the library that is linked is of another version than this header (GWB_VERSION)
 };
 
+/// What a feature met that isn't possible: all 0 where nothing is known of it. Where that was, hit() of the workbench says.
+struct Hit {
+    std::uint16_t cause = 0;  ///< enum gwb_cause
+    std::uint16_t kind = 0;   ///< what the number is of: enum gwb_entity, or enum gwb_hit_kind
+    std::uint32_t number = 0; ///< 0 where there is none
+};
+
 /// Why a call has no value, with its numbers. The model is as it was.
 struct Failure {
     Problem problem = Problem::closed;
     std::uint32_t number = 0; ///< of the condition (gwb_names.h), of the fault or of the Misfit
     std::uint32_t value = 0;  ///< that goes with the condition, or the number that is not in use
-    gwb_hit_row hit{};        ///< what a feature met that isn't possible: all 0 where nothing is known of it
+    Hit hit{};                ///< what a feature met
 
     /// Whether this condition is false.
     [[nodiscard]] constexpr bool is(gwb_why why) const { return problem == Problem::refused && number == static_cast<std::uint32_t>(why); }
@@ -263,6 +270,7 @@ private:
 struct Results {
     template <class T> using Returned = Result<T>;
     template <class T> static Result<T> failed(std::string_view, Failure failure) { return failure; }
+    template <class T> static Result<T> unmade(std::string_view, Failure failure, const gwb *) { return failure; }
     /// A range ends where its workbench is closed or has changed.
     static void ended(Failure) {}
 };
@@ -344,19 +352,21 @@ private:
 /// A feature isn't possible: why, and the value that goes with it.
 class Impossible : public Complaint {
 public:
-    Impossible(std::string_view feature, const Failure &failure) : Complaint(feature, failure.name(), failure.value), failure_(failure)
+    Impossible(std::string_view feature, const Failure &failure, const gwb_hit_row &hit)
+        : Complaint(feature, failure.name(), failure.value), failure_(failure), hit_(hit)
     {
     }
     [[nodiscard]] Misfit misfit() const { return static_cast<Misfit>(failure_.number); }
     [[nodiscard]] std::uint32_t value() const { return failure_.value; }
-    /// What it met.
-    [[nodiscard]] const gwb_hit_row &hit() const { return failure_.hit; }
+    /// What it met, and where.
+    [[nodiscard]] const gwb_hit_row &hit() const { return hit_; }
     [[nodiscard]] const char *name() const { return failure_.name(); }
     /// What it says, in which X stands for the value, and Y for the number of what was met.
     [[nodiscard]] const char *text() const { return failure_.text(); }
 
 private:
     Failure failure_;
+    gwb_hit_row hit_;
 };
 
 /// A call that its caller had no right to make; nothing has changed.
@@ -432,6 +442,16 @@ struct Throwing {
         }
     }
 
+    /// The same of a feature of this handle, which still tells what that met.
+    template <class T> static T unmade(std::string_view feature, Failure failure, const gwb *g)
+    {
+        if (failure.problem != Problem::impossible)
+            return failed<T>(feature, failure);
+        gwb_hit_row hit{};
+        gwb_hit(g, &hit);
+        throw Impossible(feature, failure, hit);
+    }
+
     static void ended(Failure failure)
     {
         if (failure.problem != Problem::absent)
@@ -471,7 +491,7 @@ private:
         case Problem::absent: throw std::out_of_range("there is no " + std::string(command) + " " + std::to_string(failure.value));
         case Problem::changed: throw Changed();
         case Problem::crossed: throw Crossed(command, failure.value);
-        case Problem::impossible: throw Impossible(command, failure);
+        case Problem::impossible: throw Impossible(command, failure, {});
         case Problem::stopped: throw Stopped();
         case Problem::version: throw OtherVersion();
         case Problem::closed: break;
@@ -1448,7 +1468,7 @@ public:
         state_->begin_whole();
         const gwb_kind kind = call(held(), arguments..., &why);
         if (kind != GWB_OK)
-            return Policy::template failed<Of>(command, feature_failure(kind, why, true));
+            return Policy::template unmade<Of>(command, feature_failure(kind, why, true), seen());
         const auto keep = [&] { steps.keep(), state_->end_whole(); };
         if constexpr (std::is_void_v<Of>) {
             keep();
@@ -1466,9 +1486,16 @@ public:
         if (kind != GWB_IMPOSSIBLE && kind != GWB_REFUSED)
             return failure(kind);
         Failure found{kind == GWB_IMPOSSIBLE ? Problem::impossible : Problem::refused, why.number, why.value};
-        if (is_feature)
-            gwb_hit(seen(), &found.hit);
+        if (const auto met = is_feature ? hit() : std::nullopt)
+            found.hit = {static_cast<std::uint16_t>(met->cause), static_cast<std::uint16_t>(met->kind), met->number};
         return found;
+    }
+
+    /// What the last feature met that was refused or isn't possible, and where, as gwb_hit says: nothing where that was made, or there was none.
+    [[nodiscard]] std::optional<gwb_hit_row> hit() const
+    {
+        gwb_hit_row met{};
+        return gwb_hit(seen(), &met) ? std::optional(met) : std::nullopt;
     }
 
     /// Gives the lines of a script one after another, up to the first that is not accepted: how many were given.

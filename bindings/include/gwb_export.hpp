@@ -1,12 +1,13 @@
 /// @file gwb_export.hpp What a session holds as a file of another form, for C++17 on POSIX: by the companions' programs gwb-step and gwb-mesh, which are
 /// sought in the folder that the environment variable GWB_COMPANIONS names, else as any program is.
 ///
-///     export_to(bench, "part.step");                         // or .stp .3mf .stl .obj .off .glb
+///     export_to(bench, "part.step");                         // or .stp .p21 .3mf .stl .obj .off .glb
 ///     export_to(bench, "part.stl", "", Step{1, 1000});           // of a session whose coordinates are 1/1000 mm, as lengths of gwb_lengths.hpp are
 ///     export_to(bench, "part.3mf", "part.script");           // with the names, colours and unit that comments of this file say
 #ifndef GWB_EXPORT_HPP
 #define GWB_EXPORT_HPP
 #include "gwb.hpp"
+#include <algorithm>
 #include <cerrno>
 #include <cstdio>
 #include <cstdlib>
@@ -53,6 +54,15 @@ struct Step {
 
 namespace exporting {
 
+/// Files of an ending: the program that writes them, and what follows its `--form`, nothing where it writes one form alone.
+struct Writer {
+    const char *ending, *program, *form;
+};
+inline constexpr Writer writers[] = {
+    {"step", "gwb-step", ""},   {"stp", "gwb-step", ""},    {"p21", "gwb-step", ""},    {"3mf", "gwb-mesh", "3mf"},
+    {"stl", "gwb-mesh", "stl"}, {"obj", "gwb-mesh", "obj"}, {"off", "gwb-mesh", "off"}, {"glb", "gwb-mesh", "glb"},
+};
+
 /// An open file without a name, gone at the end of its scope.
 class Unnamed {
 public:
@@ -87,24 +97,37 @@ private:
     std::FILE *file_;
 };
 
-/// The words of the command that writes files of an ending: none where there is none.
-inline std::vector<std::string> command(const std::string &path, const std::string &names, const std::optional<Step> &step)
+/// What writes a file of this name, by its ending in letters of either case: null where nothing does.
+inline const Writer *writer_of(const std::string &path)
 {
     const std::size_t dot = path.rfind('.');
     std::string ending = dot == std::string::npos ? "" : path.substr(dot + 1);
-    std::transform(ending.begin(), ending.end(), ending.begin(), [](char letter) { return letter >= 'A' && letter <= 'Z' ? static_cast<char>(letter + 32) : letter; });
-    std::vector<std::string> words;
-    if (ending == "step" || ending == "stp")
-        words = {"gwb-step"};
-    for (const char *form : {"3mf", "stl", "obj", "off", "glb"})
-        if (ending == form)
-            words = {"gwb-mesh", "--form", form};
-    if (!words.empty() && !names.empty())
+    std::transform(ending.begin(), ending.end(), ending.begin(),
+                   [](char letter) { return letter >= 'A' && letter <= 'Z' ? static_cast<char>(letter + 32) : letter; });
+    const Writer *const found = std::find_if(std::begin(writers), std::end(writers), [&](const Writer &writer) { return ending == writer.ending; });
+    return found == std::end(writers) ? nullptr : found;
+}
+
+/// What is said where nothing writes a file of this name.
+inline std::string endings_for(const std::string &path)
+{
+    std::string said = path + ": the endings are";
+    for (const Writer &writer : writers)
+        said.append(" ").append(writer.ending);
+    return said;
+}
+
+/// The words of the command that writes files of an ending.
+inline std::vector<std::string> command(const Writer &writer, const std::string &names, const std::optional<Step> &step)
+{
+    const char *const folder = std::getenv("GWB_COMPANIONS");
+    std::vector<std::string> words{folder == nullptr ? writer.program : std::string(folder) + "/" + writer.program};
+    if (*writer.form != 0)
+        words.insert(words.end(), {"--form", writer.form});
+    if (!names.empty())
         words.insert(words.end(), {"--names", names});
-    if (!words.empty() && step)
+    if (step)
         words.insert(words.end(), {"--unit", std::to_string(step->numerator) + "/" + std::to_string(step->denominator)});
-    if (const char *folder = std::getenv("GWB_COMPANIONS"); folder != nullptr && !words.empty())
-        words[0] = std::string(folder) + "/" + words[0];
     return words;
 }
 
@@ -137,9 +160,10 @@ inline int run(std::vector<std::string> words, int input, int output, int said)
 template <class Policy>
 Exported try_export(const Commands<Policy> &bench, const std::string &path, const std::string &names = "", const std::optional<Step> &step = {})
 {
-    const std::vector<std::string> words = exporting::command(path, names, step);
-    if (words.empty())
-        return {ExportFault::no_form, path + ": the endings are step stp 3mf stl obj off glb"};
+    const exporting::Writer *const writer = exporting::writer_of(path);
+    if (writer == nullptr)
+        return {ExportFault::no_form, exporting::endings_for(path)};
+    const std::vector<std::string> words = exporting::command(*writer, names, step);
     exporting::Unnamed input, output, said;
     const Result<std::string> listing = bench.attempt().listing();
     if (!listing)

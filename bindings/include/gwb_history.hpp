@@ -8,7 +8,8 @@
 ///     bench.undo();
 ///
 /// After the split both parts of face 2 are red, and after the undo the whole of it is. All is found by comparing the solids that the commands touched,
-/// as they were before, with what they are after (gwb_compare), so a `follow` costs as much as reading these, whatever else there is.
+/// as they were before, with what they are after (gwb_compare), so a `follow` costs as much as reading these, whatever else there is. Of the last command
+/// became() tells afterwards.
 #ifndef GWB_HISTORY_HPP
 #define GWB_HISTORY_HPP
 #include "gwb.hpp"
@@ -41,7 +42,42 @@ struct Became {
     std::vector<Heir<Face>> faces;
     std::vector<Heir<Edge>> edges;
     std::vector<Heir<Vertex>> vertices;
+
+    template <class Kind> [[nodiscard]] const std::vector<Heir<Kind>> &of() const
+    {
+        if constexpr (std::is_same_v<Kind, Face>)
+            return faces;
+        else if constexpr (std::is_same_v<Kind, Edge>)
+            return edges;
+        else
+            return vertices;
+    }
 };
+
+namespace history {
+
+template <class Kind> std::vector<Heir<Kind>> heirs(const std::vector<gwb_became_row> &rows)
+{
+    std::vector<Heir<Kind>> found;
+    for (const gwb_became_row &row : rows)
+        if (row.kind == Kind::kind && row.old != 0)
+            found.push_back({Kind(row.old), Kind(row.made), row.old_birth, row.made_birth});
+    return found;
+}
+
+/// What gwb_became tells, or nothing where memory is refused or the workbench is closed.
+inline std::optional<Became> became(gwb *g)
+{
+    gwb_became_row none{};
+    const std::size_t count = gwb_became(g, &none, 0);
+    if (count == SIZE_MAX)
+        return std::nullopt;
+    std::vector<gwb_became_row> rows(count + 1); // (so that it has an address)
+    gwb_became(g, rows.data(), count);
+    return Became{heirs<Face>(rows), heirs<Edge>(rows), heirs<Vertex>(rows)};
+}
+
+} // namespace history
 
 /// What commands did to a model.
 struct Changes {
@@ -72,7 +108,7 @@ public:
     [[nodiscard]] Changes changes() const
     {
         require(gwb_compare_from(g_, place_));
-        return {changes_of<Face>(), changes_of<Edge>(), {heirs<Face>(), heirs<Edge>(), heirs<Vertex>()}, from_, gwb_depth(g_)};
+        return {changes_of<Face>(), changes_of<Edge>(), history::became(g_).value_or(Became()), from_, gwb_depth(g_)};
     }
 
 private:
@@ -94,18 +130,6 @@ private:
         std::transform(rows.begin(), rows.end() - 1, found.begin(), [](const gwb_born_change &row) {
             return Change<Kind>{Kind(row.number), Kind(row.other), row.birth, row.other_birth};
         });
-        return found;
-    }
-
-    template <class Kind> [[nodiscard]] std::vector<Heir<Kind>> heirs() const
-    {
-        gwb_became_row none{};
-        std::vector<gwb_became_row> rows(gwb_became(g_, &none, 0) + 1); // (so that it has an address)
-        gwb_became(g_, rows.data(), rows.size());
-        std::vector<Heir<Kind>> found;
-        for (const gwb_became_row &row : rows)
-            if (row.kind == Kind::kind && row.old != 0)
-                found.push_back({Kind(row.old), Kind(row.made), row.old_birth, row.made_birth});
         return found;
     }
 
@@ -155,6 +179,13 @@ public:
             if (const auto of = values_.find(made.other_birth); made.other_birth != 0 && of != values_.end())
                 values_.emplace(made.birth, of->second);
     }
+    /// After what came of things (became()): what came of one that has a value has a copy of it, unless it has one; no undo takes that back.
+    void follow(const Became &became)
+    {
+        for (const Heir<Kind> &heir : became.of<Kind>())
+            if (const auto of = values_.find(heir.old_birth); heir.old_birth != 0 && of != values_.end())
+                values_.emplace(heir.made_birth, of->second);
+    }
 
     /// The parts of a copy have the values of those that they are of (copy_solid of gwb_features.hpp).
     template <class Copy> void copied(const Copy &copy)
@@ -192,6 +223,17 @@ template <class Policy, class Call, class... AllNotes> Changes follow(Commands<P
     std::forward<Call>(call)();
 #endif
     return followed(watching, notes...);
+}
+
+/// What came of what by the last command that is held, such as a feature, also where nobody followed it (gwb_became), and notes follow that. It says nothing
+/// while a draft is open. As it steps back and forth, it costs as much as reading the model twice, or where there are Notes, what the command touched.
+template <class Policy, class... AllNotes> typename Policy::template Returned<Became> became(Commands<Policy> &bench, AllNotes &...notes)
+{
+    std::optional<Became> found = history::became(bench.handle());
+    if (!found)
+        return Policy::template failed<Became>("became", {bench.is_open() ? Problem::memory : Problem::closed});
+    (notes.follow(*found), ...);
+    return std::move(*found);
 }
 
 /// Takes the last command back, and says what that did. Notes need no such call: they follow births.

@@ -144,23 +144,23 @@ enum gwb_misfit {
 
 /** Which cause of a misfit it is. Y is the number of what was met (gwb_hit). */
 enum gwb_cause {
-    /** the outline crosses edge Y of face X; gwb_subtract cuts across edges */
+    /** the outline crosses edge Y of face X; gwb_subtract cuts across edges, gwb_union adds across them */
     GWB_CAUSE_EDGE_CROSSED = 1,
-    /** the outline touches edge Y of face X between its ends; gwb_notch takes outlines that reach the edges */
+    /** the outline touches edge Y of face X between its ends; gwb_notch and gwb_pad take outlines that reach the edges */
     GWB_CAUSE_EDGE_TOUCHED = 2,
-    /** the outline touches vertex Y of face X; gwb_notch takes outlines that reach the edges */
+    /** the outline touches vertex Y of face X; gwb_notch and gwb_pad take outlines that reach the vertices */
     GWB_CAUSE_VERTEX_TOUCHED = 3,
-    /** the outline meets loop Y, a ring of face X; gwb_subtract cuts across holes */
+    /** the outline meets loop Y, a ring of face X; gwb_subtract cuts across holes, gwb_union adds across them */
     GWB_CAUSE_RING_MET = 4,
     /** the outline lies outside face X */
     GWB_CAUSE_WHOLLY_OUTSIDE = 5,
     /** what is made at face X would touch face Y */
     GWB_CAUSE_TOUCHES_FACE = 6,
-    /** what is made at face X would come through face Y; gwb_hole goes through to the far side */
+    /** what is made at face X would come through face Y; gwb_subtract cuts away what lies in its way, gwb_union makes one of it */
     GWB_CAUSE_COMES_THROUGH = 7,
     /** solid X would touch itself */
     GWB_CAUSE_TOUCHES_ITSELF = 8,
-    /** the vector of this depth is whole at no scale, since its length is irrational; gwb_pocket_along and its kin take a vector */
+    /** the vector of this depth is whole at no scale, since its length is irrational; gwb_pocket_along and other calls that end in _along take a vector */
     GWB_CAUSE_NO_SCALE = 9,
     /** the vector of this depth would not be whole: all must be Y times as large */
     GWB_CAUSE_DEPTH_FRACTION = 10,

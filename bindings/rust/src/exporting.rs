@@ -23,7 +23,7 @@ pub enum ExportError {
 impl fmt::Display for ExportError {
     fn fmt(&self, f: &mut fmt::Formatter<'_>) -> fmt::Result {
         match self {
-            Self::NoForm(path) => write!(f, "NoForm: {}: the endings are step stp 3mf stl obj off glb", path.display()),
+            Self::NoForm(path) => write!(f, "NoForm: {}: the endings are {}", path.display(), WRITERS.map(|(ending, ..)| ending).join(" ")),
             Self::NoProgram(path, why) => write!(f, "NoProgram: {}: {why}", path.display()),
             Self::Refused(said) => write!(f, "Refused: {said}"),
             Self::NoFile(path, why) => write!(f, "NoFile: {}: {why}", path.display()),
@@ -42,19 +42,32 @@ pub struct Step {
     pub denominator: u32,
 }
 
-/// The program that writes files of an ending, and its words.
-fn program(path: &Path) -> Option<(PathBuf, Vec<String>)> {
-    let ending = path.extension()?.to_str()?.to_ascii_lowercase();
-    let (name, words) = match ending.as_str() {
-        "step" | "stp" => ("gwb-step", Vec::new()),
-        "3mf" | "stl" | "obj" | "off" | "glb" => ("gwb-mesh", vec!["--form".to_owned(), ending]),
-        _ => return None,
-    };
-    Some((env::var_os("GWB_COMPANIONS").map_or_else(|| name.into(), |folder| Path::new(&folder).join(name)), words))
+/// The endings of files, of each the program that writes them, and what follows its `--form`, nothing where it writes one form alone.
+const WRITERS: [(&str, &str, &str); 8] = [
+    ("step", "gwb-step", ""),
+    ("stp", "gwb-step", ""),
+    ("p21", "gwb-step", ""),
+    ("3mf", "gwb-mesh", "3mf"),
+    ("stl", "gwb-mesh", "stl"),
+    ("obj", "gwb-mesh", "obj"),
+    ("off", "gwb-mesh", "off"),
+    ("glb", "gwb-mesh", "glb"),
+];
+
+/// The command that writes a file of this name, by its ending in letters of either case.
+fn command(path: &Path) -> Option<(PathBuf, Command)> {
+    let wanted = path.extension()?.to_str()?;
+    let (_, name, form) = WRITERS.into_iter().find(|(ending, ..)| wanted.eq_ignore_ascii_case(ending))?;
+    let program = env::var_os("GWB_COMPANIONS").map_or_else(|| name.into(), |folder| Path::new(&folder).join(name));
+    let mut command = Command::new(&program);
+    if !form.is_empty() {
+        command.args(["--form", form]);
+    }
+    Some((program, command))
 }
 
 impl Readers {
-    /// Writes what is held to a file, by the ending of its name: `.step`, `.stp`, `.3mf`, `.stl`, `.obj`, `.off` or `.glb`. `names` is a script whose
+    /// Writes what is held to a file, by the ending of its name: `.step`, `.stp`, `.p21`, `.3mf`, `.stl`, `.obj`, `.off` or `.glb`. `names` is a script whose
     /// comments say names, colours and the unit; without it a coordinate is a millimetre. What comes back are warnings, as of solids that touch.
     ///
     /// # Errors
@@ -69,10 +82,9 @@ impl Readers {
     /// As [`ExportError`] says.
     pub fn export_by(&self, path: impl AsRef<Path>, names: Option<&Path>, step: Option<Step>) -> Result<String, ExportError> {
         let path = path.as_ref();
-        let (program, words) = program(path).ok_or_else(|| ExportError::NoForm(path.into()))?;
+        let (program, mut command) = command(path).ok_or_else(|| ExportError::NoForm(path.into()))?;
         let listing = self.listing().map_err(|error| ExportError::Refused(error.to_string()))?;
-        let mut command = Command::new(&program);
-        command.args(words).stdin(Stdio::piped()).stdout(Stdio::piped()).stderr(Stdio::piped());
+        command.stdin(Stdio::piped()).stdout(Stdio::piped()).stderr(Stdio::piped());
         if let Some(names) = names {
             command.arg("--names").arg(names);
         }

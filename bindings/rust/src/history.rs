@@ -1,5 +1,5 @@
 //! What commands made, removed and split of a model, and values on faces and edges that follow it.
-use crate::readers::values;
+use crate::readers::{rows, values};
 use crate::{Edge, Error, Face, Id, Readers, Session, Vertex};
 use std::collections::BTreeMap;
 use std::marker::PhantomData;
@@ -93,20 +93,15 @@ impl<'session> Watching<'session> {
         Ok(Self { session, place, depth })
     }
 
-    fn changes(&self) -> Result<Changes, Error> {
+    fn changes(&mut self) -> Result<Changes, Error> {
         let answer = unsafe { gwb_sys::gwb_compare_from(self.session.handle(), self.place) };
         self.session.answered(answer)?;
-        let became = Became { faces: self.heirs(), edges: self.heirs(), vertices: self.heirs() };
+        let became = self.session.became()?;
         Ok(Changes { faces: self.changes_of(), edges: self.changes_of(), became, depths: [self.depth, self.session.depth()] })
     }
 
     fn changes_of<N: Noted>(&self) -> ChangesOf<N> {
         ChangesOf { made: self.listed(true), removed: self.listed(false) }
-    }
-
-    fn heirs<N: Id>(&self) -> Vec<Heir<N>> {
-        let all: Vec<gwb_sys::BecameRow> = values(|rows, room| unsafe { gwb_sys::gwb_became(self.session.handle(), rows, room) });
-        all.into_iter().filter(|row| row.kind == N::KIND).map(Heir::from).collect()
     }
 
     fn listed<N: Noted>(&self, are_made: bool) -> Vec<Change<N>> {
@@ -151,7 +146,41 @@ impl Drop for Watching<'_> {
     }
 }
 
+/// Those of a kind.
+fn heirs<N: Id>(rows: &[gwb_sys::BecameRow]) -> Vec<Heir<N>> {
+    rows.iter().filter(|row| row.kind == N::KIND).copied().map(Heir::from).collect()
+}
+
 impl Session {
+    /// What came of what by the last command that is held, such as a feature, also where nobody followed it. Births are 0 where there were no [`Notes`] when
+    /// it was given. It steps back and forth, and so costs as much as reading the model twice, or where there are notes, what the command touched.
+    ///
+    /// ```
+    /// # use gwb::{Error, Face, Notes, Session, Solid};
+    /// # let mut session = Session::new()?;
+    /// # session.block(None, [0, 0, 0], [4, 4, 4])?;
+    /// # session.block(None, [4, 0, 0], [4, 4, 4])?;
+    /// let mut colours = Notes::new(&mut session)?;
+    /// colours.insert(&session, Face(7), "red");
+    /// session.union(&[Solid(1), Solid(2)])?;
+    /// let became = session.became()?;
+    /// assert_eq!((became.faces[0].old, became.faces[0].made), (Face(7), Face(1)));
+    /// colours.inherit(&became.faces);
+    /// assert_eq!(colours.get(&session, Face(1)), Some(&"red"));
+    /// # Ok::<(), Error>(())
+    /// ```
+    ///
+    /// # Errors
+    /// [`Error::Memory`].
+    pub fn became(&mut self) -> Result<Became, Error> {
+        let write = |rows, room| unsafe { gwb_sys::gwb_became(self.handle(), rows, room) };
+        if write(&mut gwb_sys::BecameRow::default(), 0) == usize::MAX {
+            return Err(Error::Memory);
+        }
+        let rows = rows(write);
+        Ok(Became { faces: heirs(&rows), edges: heirs(&rows), vertices: heirs(&rows) })
+    }
+
     /// Gives commands, and says what they did.
     ///
     /// ```
@@ -171,7 +200,7 @@ impl Session {
     /// # Errors
     /// That of the commands, with what those before it did; [`Error::Memory`] also where it is refused for what accepted ones did.
     pub fn followed<T>(&mut self, give: impl FnOnce(&mut Self) -> Result<T, Error>) -> Result<(T, Changes), (Error, Box<Changes>)> {
-        let watching = Watching::new(self).map_err(|error| (error, Box::default()))?;
+        let mut watching = Watching::new(self).map_err(|error| (error, Box::default()))?;
         let given = give(&mut *watching.session);
         match (given, watching.changes()) {
             (Ok(value), Ok(changes)) => Ok((value, changes)),
@@ -197,7 +226,7 @@ impl Session {
     }
 
     fn turned(&mut self, give: impl FnOnce(&mut Self) -> Result<(), Error>) -> Result<Changes, Error> {
-        let watching = Watching::new(self)?;
+        let mut watching = Watching::new(self)?;
         give(&mut *watching.session)?;
         watching.changes()
     }
@@ -261,6 +290,16 @@ impl<N: Id, V: Clone> Notes<N, V> {
         for made in &N::of(changes).made {
             if let Some(value) = made.other_birth.and_then(|birth| self.values.get(&birth)).cloned() {
                 self.values.entry(made.birth).or_insert(value);
+            }
+        }
+    }
+
+    /// After what came of things of this kind, of which [`became`](Session::became) tells: what came of one that has a value has a copy of it, unless it has
+    /// one; no undo takes that back.
+    pub fn inherit(&mut self, heirs: &[Heir<N>]) {
+        for heir in heirs {
+            if let Some(value) = known(heir.old_birth).and_then(|birth| self.values.get(&birth)).cloned() {
+                self.values.entry(heir.made_birth).or_insert(value);
             }
         }
     }

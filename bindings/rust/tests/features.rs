@@ -134,7 +134,8 @@ fn files_of_other_forms() {
     std::env::set_var("GWB_COMPANIONS", companions());
     assert!(matches!(session.export(file("step"), None), Err(ExportError::Refused(_))));
     session.block(None, [0, 0, 0], [4, 4, 4]).unwrap();
-    for (ending, first) in [("step", "ISO-10303-21;"), ("3mf", "PK"), ("stl", "solid"), ("obj", "v "), ("glb", "glTF")] {
+    let step = "ISO-10303-21;";
+    for (ending, first) in [("step", step), ("P21", step), ("3mf", "PK"), ("stl", "solid"), ("obj", "v "), ("off", "OFF"), ("glb", "glTF")] {
         assert_eq!(session.export(file(ending), None).unwrap(), "");
         assert!(std::fs::read(file(ending)).unwrap().starts_with(first.as_bytes()));
         std::fs::remove_file(file(ending)).unwrap();
@@ -144,7 +145,8 @@ fn files_of_other_forms() {
     assert!(std::fs::read_to_string(file("stl")).unwrap().contains("vertex 0.004 0.004 0.004\n"));
     assert!(matches!(by(1, 0), Err(ExportError::Refused(_))));
     std::fs::remove_file(file("stl")).unwrap();
-    assert!(matches!(session.export(&base, None), Err(ExportError::NoForm(_))));
+    let no_form = session.export(&base, None).unwrap_err();
+    assert!(matches!(no_form, ExportError::NoForm(_)) && no_form.to_string().contains(": the endings are step stp "));
     assert!(matches!(session.export("/none/part.stl", None), Err(ExportError::NoFile(..))));
     std::env::set_var("GWB_COMPANIONS", "/none");
     assert!(matches!(session.export(file("stl"), None), Err(ExportError::NoProgram(..))));

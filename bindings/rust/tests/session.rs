@@ -461,6 +461,59 @@ fn what_became_of_things_is_known() {
     assert_eq!(session.followed(|session| session.block(None, [90, 0, 0], [1, 1, 1])).unwrap().1.became, Became::default());
 }
 
+/// Two blocks beside each other.
+fn blocks() -> Session {
+    let mut session = block();
+    session.block(Solid(2), [4, 0, 0], [4, 4, 4]).unwrap();
+    session
+}
+
+/// The same of the last command, which nobody followed: a colour goes along.
+#[test]
+fn what_became_of_things_by_the_last_command() {
+    let mut session = blocks();
+    let mut colours = Notes::new(&mut session).unwrap();
+    colours.insert(&session, Face(7), "red");
+    session.union(&[Solid(1), Solid(2)]).unwrap();
+    session.block(None, [90, 0, 0], [1, 1, 1]).unwrap();
+    assert_eq!(session.became(), Ok(Became::default()));
+    session.undo().unwrap();
+    let told = session.became().unwrap();
+    assert_eq!((told.faces[0].old, told.faces[0].made, told.faces.len(), session.ahead()), (Face(7), Face(1), 4, 1));
+    colours.inherit(&told.faces);
+    assert_eq!(colours.iter(&session).collect::<Vec<_>>(), [(Face(1), &"red")]);
+}
+
+/// Each command tells, undone and redone too, what one that is followed tells, but for births.
+#[test]
+fn what_became_of_things_followed_or_not() {
+    type Command = fn(&mut Session) -> Result<(), Error>;
+    const AT_EDGE: [[i64; 3]; 4] = [[-1, 1, 4], [2, 1, 4], [2, 3, 4], [-1, 3, 4]];
+    let commands: [(&str, Command); 7] = [
+        ("union", |session| session.union(&[Solid(1), Solid(2)]).map(drop)),
+        ("subtract", |session| session.subtract(Solid(1), &[Solid(2)]).map(drop)),
+        ("notch", |session| session.notch(Face(1), &AT_EDGE, 2).map(drop)),
+        ("split", |session| session.split(Solid(1), [0, 0, 1, -2], None).map(drop)),
+        ("glue_all", |session| session.glue_all(&[Solid(1), Solid(2)])),
+        ("cut", |session| session.cut(Solid(1), [0, 0, 1, -2], None).map(drop)),
+        ("mev", |session| session.mev(plus(Edge(1)), plus(Edge(1)), None, None, [9, 9, 9]).map(drop)),
+    ];
+    fn numbers<N: Copy>(heirs: &[Heir<N>]) -> Vec<(N, N)> {
+        heirs.iter().map(|heir| (heir.old, heir.made)).collect()
+    }
+    let bare = |told: &Became| (numbers(&told.faces), numbers(&told.edges), numbers(&told.vertices));
+    for (name, command) in commands {
+        let (mut followed, mut session) = (blocks(), blocks());
+        let wanted = followed.followed(command).unwrap().1.became;
+        command(&mut session).unwrap();
+        assert_eq!(bare(&session.became().unwrap()), bare(&wanted), "{name}");
+        assert!(session.became().unwrap().edges.iter().all(|heir| (heir.old_birth, heir.made_birth) == (0, 0)), "{name}");
+        session.undo().unwrap();
+        session.redo().unwrap();
+        assert_eq!(bare(&session.became().unwrap()), bare(&wanted), "{name}, redone");
+    }
+}
+
 /// What is followed within another is told to both.
 #[test]
 fn followed_within_another() {

@@ -374,7 +374,7 @@ extern "C" {
     pub fn gwb_compare_from(g: *mut Gwb, place: usize) -> u32;
     pub fn gwb_compared(g: *const Gwb, entity: u32, is_made: bool, rows: *mut Change, room: usize) -> usize;
     pub fn gwb_compared_births(g: *const Gwb, entity: u32, is_made: bool, rows: *mut BornChange, room: usize) -> usize;
-    pub fn gwb_became(g: *const Gwb, rows: *mut BecameRow, room: usize) -> usize;
+    pub fn gwb_became(g: *mut Gwb, rows: *mut BecameRow, room: usize) -> usize;
     pub fn gwb_birth(g: *const Gwb, entity: u32, number: u32) -> u64;
     pub fn gwb_stop_by(g: *mut Gwb, stop: Option<Stop>, user: *mut c_void);
 
