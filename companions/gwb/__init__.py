@@ -15,7 +15,7 @@ from .session.feature_methods import Sketch
 from .session.lengths import OffStep
 from .session.library import is_proved
 from .session.reading import EdgePart, FacePart, LoopPart, Part, Selection, SolidPart, VertexPart
-from .session.results import (Block, Count, Cut, Hole, Lamina, NewEdge, NewFace, NewSolid, Notch, Pad, Plane, Pocket, Polyhedron, Profile, Renumbered,
+from .session.results import (Became, Block, Count, Cut, Hole, Lamina, NewEdge, NewFace, NewSolid, Notch, Pad, Plane, Pocket, Polyhedron, Profile, Renumbered,
                               Ring, Split, Sweep)
 from .session.selection import OffLatticeCut
 from .session.solids import Copy
@@ -33,7 +33,7 @@ else:
         proved = is_proved()
         return proved if name == '__proved__' else VERSION + ('+unproved' if proved is False else '')
 
-__all__ = ['Block', 'BoundingBox', 'CompanionError', 'Complaint', 'Copy', 'Count', 'Cut', 'EdgePart', 'Ended', 'Face', 'FacePart', 'Faulted', 'Hole',
+__all__ = ['Became', 'Block', 'BoundingBox', 'CompanionError', 'Complaint', 'Copy', 'Count', 'Cut', 'EdgePart', 'Ended', 'Face', 'FacePart', 'Faulted', 'Hole',
            'Impossible', 'InDraft', 'InGroup', 'Inertia', 'Lamina', 'Lone', 'Loop', 'LoopPart', 'MemoryRefused', 'Model', 'NewEdge', 'NewFace',
            'NewSolid', 'NoDraft', 'NoPart', 'NoVolume', 'NotOne', 'NotParallel', 'Notch', 'OffLatticeCut', 'OffStep', 'OutOfStep', 'Pad', 'Part', 'Plane',
            'Pocket', 'Polyhedron', 'Profile', 'ProgramMissing', 'Refused', 'Renumbered', 'Ring', 'Selection', 'Sketch', 'SolidPart', 'Split',

@@ -158,6 +158,17 @@ def listing(points: Sequence[Point], *solids: List[List[Cycle]]) -> str:
     return ''.join(line + '\n' for lines in rows.values() for line in lines)
 
 
+def boxes(*corners: Tuple[Point, Point]) -> str:
+    """A listing of boxes, each a solid."""
+    points: List[Point] = []
+    solids = []
+    for low, high in corners:
+        more, faces = box(low, high, len(points) + 1)
+        points += more
+        solids.append(faces)
+    return listing(points, *solids)
+
+
 def _halves(cycle: Cycle, edges: Dict[Tuple[int, int], int]) -> str:
     """The half-edges of a cycle, from the least on; new edges get the next numbers."""
     halves = []
@@ -186,9 +197,27 @@ def bench_and_folder(test: unittest.TestCase, step: Fraction = STEP):
     """A workbench and a folder for a test, both gone when it ends."""
     bench = import_module('gwb').Workbench(library(), step=step)
     test.addCleanup(bench.close)
+    return bench, folder_of(test)
+
+
+def folder_of(test: unittest.TestCase) -> Path:
+    """A folder for a test, gone when it ends."""
     folder = tempfile.TemporaryDirectory()
     test.addCleanup(folder.cleanup)
-    return bench, Path(folder.name)
+    return Path(folder.name)
+
+
+class InFolder(unittest.TestCase):
+    """Tests with a folder of their own."""
+
+    def setUp(self):
+        self.folder = folder_of(self)
+
+    def file(self, name, data):
+        """The path of a file there that holds this."""
+        path = self.folder / name
+        path.write_bytes(data.encode() if isinstance(data, str) else data)
+        return str(path)
 
 
 def model_in(text: str):

@@ -1,7 +1,6 @@
-"""Every example through every companion, compared with what is stored: the outputs of one in full, of the others their sums.
+"""Every example through every companion: each output has the sum that is stored.
 
-The one shows faces with rings and a hole. What the others have beside that: several solids, a wire and a lamina, which most forms refuse, a model
-without a solid, and the words of refusals.
+The examples have faces with rings and a hole, several solids, a wire and a lamina, which most forms refuse, a model without a solid, and refusals.
 
     python3 companions/tests/test_examples.py --store
 
@@ -16,8 +15,7 @@ from typing import Dict, List
 
 from support import OUTPUTS, REPOSITORY, examples, run
 
-IN_FULL = 'block_with_hole'
-# SHA-256 of the other outputs, by their names.
+# SHA-256 of the outputs, by their names.
 SUMS = OUTPUTS / 'sums'
 MOST_TOLD = 1000
 
@@ -51,13 +49,8 @@ def _told(companion: str, *words: str) -> str:
     return told if outcome.status == 0 else f'{told}{outcome.err}status {outcome.status}\n'
 
 
-def file_of(script: Path, end: str) -> Path:
-    """Where the output of an example is stored in full."""
-    return OUTPUTS / f'{script.stem}.{end}'
-
-
 def sums() -> Dict[str, str]:
-    """The sums of the outputs that aren't stored in full."""
+    """The sums that are stored."""
     return dict(line.split() for line in SUMS.read_text().splitlines())
 
 
@@ -67,39 +60,25 @@ def sum_of(told: str) -> str:
 
 
 class Examples(unittest.TestCase):
-    """The stored outputs."""
-
-    maxDiff = 2000
+    """The outputs of examples."""
 
     def test_every_example_through_every_companion(self):
         known, compared = sums(), 0
         for script in examples():
             for end, told in outcomes(script).items():
                 with self.subTest(f'{script.stem}.{end}'):
-                    if script.stem == IN_FULL:
-                        self.assertEqual(told, file_of(script, end).read_text())
-                    else:
-                        self.assertEqual(sum_of(told), known[f'{script.stem}.{end}'], f'it is now:\n{told[:MOST_TOLD]}')
+                    self.assertEqual(sum_of(told), known[f'{script.stem}.{end}'], f'it is now:\n{told[:MOST_TOLD]}')
                     compared += 1
         self.assertEqual(compared, len(examples()) * len((*LISTING_RUNS, *SCRIPT_RUNS)))
 
     def test_nothing_else_is_stored(self):
-        held = {f'{script.stem}.{end}': script.stem == IN_FULL for script in examples() for end in (*LISTING_RUNS, *SCRIPT_RUNS)}
-        self.assertEqual({path.name for path in OUTPUTS.iterdir()},
-                         {SUMS.name, 'MANIFEST.md', 'files.tar.xz', *(name for name, is_full in held.items() if is_full)})
-        self.assertEqual(set(sums()), {name for name, is_full in held.items() if not is_full})
+        self.assertEqual({path.name for path in OUTPUTS.iterdir()}, {SUMS.name, 'MANIFEST.md', 'files.tar.xz'})
+        self.assertEqual(set(sums()), {f'{script.stem}.{end}' for script in examples() for end in (*LISTING_RUNS, *SCRIPT_RUNS)})
 
 
 def store() -> None:
-    """Stores what the companions write now, in place of what was stored."""
-    lines = []
-    for script in examples():
-        for end, told in outcomes(script).items():
-            if script.stem == IN_FULL:
-                file_of(script, end).write_text(told)
-            else:
-                lines.append(f'{script.stem}.{end} {sum_of(told)}\n')
-    SUMS.write_text(''.join(lines))
+    """Stores the sums of what the companions write now, in place of what was stored."""
+    SUMS.write_text(''.join(f'{script.stem}.{end} {sum_of(told)}\n' for script in examples() for end, told in outcomes(script).items()))
 
 
 if __name__ == '__main__':

@@ -6,16 +6,17 @@ import subprocess
 import tempfile
 import unittest
 
-from support import REPOSITORY, box, listing, program, run, scripts
+from support import REPOSITORY, box, boxes, listing, program, run, scripts
 
 from gwb import Workbench
 from gwb.errors import NotReplies
 from gwb.geometry.lattice_cuts import off_lattice_cut
 from gwb.geometry.matching_faces import _plane
 from gwb.programs.explain import annotated, complaints, join
-from gwb.protocol.language import FAULTS, first_word, is_answered, refusal
+from gwb.meanings import refusal
+from gwb.protocol.language import FAULTS, first_word, is_answered
 from gwb.protocol.listing import read_model
-from gwb.protocol.refusals import NAMES, TEXTS
+from gwb.refusals import NAMES, TEXTS
 from gwb.protocol.replies import split_replies
 from gwb.protocol.word_advice import _ELSEWHERE, word_advice
 
@@ -121,16 +122,6 @@ class CutsOffTheLattice(unittest.TestCase):
         self.assertEqual(self.advice(BLOCK + b'list\nblock 2 9 9 9 1 1 1\n' + SPLIT, b'ok\n' + self.LISTED + b'ok\n' + REFUSED), hint)
 
 
-def blocks(*corners):
-    """A listing of boxes, each a solid."""
-    points, solids = [], []
-    for low, high in corners:
-        more, faces = box(low, high, len(points) + 1)
-        points += more
-        solids.append(faces)
-    return listing(points, *solids).encode()
-
-
 class FacesThatDoNotMatch(unittest.TestCase):
     """What is said of a glue whose faces have other points. The faces of a box are its bottom, top, front, right, back and left."""
 
@@ -140,18 +131,18 @@ class FacesThatDoNotMatch(unittest.TestCase):
         return [told.strip() for told in lines[1:-1]]
 
     def test_the_planes_and_the_face_that_does(self):
-        listed = blocks(((0, 0, 0), (4, 4, 4)), ((4, 0, 0), (6, 4, 4)))
+        listed = boxes(((0, 0, 0), (4, 4, 4)), ((4, 0, 0), (6, 4, 4))).encode()
         self.assertEqual(self.advice(listed, b'glue 4 7'), ['# face 4 lies in x = 4, face 7 in z = 0', '# face 12 of solid 2 matches face 4:', 'glue 4 12'])
         self.assertEqual(self.advice(listed, b'glue 1 12'), ['# face 1 lies in z = 0, face 12 in x = 4', '# face 4 of solid 1 matches face 12:', 'glue 4 12'])
 
     def test_corners_that_only_one_has(self):
-        listed = blocks(((0, 0, 0), (4, 4, 4)), ((4, 0, 0), (6, 4, 5)))
+        listed = boxes(((0, 0, 0), (4, 4, 4)), ((4, 0, 0), (6, 4, 5))).encode()
         self.assertEqual(self.advice(listed, b'glue 4 12'), ['# face 4 has the corner 4 0 4, and 1 more that face 12 has not',
                                                             '# face 12 has the corner 4 0 5, and 1 more that face 4 has not',
                                                             '# no face of another solid matches face 4 or face 12'])
 
     def test_faces_that_look_the_same_way(self):
-        listed = blocks(((0, 0, 0), (4, 4, 4)), ((2, 0, 0), (4, 4, 4)))
+        listed = boxes(((0, 0, 0), (4, 4, 4)), ((2, 0, 0), (4, 4, 4))).encode()
         self.assertEqual(self.advice(listed, b'glue 4 10')[0], '# both look the same way, and faces that are glued look at each other')
 
     def test_a_slanted_plane(self):
@@ -166,7 +157,7 @@ class FacesThatDoNotMatch(unittest.TestCase):
         self.assertEqual(self.advice(b'', b'glue 4 7', hint=False), ['# with a `list` on the line before, it is told here which face would match'])
 
     def test_replies_of_another_script(self):
-        listed = blocks(((0, 0, 0), (4, 4, 4)), ((4, 0, 0), (6, 4, 4)))
+        listed = boxes(((0, 0, 0), (4, 4, 4)), ((4, 0, 0), (6, 4, 4))).encode()
         for line, part in ((b'glue 4', 'never refuses NoMatch'), (b'kvfs 1', 'never refuses NoMatch'), (b'glue 4 99', 'has not')):
             with self.subTest(line), self.assertRaisesRegex(NotReplies, part):
                 self.advice(listed, line)

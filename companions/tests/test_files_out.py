@@ -2,13 +2,11 @@
 
 import io
 import re
-import tempfile
 import unittest
 import zipfile
-from pathlib import Path
 from xml.etree import ElementTree
 
-from support import box, listing, model_in, run, turned
+from support import InFolder, box, boxes, listing, model_in, run, turned
 
 from gwb.formats.appearance import Appearance, appearances_in, comments
 from gwb.formats.importing import read_file
@@ -22,37 +20,17 @@ RED, BLUE, GREY = (255, 0, 0), (0, 0, 255), (128, 128, 128)
 LOOKS = {('solid', 1): Appearance('D\u00fcse <4> "\'&\\', RED), ('face', 2): Appearance('', BLUE), ('face', 8): Appearance('', GREY)}
 
 
-def boxes(*corners):
-    """A listing of boxes, each a solid."""
-    points, solids = [], []
-    for low, high in corners:
-        more, faces = box(low, high, len(points) + 1)
-        points += more
-        solids.append(faces)
-    return listing(points, *solids)
-
-
 TWO = boxes(((0, 0, 0), (2, 2, 2)), ((5, 0, 0), (7, 2, 2)))
 
 
-class InFolder(unittest.TestCase):
+class Read(InFolder):
     """What the tests share."""
-
-    def setUp(self):
-        folder = tempfile.TemporaryDirectory()
-        self.addCleanup(folder.cleanup)
-        self.folder = Path(folder.name)
-
-    def file(self, name, data):
-        path = self.folder / name
-        path.write_bytes(data if isinstance(data, bytes) else data.encode())
-        return str(path)
 
     def looks_back(self, name, data):
         return read_file(self.file(name, data)).looks
 
 
-class Looks(InFolder):
+class Looks(Read):
     """Names and colours come back from each form that has them."""
 
     def test_step(self):
@@ -110,7 +88,7 @@ class Looks(InFolder):
         self.assertEqual((len(found.model.solids), found.looks), (1, {('solid', 1): Appearance('pair', RED)}))
 
 
-class Comments(InFolder):
+class Comments(Read):
     """Names and colours in a script."""
 
     def test_they_are_read_as_they_were_written(self):
@@ -162,7 +140,7 @@ class Tolerance(unittest.TestCase):
             self.assertIn(f"UNCERTAINTY_MEASURE_WITH_UNIT(LENGTH_MEASURE({said})", text)
 
 
-class TouchingSolids(InFolder):
+class TouchingSolids(Read):
     """One mesh of several solids that touch is read as one wrong body."""
 
     def warned(self, text, *words):

@@ -4,12 +4,10 @@ import re
 import shutil
 import struct
 import subprocess
-import tempfile
 import unittest
 import zipfile
-from pathlib import Path
 
-from support import COMPANIONS, REPOSITORY, box, listing, model_in, run
+from support import COMPANIONS, REPOSITORY, InFolder, box, listing, model_in, run
 
 from gwb.errors import Unfit
 from gwb.formats.appearance import Appearance, Said, unique_names
@@ -22,20 +20,6 @@ from gwb.formats.writing import written
 
 TWO = listing([*box((0, 0, 0), (2, 2, 2))[0], *box((5, 0, 0), (7, 3, 2))[0]], box((0, 0, 0), (2, 2, 2))[1], box((5, 0, 0), (7, 3, 2), 9)[1])
 LOOKS = {('solid', 1): Appearance('Base plate', (255, 0, 0)), ('solid', 2): Appearance('Base cover', (0, 0, 255))}
-
-
-class InFolder(unittest.TestCase):
-    """Tests with a folder of their own."""
-
-    def setUp(self):
-        folder = tempfile.TemporaryDirectory()
-        self.addCleanup(folder.cleanup)
-        self.folder = Path(folder.name)
-
-    def file(self, name, data):
-        path = self.folder / name
-        path.write_bytes(data.encode() if isinstance(data, str) else data)
-        return str(path)
 
 
 class Table(InFolder):
@@ -82,12 +66,13 @@ class Table(InFolder):
                     form_of(b'?', f'part.{form.endings[0]}')
 
     def test_the_lists_of_c_and_rust(self):
-        """C++ and Rust hand the listing to the companions: the endings that they know are those of the table."""
-        wanted = {ending for name in EXPORTED if FORMS[name].write for ending in FORMS[name].endings} - {'p21'}
+        """C++ and Rust hand the listing to the companions: the endings that they know, and the programs and forms of these, are those of the table."""
+        written = [(name, FORMS[name]) for name in EXPORTED if FORMS[name].write]
+        wanted = {(ending, form.program, name if name in MESHES else '') for name, form in written for ending in form.endings}
         for path in ('bindings/include/gwb_export.hpp', 'bindings/rust/src/exporting.rs'):
-            text = (REPOSITORY / path).read_text(encoding='utf-8')
-            for ending in wanted:
-                self.assertIn(f'"{ending}"', text, path)
+            rows = re.findall(r'[{(]"(\w+)", "(gwb-\w+)", "(\w*)"[)}]', (REPOSITORY / path).read_text(encoding='utf-8'))
+            self.assertEqual(set(rows), wanted, path)
+            self.assertEqual(len(rows), len(wanted), path)
 
 
 class UniqueNames(InFolder):

@@ -1,11 +1,10 @@
 """What a companion is given: a script, replies, a listing and each form that is read, in each companion; names of scripts; comments of any letters."""
 
 import subprocess
-import tempfile
 import unittest
 from pathlib import Path
 
-from support import box, program, run, shells
+from support import InFolder, box, program, run, shells
 
 from gwb.errors import CompanionError
 from gwb.formats.appearance import Appearance, Said, comments
@@ -62,22 +61,15 @@ def files_of(folder: Path) -> dict:
     return paths
 
 
-class InFolder(unittest.TestCase):
-    """Tests with a folder of their own."""
+class WithProgram(InFolder):
+    """Tests that need gwb too."""
 
     def setUp(self):
         program()
-        folder = tempfile.TemporaryDirectory()
-        self.addCleanup(folder.cleanup)
-        self.folder = Path(folder.name)
-
-    def file(self, name, data):
-        path = self.folder / name
-        path.write_bytes(data.encode() if isinstance(data, str) else data)
-        return str(path)
+        super().setUp()
 
 
-class Pairs(InFolder):
+class Pairs(WithProgram):
     """Each file in each companion."""
 
     def test_all_pairs(self):
@@ -115,7 +107,7 @@ class Pairs(InFolder):
         self.assertEqual(kind_of(SCRIPT_TEXT.encode(), '-'), SCRIPT)
 
 
-class Kinds(InFolder):
+class Kinds(WithProgram):
     """What a file is said to be."""
 
     def test_by_the_first_line(self):
@@ -140,7 +132,7 @@ class Kinds(InFolder):
                 self.assertIn(said, outcome.err)
 
 
-class Units(InFolder):
+class Units(WithProgram):
     """Files whose points aren't whole millimetres."""
 
     CUBE = 'OFF\n8 6 0\n' + ''.join(f'{x} {y} {z}\n' for x, y, z in box((0, 0, 0), (1, 1, 1))[0]) + ''.join(
@@ -163,7 +155,7 @@ class Units(InFolder):
             self.assertEqual((outcome.status, outcome.err.count('\n')), (3, 1), outcome.err)
 
 
-class Names(InFolder):
+class Names(WithProgram):
     """`--names` and `--unit`."""
 
     def test_a_unit(self):
@@ -203,7 +195,7 @@ class Names(InFolder):
         self.assertEqual(run('view', '--steps', '--names', 'x', self.file('part', 'block 1 0 0 0 3 3 3\n')).status, 2)
 
 
-class Letters(InFolder):
+class Letters(WithProgram):
     """Comments that aren't ASCII, which gwb itself answers with a fault."""
 
     def test_they_are_read_over(self):

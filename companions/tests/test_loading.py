@@ -10,7 +10,7 @@ from support import COMPANIONS
 UNNEEDED = ('email', 'http', 'socket', 'ssl', 'subprocess', 'tempfile', 'webbrowser', 'xml', 'zipfile')
 # What lies beside the forms and is none: colours with names, and numbers as people write them.
 NO_FORMS = {'gwb.formats.appearance', 'gwb.formats.exact_numbers'}
-MOST = 59
+MOST = 60
 
 
 def loaded(code):

@@ -5,13 +5,12 @@ import re
 import shutil
 import subprocess
 import sys
-import tempfile
 import unittest
 from importlib.util import find_spec
 from pathlib import Path
 from zipfile import ZipFile
 
-from support import COMPANIONS
+from support import COMPANIONS, folder_of
 
 from gwb.version import VERSION
 
@@ -35,9 +34,7 @@ class Packaging(unittest.TestCase):
     def setUp(self):
         if not (find_spec('setuptools') and find_spec('wheel')):
             self.skipTest('needs setuptools and wheel')
-        folder = tempfile.TemporaryDirectory()
-        self.addCleanup(folder.cleanup)
-        self.folder = Path(folder.name)
+        self.folder = folder_of(self)
         self.tree = Path(shutil.copytree(COMPANIONS, self.folder / 'companions', ignore=shutil.ignore_patterns('__pycache__')))
 
     def put(self, place, data):
@@ -90,7 +87,7 @@ class Folders(unittest.TestCase):
 
     def test_each_uses_those_before_it_alone(self):
         for path in (COMPANIONS / 'gwb').glob('*/*.py'):
-            used = set(re.findall(r'^from \.\.([a-z]+)[. ]', path.read_text(), re.M)) - {'errors', 'version'}
+            used = set(re.findall(r'^from \.\.([a-z]+)[. ]', path.read_text(), re.M)) - {'errors', 'meanings', 'refusals', 'version'}
             with self.subTest(path=path):
                 self.assertLessEqual(used, set(self.ORDER[:self.ORDER.index(path.parent.name)]))
 

@@ -900,8 +900,9 @@ class Looks(PageCase):
         self.assertTrue(tab.until('View.soft.level === 1', 300))
         tab.settle()
         self.assertLess(light((5, 3.6, 2)), light((5, .6, 2)) - 25)
+        tab.value('window.least = 1; setInterval(() => { window.least = Math.min(window.least, View.soft.level); }, 5)')
         still, _ = light((5, .6, 2)), tab.press('ArrowLeft')
-        self.assertTrue(tab.until('View.soft.level === 0', 300))
+        self.assertTrue(tab.until('window.least === 0', 300))
         self.assertLess(abs(light((5, .6, 2)) - still), 25)
 
     def test_lengths_are_millimetres(self):
@@ -1199,6 +1200,7 @@ class Speed(PageCase):
             WebGLRenderingContext.prototype[name] = function (...words) { window.uploads++; return old.apply(this, words); }; }"""
         tab = self.opened(page_of(blocks(6)), SMALL, 'numbers=none', before=counting)
         self.assertGreater(tab.value('uploads'), 0)
+        self.assertTrue(tab.until('View.soft.level === 1', 300))
         tab.value('var spots = 0; Object.defineProperty(View.scene, "spots", {get: (old => () => { spots++; return old; })(View.scene.spots)}); uploads = 0')
         tab.drag([(300, 200), (340, 220), (380, 240), (400, 220)])
         tab.settle()

@@ -2,11 +2,9 @@
 
 import random
 import subprocess
-import tempfile
 import unittest
-from pathlib import Path
 
-from support import REPOSITORY, box, lamina, listing, model_in, plate, program, run, scripts, turned
+from support import REPOSITORY, InFolder, box, lamina, listing, model_in, plate, program, run, scripts, turned
 
 from gwb.errors import Unfit
 from gwb.geometry.free_numbers import FreeNumbers
@@ -144,20 +142,11 @@ def _random_lines(rng):
                           f'mekr {edge:+d} {other:+d} {new}', f'ringmv {new - 1} {abs(other)} in', f'mfkrh {new - 1} {new}'))
 
 
-class Options(unittest.TestCase):
+class Options(InFolder):
     """The words of the command line."""
 
-    def setUp(self):
-        self.folder = tempfile.TemporaryDirectory()
-        self.addCleanup(self.folder.cleanup)
-
-    def file(self, text, name='listing'):
-        path = Path(self.folder.name, name)
-        path.write_bytes(text if isinstance(text, bytes) else text.encode())
-        return str(path)
-
     def points(self, *words):
-        path = self.file(listing([(1, 2, 3), (5, 2, 3), (5, 9, 3)], [[(1, 2, 3)], [(3, 2, 1)]]))
+        path = self.file('listing', listing([(1, 2, 3), (5, 2, 3), (5, 9, 3)], [[(1, 2, 3)], [(3, 2, 1)]]))
         outcome = run('script', *words, path)
         self.assertEqual((outcome.status, outcome.err), (0, ''))
         model = model_of(split_replies(listing_in(replies_to([*outcome.out.splitlines(), 'list'])).encode())[0])
@@ -175,39 +164,39 @@ class Options(unittest.TestCase):
         self.assertEqual(self.points('--mirror', '1', '0', '0', '0'), [(-1, 2, 3), (-5, 2, 3), (-5, 9, 3)])
         self.assertEqual(self.points('--mirror', '0', '2', '0', '-1'), [(1, -1, 3), (5, -1, 3), (5, -8, 3)])
         self.assertEqual(self.points('--mirror', '1', '-1', '0', '2'), [(0, 3, 3), (0, 7, 3), (7, 7, 3)])
-        path = self.file(listing(*box((0, 0, 0), (2, 3, 4))))
+        path = self.file('listing', listing(*box((0, 0, 0), (2, 3, 4))))
         lines = run('script', '--mirror', '0', '3', '-3', '-6', path).out.splitlines()
         self.assertEqual(replies_to([*lines, 'volume 1', 'count 1']), 'ok\n' * len(lines) + 'volume 144\ncount 8 12 6 0 2\n')
 
     def test_a_solid_left_out(self):
         points, faces = box((0, 0, 0), (1, 1, 1))
         more, others = box((5, 0, 0), (6, 1, 1), 9)
-        path = self.file(listing(points + more, faces, others))
+        path = self.file('listing', listing(points + more, faces, others))
         self.assertEqual(run('script', '--without', '1', path), run('script', '--solid', '2', path))
         self.assertEqual(run('script', '--without', '1', '--without', '2', path), ('', '', 0))
 
     def test_a_solid_taken_away(self):
         made = ['block 1 0 0 0 8 6 6', 'split 1 1 0 1 -12 2']
-        path = self.file(listing_in(replies_to([*made, 'list'])))
+        path = self.file('listing', listing_in(replies_to([*made, 'list'])))
         lines = run('script', '--solid', '2', '--away', path).out.splitlines()
         self.assertEqual(replies_to([*made, *lines, 'volume 1', 'volume 2']), 'ok\n' * (2 + len(lines)) + 'volume 1656\nrefused 2 2\n')
         self.assertEqual(replies_to([*made, *run('script', '--away', path).out.splitlines(), 'list']).splitlines()[-1], 'empty')
 
     def test_a_copy_beside(self):
-        path = self.file(listing_in(replies_to(['block 1 0 0 0 4 4 4', 'list'])))
+        path = self.file('listing', listing_in(replies_to(['block 1 0 0 0 4 4 4', 'list'])))
         self.assertEqual(run('script', '--short', '--copy', '--move', '9', '0', '0', path).out, 'block 2 9 0 0 4 4 4\n')
         self.assertEqual(run('script', '--copy', '--turn', 'z', path), run('script', '--after', path, '--turn', 'z', path))
 
     def test_one_solid(self):
         points, faces = box((0, 0, 0), (1, 1, 1))
         more, others = box((5, 0, 0), (6, 1, 1), 9)
-        outcome = run('script', '--solid', '2', self.file(listing(points + more, faces, others)))
+        outcome = run('script', '--solid', '2', self.file('listing', listing(points + more, faces, others)))
         text = listing_in(replies_to([*outcome.out.splitlines(), 'list']))
         self.assertTrue(text.startswith('solid 2\nface 7 2 7\n'))
         self.assertEqual(text.count('vertex'), 8)
 
     def test_after_another_model(self):
-        path = self.file(listing_in(replies_to(['block 1 0 0 0 4 4 4', 'list'])))
+        path = self.file('listing', listing_in(replies_to(['block 1 0 0 0 4 4 4', 'list'])))
         outcome = run('script', '--short', '--move', '9', '0', '0', '--after', path, path)
         self.assertEqual(outcome.out, 'block 2 9 0 0 4 4 4\n')
         lines = run('script', '--after', path, path).out.splitlines()
@@ -217,7 +206,7 @@ class Options(unittest.TestCase):
     def test_short(self):
         for lines in (['block 1 1 2 3 4 5 6'], ['block 2 0 0 0 1 1 1', 'block 1 3 0 0 1 1 1'],
                       ['lamina 1 0 0 0 3 0 0 0 3 0', 'sweep 1 0 0 2', 'sweep 1 1 1 5'], ['lamina 7 0 0 0 3 0 0 0 3 1']):
-            outcome = run('script', '--short', self.file(replies_to([*lines, 'list'])[3 * len(lines):]))
+            outcome = run('script', '--short', self.file('listing', replies_to([*lines, 'list'])[3 * len(lines):]))
             self.assertEqual(outcome.out.splitlines(), lines)
 
     def refuse(self, status, part, *words):
@@ -229,7 +218,7 @@ class Options(unittest.TestCase):
             self.assertEqual(outcome.err.count('\n'), 1)
 
     def test_words_that_are_refused(self):
-        path = self.file(listing(*box((0, 0, 0), (4, 4, 4))))
+        path = self.file('listing', listing(*box((0, 0, 0), (4, 4, 4))))
         self.refuse(3, 'past 1,000,000,000', '--move', '999999999', '0', '0', path)
         self.refuse(3, 'past 1,000,000,000', '--scale', '300000000', path)
         self.refuse(3, 'no solid 5', '--solid', '5', path)
@@ -251,7 +240,7 @@ class Options(unittest.TestCase):
                      good.replace('+1', '-1', 1), good.replace('vertex 8', 'vertex 9'), good.replace('face 2', 'face 1'),
                      good.replace('4 4 4', '4 4 1000000001'), good.replace('loop 6', 'loop six'), good + good[20:], bytes(range(256)),
                      good.replace('vertex 1 0 0 0\n', '')):
-            self.refuse(3, 'gwb-script: ', self.file(data))
+            self.refuse(3, 'gwb-script: ', self.file('listing', data))
 
 
 if __name__ == '__main__':

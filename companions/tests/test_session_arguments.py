@@ -54,6 +54,7 @@ CASES = {
     'sweep': ({'face': 1, 'vector': Q}, {'face': NUMBER, 'vector': POINT}),
     'glue': ({'face': 1, 'other': 2}, {'face': NUMBER, 'other': NUMBER}),
     'split': ({'solid': 1, 'plane': (1, 0, 0, 0)}, {'solid': NUMBER, 'plane': PLANE, 'above': GIVEN, 'refine': FLAG, 'scale': (True, False)}),
+    'became': ({}, {'label': FLAG}),
     'undo': ({}, {'command': FLAG}),
     'redo': ({}, {'command': FLAG}),
     'plane': ({'face': 1}, {'face': NUMBER}),

@@ -9,7 +9,7 @@ from fractions import Fraction
 from pathlib import Path
 from random import Random
 
-from support import library, step_of
+from support import folder_of, library, step_of
 from voxel_parts import AXES, World, cells_of, squares_of
 
 from gwb import Refused, Workbench
@@ -391,9 +391,7 @@ class NothingCut(Stepwise):
 
     def setUp(self):
         super().setUp()
-        folder = tempfile.TemporaryDirectory()
-        self.addCleanup(folder.cleanup)
-        self.folder = Path(folder.name)
+        self.folder = folder_of(self)
 
 
 class LabelledStep(Stepwise):

@@ -7,6 +7,7 @@ import os
 import signal
 import sys
 import threading
+import time
 import unittest
 import weakref
 from contextvars import copy_context
@@ -401,6 +402,15 @@ class Forked(unittest.TestCase):
             self.assertEqual(bench.volume(bench.block((9, 0, 0), (1, 1, 1))), 1)
 
 
+def copied_in(bench):
+    """How many seconds a copy of solid 1 takes, which is undone."""
+    began = time.perf_counter()
+    bench.copy(1, move=(0, 0, 100))
+    took = time.perf_counter() - began
+    bench.undo()
+    return took
+
+
 class Features(unittest.TestCase):
     """A feature or a group that an exception leaves."""
 
@@ -426,11 +436,12 @@ class Features(unittest.TestCase):
             for x in range(0, 400, 20):
                 for y in range(0, 400, 20):
                     bench.pocket(top, [(x + 5, y + 5, 20), (x + 15, y + 5, 20), (x + 15, y + 15, 20), (x + 5, y + 15, 20)], 3)
+            took = min(copied_in(bench) for _ in range(5))
             bench.undo()
             script, model = bench.script(), bench.listing()
             before = signal.signal(signal.SIGALRM, signal.default_int_handler)
             try:
-                signal.setitimer(signal.ITIMER_REAL, 0.01)
+                signal.setitimer(signal.ITIMER_REAL, took / 3)
                 with self.assertRaises(KeyboardInterrupt):
                     bench.copy(1, move=(0, 0, 100))
             finally:

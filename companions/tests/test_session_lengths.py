@@ -255,11 +255,12 @@ class RandomPrograms(unittest.TestCase):
         def spot():
             return at(*(random.randrange(-12, 13) for _ in range(3)))
         solids, faces, edges = bench.solids(), bench.faces(), bench.edges()
-        word = random.choice(['block', 'profile', 'move', 'copy', 'turn', 'cut', 'drill', 'pocket', 'chamfer', 'slot', 'union', 'mirror', 'pattern', 'sketch'])
+        word = random.choice(['block', 'profile', 'move', 'copy', 'turn', 'cut', 'drill', 'pocket', 'chamfer', 'slot', 'union', 'mirror', 'pattern', 'sketch',
+                              'boss', 'notch', 'trim', 'subtract', 'intersect', 'swing'])
         if word == 'block' or len(solids) < 2:
             bench.block(spot(), at(*(random.randrange(3, 9) for _ in range(3))))
             return
-        solid, face, edge = random.choice(solids), random.choice(faces), random.choice(edges)
+        (solid, other), face, edge = random.sample(list(solids), 2), random.choice(faces), random.choice(edges)
         depth, (x, y, z) = random.randrange(1, 4) * times, face.points[0]
         middle = tuple(sum(parts) // len(face.points) // times * times for parts in zip(*face.points))
         near = [tuple((3 * part + other) // 4 // times * times for part, other in zip(middle, point)) for point in face.points]
@@ -272,6 +273,9 @@ class RandomPrograms(unittest.TestCase):
          'pocket': lambda: bench.pocket(face, near, depth), 'chamfer': lambda: bench.chamfer(edge, size * times),
          'slot': lambda: bench.slot(face, middle, (x, y, z), 2 * times, depth), 'union': lambda: bench.union(list(solids)),
          'mirror': lambda: bench.mirror(solid, (1, 0, 0, far)), 'pattern': lambda: bench.pattern(solid, 2, at(40, 0, 0)),
+         'boss': lambda: bench.boss(face, near, depth), 'notch': lambda: bench.notch(face, near, depth), 'trim': lambda: bench.trim(solid, (*plane, far)),
+         'subtract': lambda: bench.subtract(solid, [other]), 'intersect': lambda: bench.intersect([solid, other]),
+         'swing': lambda: bench.turn(solid, 'z', to=(4, 3), about=way),
          'sketch': lambda: bench.ring(face, bench.sketch(face).rectangle(at(1, 1), at(1, 2)))}[word]()
 
 

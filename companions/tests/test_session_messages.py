@@ -10,7 +10,7 @@ from support import library
 
 from gwb import Faulted, Impossible, MemoryRefused, Refused, Unfit, Workbench
 from gwb.protocol.complaints import memory_refused
-from gwb.protocol.refusals import ADVICE, CAUSES, MISFITS, TEXTS
+from gwb.refusals import ADVICE, CAUSES, MISFITS, TEXTS
 from gwb.protocol.word_advice import IN_PYTHON
 
 

@@ -16,14 +16,14 @@ from contextlib import redirect_stdout
 from pathlib import Path
 from unittest import mock
 
-from support import COMPANIONS, REPOSITORY, box, listing, model_in, program, run
+from support import COMPANIONS, REPOSITORY, box, folder_of, listing, model_in, program, run
 
 from gwb.programs.shell import Shell, choices, program_help
 from gwb.protocol.command_rows import COMMAND_ROWS
 from gwb.protocol.language import COMMANDS
 
 BLOCK = model_in(listing(*box((0, 0, 0), (4, 4, 4))))
-TIME = 10
+TIME = 120
 
 
 class Terminal:
@@ -86,9 +86,7 @@ class AtATerminal(unittest.TestCase):
 
     def setUp(self):
         program()
-        folder = tempfile.TemporaryDirectory()
-        self.addCleanup(folder.cleanup)
-        self.folder = folder.name
+        self.folder = str(folder_of(self))
 
     def test_replies_and_refusals(self):
         terminal = Terminal(self.folder)

@@ -1,11 +1,9 @@
 """STEP as it is read: units, placements, names, colours, and what isn't understood."""
 
 import re
-import tempfile
 import unittest
-from pathlib import Path
 
-from support import STORED, box, listing, model_in, run
+from support import STORED, InFolder, box, listing, model_in, run
 
 from gwb.errors import CompanionError
 from gwb.formats.appearance import Appearance
@@ -59,17 +57,11 @@ def assembled(*places, text=None):
     return with_lines(text, *lines)
 
 
-class Reads(unittest.TestCase):
+class Reads(InFolder):
     """What the tests share."""
 
-    def setUp(self):
-        self.folder = tempfile.TemporaryDirectory()
-        self.addCleanup(self.folder.cleanup)
-
     def read(self, text, **words):
-        path = Path(self.folder.name, 'part.step')
-        path.write_text(text)
-        return read_file(str(path), **words)
+        return read_file(self.file('part.step', text), **words)
 
     def boxes(self, text, **words):
         """The box of each solid."""
@@ -214,7 +206,7 @@ class Looks(Reads):
         self.assertEqual(found, {('solid', 1): Appearance('Lid'), ('face', 1): Appearance('', (255, 128, 0))})
 
     def test_they_are_comments_of_the_script(self):
-        path = Path(self.folder.name, 'part.step')
+        path = self.folder / 'part.step'
         path.write_text(self.styled(entity(block(), 'MANIFOLD_SOLID_BREP'), block()))
         outcome = run('import', str(path))
         self.assertEqual((outcome.status, outcome.out.splitlines()[0]), (0, '# solid 1 name "Lid" colour #FF8000'))
@@ -266,7 +258,7 @@ class Refused(Reads):
         self.assertEqual([six_volume(found.model, found.model.faces_of(solid)) for solid in found.model.solids], [6 * 7 * 8 * 9])
         self.assertEqual(found.wrong, ['1 GEOMETRIC_CURVE_SET (#900) is left out: it is no solid',
                                        f'solid {first} (Lid) is left out: 1 face is curved: {face} CONICAL_SURFACE'])
-        path = Path(self.folder.name, 'part.step')
+        path = self.folder / 'part.step'
         path.write_text(text)
         outcome = run('import', '--flat', str(path))
         self.assertEqual((outcome.status, outcome.err.splitlines()), (1, [f'gwb-import: warning: {wrong}' for wrong in found.wrong]))

@@ -2,9 +2,10 @@
 
 from fractions import Fraction
 from math import gcd
-from typing import Iterator, List, NamedTuple, Tuple
+from typing import Container, Iterator, List, NamedTuple, Tuple
 
 from ..errors import CompanionError
+from ..meanings import NUMBERS, refusal
 from .flat_face import ExactVector
 from .model import Model
 from .vectors import Vector, ZERO, dot
@@ -36,10 +37,16 @@ class Crossing(NamedTuple):
         return all(part.denominator == 1 for part in self.point)
 
 
-def require_plane(plane: Plane) -> None:
+def require_part(parts: Container[int], kind: str, number: int) -> None:
+    """Raises NoPart where the solid, face or edge isn't one of those."""
+    if number not in parts:
+        raise NoPart(refusal(NUMBERS[f'No{kind.capitalize()}'], number).text)
+
+
+def require_plane(plane: Plane, name: str = 'plane') -> None:
     """Raises ValueError where a, b and c are all zero."""
     if plane[:3] == ZERO:
-        raise ValueError('plane: a, b and c are all zero')
+        raise ValueError(f'{name}: {refusal(NUMBERS["PlaneRange"], 0).text}')
 
 
 def height(plane: Plane, point: Vector) -> int:
@@ -56,8 +63,7 @@ def without_common_factor(plane: Plane) -> Plane:
 
 def edges_of(model: Model, solid: int) -> List[int]:
     """The edges of the solid, rising. Raises NoPart."""
-    if solid not in model.solids:
-        raise NoPart(f'there is no solid {solid}')
+    require_part(model.solids, 'solid', solid)
     return sorted({abs(half) for face in model.faces_of(solid) for half in model.face_halves(face)})
 
 

@@ -12,6 +12,7 @@ from fractions import Fraction
 from math import lcm
 from typing import Iterable, Iterator, List, Optional, Tuple
 
+from ..refusals import OF_CUTS
 from .crossings import Crossing, Plane, crossings
 from .model import Model
 from .moved import FARTHEST
@@ -53,24 +54,24 @@ class OffLatticeCut:
 
     def _places(self) -> Iterator[str]:
         for crossing in self.off_lattice:
-            yield f'# edge {crossing.edge} is cut at {" ".join(map(str, crossing.point))}'
+            yield _said('CutAt', crossing.edge, ' '.join(map(str, crossing.point)))
 
     def _scaled(self, above: int) -> Iterator[str]:
         if not self.fits:
-            yield f'# times {self.factor} all points are whole, but the model would lie past 1,000,000,000'
+            yield _said('PastRange', self.factor)
         elif self.factor > 1 and self.scaled_plane == self.plane:
-            yield f'# times {self.factor} (gwb-script --scale {self.factor}) all points are whole, by the same line'
+            yield f'{_said("Scaled", self.factor)}, by the same line'
         elif self.factor > 1:
-            yield f'# times {self.factor} (gwb-script --scale {self.factor}) all points are whole:'
+            yield f'{_said("Scaled", self.factor)}:'
             yield self._split(self.scaled_plane, above)
 
     def _near(self, above: int) -> Iterator[str]:
         if self.parallel is None and self.factor > 1:
-            yield '# no parallel plane cuts at whole points'
+            yield _said('NoParallel')
         elif self.parallel is not None and not self._is_near(self.parallel):
             yield f'# a parallel plane that cuts at whole points moves the cut by at least {_decimal(self.parallel)} along an edge'
         for near in filter(self._is_near, (*([] if self.parallel is None else [self.parallel]), *self.tilted)):
-            yield f'# {"parallel" if near.is_parallel else "tilted"}, the cut moves by at most {_decimal(near)} along an edge:'
+            yield f'{_said("Moved", "parallel" if near.is_parallel else "tilted", _decimal(near))}:'
             yield self._split(near.plane, above)
 
     def _is_near(self, near: NearPlane) -> bool:
@@ -79,6 +80,11 @@ class OffLatticeCut:
 
     def _split(self, plane: Plane, above: int) -> str:
         return ' '.join(map(str, ('split', self.solid, *plane, above)))
+
+
+def _said(name: str, value: object = '', other: object = '') -> str:
+    """A comment, with its values."""
+    return f'# {OF_CUTS[name]}'.replace('X', str(value)).replace('Y', str(other))
 
 
 def _decimal(near: NearPlane) -> str:

@@ -3,6 +3,7 @@
 from typing import Iterable, Optional, Sequence
 
 from ..errors import Unfit
+from ..meanings import NUMBERS, refusal
 from .model import Model
 from .vectors import Vector, ZERO, cross, dot, total
 
@@ -61,7 +62,7 @@ def why_unfit(model: Model, face: int) -> Optional[str]:
         return f'face {face} has no area'
     vertex = off_plane(model, face, across)
     if vertex is not None:
-        return f"face {face} isn't flat: vertex {vertex} lies off its plane"
+        return f'{refusal(NUMBERS["NotFlat"], face).text}: vertex {vertex} lies off its plane'
     for half in model.face_halves(face):
         if model.point(half) == model.point(-half):
             return f'edge {abs(half)} of face {face} has no length'

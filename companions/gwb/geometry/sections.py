@@ -9,7 +9,7 @@ from fractions import Fraction
 from typing import Callable, Dict, Iterator, List, Tuple
 
 from ..errors import Unfit
-from .crossings import NoPart, Plane, height, require_plane
+from .crossings import Plane, height, require_part, require_plane
 from .flat_face import ExactVector
 from .measures import normal, why_unfit
 from .model import Model
@@ -26,8 +26,7 @@ def section(model: Model, solid: int, plane: Plane) -> List[Polygon]:
     where a face isn't plain and flat.
     """
     require_plane(plane)
-    if solid not in model.solids:
-        raise NoPart(f'there is no solid {solid}')
+    require_part(model.solids, 'solid', solid)
     following: Dict[int, int] = {}
     for face in model.faces_of(solid):
         why = why_unfit(model, face)

@@ -12,7 +12,7 @@ from typing import Dict, Iterator, List, Optional, Tuple, Union
 
 from ..errors import Unfit
 from .box_index import box_of
-from .crossings import NoPart
+from .crossings import require_part
 from .flat_face import ExactVector
 from .measures import anchor, normal, six_volume, why_unfit
 from .model import Model
@@ -118,8 +118,7 @@ def surface_area(model: Model, solid: int) -> float:
 
 def square_length(model: Model, edge: int) -> int:
     """The square of the length of an edge. Raises NoPart."""
-    if edge not in model.edges:
-        raise NoPart(f'there is no edge {edge}')
+    require_part(model.edges, 'edge', edge)
     along = subtract(model.point(-edge), model.point(edge))
     return dot(along, along)
 
@@ -161,14 +160,12 @@ def _root(square: Fraction) -> float:
 
 
 def _faces(model: Model, solid: int) -> List[int]:
-    if solid not in model.solids:
-        raise NoPart(f'there is no solid {solid}')
+    require_part(model.solids, 'solid', solid)
     return model.faces_of(solid)
 
 
 def _require_plain(model: Model, face: int) -> None:
-    if face not in model.faces:
-        raise NoPart(f'there is no face {face}')
+    require_part(model.faces, 'face', face)
     why = why_unfit(model, face)
     if why is not None:
         raise Unfit(why)

@@ -3,7 +3,7 @@
 from typing import Optional, Sequence
 
 from ..drawing.dxf import drawing_dxf, face_dxf, section_dxf
-from ..errors import CompanionError
+from ..geometry.crossings import require_part
 from .command_line import OK, listing_parser, run
 from .given import filled
 from .inside_out import warn_of_inside_out
@@ -33,8 +33,7 @@ def work(words: Optional[Sequence[str]]) -> int:
         a, b, c, d = options.section
         text = section_dxf(model, (a, b, c, d), said)
     elif options.face is not None:
-        if options.face not in model.faces:
-            raise CompanionError(f'there is no face {options.face}')
+        require_part(model.faces, 'face', options.face)
         text = face_dxf(model, options.face, said)
     else:
         x, y, z = options.view

@@ -7,7 +7,8 @@ from typing import Iterable, Iterator, List, NamedTuple, Optional, Sequence
 from ..errors import CompanionError, NotAListing, NotReplies
 from ..geometry.model import Model
 from ..protocol.advice import advice
-from ..protocol.language import fault, first_word, is_answered, refusal
+from ..meanings import refusal
+from ..protocol.language import fault, first_word, is_answered
 from ..protocol.listing import model_of
 from ..protocol.replies import Reply, shortened, split_replies
 from .command_line import FOUND, OK, add_version, read_bytes, run

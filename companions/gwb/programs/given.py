@@ -12,6 +12,7 @@ from ..formats.forms import FORMS, READ, titles
 from ..formats.importing import fitting
 from ..formats.parts import NotAMesh
 from ..formats.polygon_files import form_of, told_unread
+from ..geometry.crossings import require_part
 from ..geometry.model import Model
 from ..protocol.language import COMMANDS, first_answered, first_word
 from ..protocol.listing import read_listed
@@ -93,8 +94,7 @@ def wanted(options: argparse.Namespace) -> Given:
             raise CompanionError(f'--unit goes with replies of gwb, and this is {told_kind(found.kind)}, which says its own')
         found = found._replace(said=found.said._replace(unit=Fraction(unit)))
     if options.solid is not None:
-        if options.solid not in found.model.solids:
-            raise CompanionError(f'there is no solid {options.solid}')
+        require_part(found.model.solids, 'solid', options.solid)
         found = found._replace(model=found.model.only(options.solid))
     found.tell(options.program)
     return found

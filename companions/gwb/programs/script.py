@@ -5,7 +5,7 @@ import re
 import sys
 from typing import Any, Callable, Dict, List, Optional, Sequence
 
-from ..errors import CompanionError
+from ..geometry.crossings import require_part
 from ..geometry.free_numbers import renumbered_after
 from ..geometry.joined_models import without
 from ..geometry.model import Model
@@ -91,8 +91,7 @@ def _with_times(words: Sequence[str]) -> List[str]:
 def _chosen(held: Model, options: argparse.Namespace) -> Model:
     """The solids that are wanted of those that were read."""
     for solid in (*options.without, *([] if options.solid is None else [options.solid])):
-        if solid not in held.solids:
-            raise CompanionError(f'there is no solid {solid}')
+        require_part(held.solids, 'solid', solid)
     model = held if options.solid is None else held.only(options.solid)
     return without(model, options.without) if options.without else model
 

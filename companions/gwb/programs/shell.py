@@ -18,9 +18,10 @@ from ..geometry.free_numbers import greatest_of, numbers_of
 from ..geometry.model import Model
 from ..protocol.advice import advice
 from ..protocol.command_rows import COMMAND_ROWS
-from ..protocol.language import COMMANDS, NUMBERS, condition_text, first_word, is_answered, is_comment
+from ..meanings import NUMBERS
+from ..protocol.language import COMMANDS, condition_text, first_word, is_answered, is_comment
 from ..protocol.listing import model_of
-from ..protocol.refusals import NAMES
+from ..refusals import NAMES
 from ..protocol.replies import Reply
 from .command_line import FOUND, OK, add_version, read_bytes, run
 from .explain import Answered, complaints, meaning

@@ -8,7 +8,7 @@ from ..geometry.lattice_cuts import off_lattice_cut
 from ..geometry.matching_faces import glue_advice
 from ..geometry.model import Model
 from .language import first_word
-from .refusals import NAMES
+from ..refusals import NAMES
 from .replies import Reply, shortened
 from .word_advice import word_advice
 

@@ -3,7 +3,8 @@
 from typing import TypeVar
 
 from ..errors import Complaint, Faulted, MemoryRefused, Refused
-from .language import fault, first_word, refusal
+from ..meanings import refusal
+from .language import fault, first_word
 from .replies import Reply
 
 Said = TypeVar('Said', bound=Complaint)

@@ -1,14 +1,12 @@
-"""The script language: which lines are commands, and what refusals and faults mean (docs/SCRIPT.md)."""
+"""The script language: which lines are commands, and what faults mean (docs/SCRIPT.md)."""
 
-import re
-from typing import Dict, NamedTuple
+from typing import Dict
 
-from . import refusals
-from .refusals import NAMES, OTHERWISE, REMEDIES, TEXTS
+from .. import refusals
+from ..meanings import Meaning
+from ..refusals import OTHERWISE, REMEDIES, TEXTS
 
 LINE_LIMIT = 65_536
-# The numbers of refusals by their names.
-NUMBERS: Dict[str, int] = {name: number for number, name in NAMES.items()}
 
 COMMANDS = ('mvfs', 'kvfs', 'mev', 'kev', 'mef', 'kef', 'kemr', 'mekr', 'kfmrh', 'mfkrh', 'ringmv', 'lamina', 'block', 'sweep', 'glue',
             'split', 'plane', 'volume', 'count', 'undo', 'redo', 'list')
@@ -20,38 +18,12 @@ _LONGEST_WORD = 20
 _TELLING = 1000
 
 
-class Meaning(NamedTuple):
-    """The name of a complaint, and what it says in words."""
-
-    name: str
-    text: str
-
-    def __str__(self) -> str:
-        return f'{self.name}: {self.text}'
-
-
 FAULTS: Dict[int, Meaning] = {number: Meaning(*fault) for number, fault in refusals.FAULTS.items()}
-
-
-def with_value(text: str, value: int, met: int = 0) -> str:
-    """A text with the value in the place of its X, and the number of what was met in that of its Y. In brackets they count from 0."""
-    for letter, number in (('X', value), ('Y', met)):
-        text = re.sub(rf'\b{letter}\b', str(number), text.replace(f'[{letter}]', f'[{number - 1}]'))
-    return text
 
 
 def condition_text(number: int) -> str:
     """What a refusal with this number says, with X for its value, and what would do."""
     return '; '.join([TEXTS[number], *([REMEDIES[number]] if number in REMEDIES else [])])
-
-
-def refusal(number: int, value: int, command: str = '') -> Meaning:
-    """What `refused number value` says as the reply to a command with this first word, or of a `feature`."""
-    if number not in NAMES:
-        return Meaning(f'refusal {number}', f'unknown to these programs, with the value {value}')
-    name = NAMES[number]
-    text = OTHERWISE.get((command, name)) or OTHERWISE.get((str(value), name)) or TEXTS[number]
-    return Meaning(name, with_value(text, value))
 
 
 def fault(number: int, line: str) -> Meaning:

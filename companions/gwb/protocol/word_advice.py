@@ -18,7 +18,8 @@ _ELSEWHERE: Dict[str, str] = {
     'scale': f'{_SCRIPT} times a factor (--scale K)',
     **dict.fromkeys(('delete', 'remove', 'erase'), 'gwb-script --away writes the commands that take a solid away; in Python it is delete'),
     **{word: f'it is a method of Python: bench.{word}'
-       for word in ('hole', 'slot', 'notch', 'groove', 'pocket', 'boss', 'chamfer', 'shoulder', 'drill', 'trim', 'union', 'cut', 'profile', 'pattern', 'label')},
+       for word in ('hole', 'slot', 'notch', 'groove', 'pocket', 'boss', 'chamfer', 'shoulder', 'drill', 'trim', 'union', 'subtract', 'intersect',
+                    'cut', 'profile', 'pattern', 'label')},
     **dict.fromkeys(('cube', 'box'), 'block S x y z dx dy dz makes a box'),
     'extrude': 'sweep F dx dy dz moves a face and makes the sides',
     **dict.fromkeys(('fillet', 'round', 'sphere', 'cylinder', 'cone'), 'all faces are flat: nothing round is made'),

@@ -26,6 +26,7 @@ CutPlane, Ratio = _struct(a=LENGTH, b=LENGTH, c=LENGTH, d=LENGTH), _struct(numer
 _WORDS, _ROWS, _POINT, _PLANE, _RATIO, _MOTION, _PAIR = map(ctypes.POINTER, (WORD, LENGTH, Point, CutPlane, Ratio, Motion, Pair))
 HitRow = _struct(cause=WORD, kind=WORD, number=WORD, point=Wide * 3, scale=Wide)
 EdgeCut, NearPlane = _struct(edge=WORD, numerators=Wide * 3, denominators=Wide * 3), _struct(plane=CutPlane, is_parallel=ctypes.c_bool, moved=ctypes.c_double)
+BecameRow = _struct(kind=WORD, old=WORD, made=WORD, old_birth=ctypes.c_uint64, made_birth=ctypes.c_uint64)
 CrossingRow = _struct(first=WORD, second=WORD, point=Wide * 3, scale=Wide)
 FaceQuery = _struct(solid=WORD, plane=_PLANE, normal=_POINT, containing=_POINT, area=_RATIO)
 EdgeQuery = _struct(solid=WORD, between=WORD * 2, along=_POINT, length=_RATIO)
@@ -41,7 +42,8 @@ _CALLS: Dict[str, Tuple[Any, List[Any]]] = {
     **dict.fromkeys(('draft', 'commit', 'abandon', 'record'), (WORD, [])), 'back': (WORD, [SIZE]), 'recorded': (SIZE, []),
     'script': (SIZE, [SIZE, SIZE, _TEXT, SIZE]), 'greatest_number': (SIZE, [WORD]), 'stop_by': (None, [ADDRESS, ADDRESS]),
     'read_vertices': (SIZE, [ADDRESS, SIZE]), **dict.fromkeys(('read_half_edges', 'read_triangles'), (SIZE, [WORD, ADDRESS, SIZE])),
-    'made': (SIZE, [WORD, _WORDS, SIZE]), 'hit': (ctypes.c_bool, [ctypes.POINTER(HitRow)])}
+    'made': (SIZE, [WORD, _WORDS, SIZE]), 'hit': (ctypes.c_bool, [ctypes.POINTER(HitRow)]),
+    'became': (SIZE, [ctypes.POINTER(BecameRow), SIZE])}
 # What a command takes after the handle, as its line has it: numbers, then lengths; a half-edge twice its edge's number, and 1 more for its second one.
 _COMMANDS: Dict[str, List[Any]] = {
     **{word: [WORD] * words + [LENGTH] * lengths for words, lengths, listed in (

@@ -5,7 +5,7 @@ from itertools import islice
 from typing import List, Optional
 
 from ..protocol.complaints import refused
-from ..protocol.language import NUMBERS
+from ..meanings import NUMBERS
 from ..protocol.replies import Reply
 from . import arguments
 from .bench import Methods

@@ -20,6 +20,7 @@ from . import arguments
 from .bench import Methods, warn
 from .lengths import Length, exact, nearest
 from .reading import FacePart, Selection, SolidPart
+from .results import Became
 from .steps import Block
 
 
@@ -72,6 +73,22 @@ class Exporting(Methods):
         number = self._number('thing', thing, thing.kind)
         _there = thing.faces if isinstance(thing, SolidPart) else thing.solid
         self._kernel.notes.put(((thing.kind, number), None if look == Appearance() else look))
+
+    def became(self, *, label: bool = False) -> Became:
+        """What came of each face, edge and vertex that isn't as it was before the last command: of an edge others that run along it, of a vertex others at
+        its point, of a face others in its plane along its sides. What is as it was isn't there, and nothing is while a draft is open. With label=True what
+        came of a labelled face has its label, unless it has one.
+
+        >>> _ = bench.split(block, Plane(z=5))
+        >>> bench.became().faces
+        {3: (7,), 4: (8,), 5: (9,), 6: (10,)}
+        """
+        may_label, lines = arguments.flag('label', label), self._kernel.lines
+        found = Became(lines.became('face'), lines.became('edge'), lines.became('vertex'))
+        if may_label:
+            labels = self._kernel.notes.labels
+            self._label_alike('face', [(old, new) for old, parts in reversed([*found.faces.items()]) for new in parts if ('face', new) not in labels])
+        return found
 
     @property
     def step(self) -> Fraction:

@@ -13,8 +13,8 @@ from ..geometry.outlines import Impossible
 from ..geometry.plane_figures import Exact
 from ..geometry.vectors import ZERO, Vector, add, cross, dot, reduced, subtract, total
 from ..protocol.complaints import refused
-from ..protocol.language import NUMBERS, with_value
-from ..protocol.refusals import MISFITS
+from ..meanings import NUMBERS, with_value
+from ..refusals import MISFITS
 from . import arguments
 from .bench import Methods
 from .c_calls import FLOOR, WALLS, WORD, Pair, Point, rows, words

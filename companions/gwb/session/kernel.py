@@ -16,9 +16,10 @@ from ..geometry.outlines import Impossible
 from ..geometry.vectors import Vector
 from ..protocol.advice import advice
 from ..protocol.complaints import complaint, memory_refused, refused
-from ..protocol.language import NUMBERS, first_word, refusal, with_value
+from ..meanings import NUMBERS, refusal, with_value
+from ..protocol.language import first_word
 from ..protocol.listing import listing_lines
-from ..protocol.refusals import ADVICE, CAUSES, MISFITS
+from ..refusals import ADVICE, CAUSES, MISFITS
 from ..protocol.replies import Reply
 from .c_calls import (ADDRESS, IMPOSSIBLE, MEMORY, NO_CALL, OK, REFUSED, SIZE, WORD, CrossingRow, CutPlane, EdgeCut, HitRow, NearPlane, Pair, Refusal,
                       rows, whole)
@@ -350,8 +351,8 @@ class Kernel:
         if re.search(r'\bY\b', text) and not hit.number:    # (a factor past what can be said)
             text = MISFITS[name]
         error = Impossible(name, value, with_value(text, value, hit.number))
-        error.cause, told = cause, ADVICE.get(cause, '')
-        if told and f'{word}(' not in told:
+        error.cause, told = cause, ADVICE.get((word.replace('_along', ''), cause), ADVICE.get(('any', cause), ''))
+        if told:
             error.advised(lambda: [with_value(told, value, hit.number)])
         if hit.number and hit.kind < len(THINGS):
             error.hit = THINGS[hit.kind], hit.number

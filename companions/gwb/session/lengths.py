@@ -9,7 +9,7 @@ from numbers import Rational
 from typing import List, Optional, Sequence, Tuple, Type, Union
 
 from ..formats.exact_numbers import NotANumber, exact_or_ratio, told
-from ..geometry.crossings import without_common_factor
+from ..geometry.crossings import require_plane, without_common_factor
 from ..geometry.plane_figures import Exact
 from ..geometry.vectors import ZERO, Vector
 
@@ -194,8 +194,7 @@ class Lengths:
     def plane_across(self, name: str, value: object) -> Tuple[int, int, int, int]:
         """The same of a plane that has a normal."""
         found = self.plane(name, value)
-        if found[:3] == ZERO:
-            raise ValueError(f'{name}: a, b and c are all zero')
+        require_plane(found, name)
         return found
 
     def out(self, steps: Exact, power: int = 1) -> Exact:

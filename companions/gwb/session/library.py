@@ -5,7 +5,7 @@ import os
 import re
 from functools import partial
 from pathlib import Path
-from typing import Any, Callable, Iterable, Iterator, List, Optional, Sequence, Set, Tuple
+from typing import Any, Callable, Dict, Iterable, Iterator, List, Optional, Sequence, Set, Tuple
 from weakref import ReferenceType
 
 from ..errors import CompanionError, Ended, ProgramMissing
@@ -16,7 +16,7 @@ from ..protocol.complaints import complaint, memory_refused
 from ..protocol.language import command_bytes, first_word
 from ..protocol.replies import ACCEPTED, Reply, only_reply
 from ..version import VERSION
-from .c_calls import ADDRESS, FOUND, OK, PLANE, PROTOTYPES, SIZE, WORD, EdgeRow, FaceRow, Handle, Pair, PlaneRow, Point, Refusal, whole
+from .c_calls import ADDRESS, FOUND, OK, PLANE, PROTOTYPES, SIZE, WORD, BecameRow, EdgeRow, FaceRow, Handle, Pair, PlaneRow, Point, Refusal, whole
 
 _NO_TEXT = SIZE(-1).value
 _PLACES = {kind: place for place, kind in enumerate(KINDS)}
@@ -182,6 +182,19 @@ class Library:
         self.require_open()
         read, handle, row = self.library.fresh, self.handle, Pair()
         return [tuple(range(row.first, row.second + 1)) if read(handle, _PLACES[kind], row) == FOUND else () for kind in kinds]
+
+    def became(self, kind: str) -> Dict[int, Tuple[int, ...]]:
+        """What came of things of the kind by the last command, both rising. MemoryRefused is raised where there is none."""
+        self.require_open()
+        try:
+            rows = filled(BecameRow, lambda buffer, room: int(self.library.became(self.handle, buffer, room)))
+        except TextRefused:
+            raise memory_refused('became') from None
+        found: Dict[int, Tuple[int, ...]] = {}
+        for row in rows:
+            if row.kind == _PLACES[kind]:
+                found[row.old] = (*found.get(row.old, ()), row.made)
+        return found
 
     # What is recorded
 

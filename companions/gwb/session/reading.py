@@ -9,7 +9,7 @@ from ..errors import NotOne, Refused
 from ..geometry.solid_measures import root, square_area
 from ..geometry.plane_figures import Exact
 from ..geometry.vectors import Vector, reduced
-from ..protocol.language import NUMBERS
+from ..meanings import NUMBERS
 from .kernel import Kernel
 from .lengths import ExactPlace, Place, along_way, direction as whole_direction, place
 from .turns import TakesTurns

@@ -199,6 +199,14 @@ class Renumbered(NamedTuple):
     vertices: Dict[int, int]
 
 
+class Became(NamedTuple):
+    """What came of faces, edges and vertices, by the numbers of those: others, rising."""
+
+    faces: Dict[int, Numbers]
+    edges: Dict[int, Numbers]
+    vertices: Dict[int, Numbers]
+
+
 class Notch(NamedTuple):
     """What a notch, slot, groove or shoulder leaves: its floor, in as many faces as there are, none where it goes through, and its walls."""
 

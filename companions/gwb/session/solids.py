@@ -14,7 +14,7 @@ from ..geometry.outlines import Impossible
 from ..geometry.vectors import ZERO, negative
 from ..geometry.whole_turns import WholeTurn, nearest_turn, whole_turn
 from ..protocol.complaints import refused
-from ..protocol.language import NUMBERS
+from ..meanings import NUMBERS
 from ..protocol.replies import Reply
 from . import arguments
 from .bench import Methods, warn

@@ -4,7 +4,7 @@ const Occlusion = (() => {
   // How far what darkens may lie, in radii of the model, and how dark it may become.
   const REACH = .2, MOST = .6;
   const OVER = 'attribute vec2 corner; varying vec2 at; void main() { at = .5 + .5 * corner; gl_Position = vec4(corner, 0, 1); }';
-  // Looks to 14 places about each; which ones is another in each of 4 by 4 pixels, and these are mixed when it is laid over the picture.
+  // Looks to 14 places about each; which ones is another in each of 4 by 4 pixels, and these are mixed.
   const DARK = `precision highp float; uniform sampler2D nears, normals; uniform vec2 size; uniform float zoom;
 void main() { vec2 here = gl_FragCoord.xy; float near = texture2D(nears, here / size).r, sum = 0.;
 vec3 normal = 2. * texture2D(normals, here / size).rgb - 1.; vec2 cell = mod(floor(here), 4.); float turned = 4. * cell.x + cell.y;
@@ -13,10 +13,12 @@ vec2 there = clamp(floor(here + zoom * ${REACH} * far * vec2(cos(angle), sin(ang
 vec3 way = vec3((there - here) / zoom, (near - texture2D(nears, there / size).r) / .35) / ${REACH}; float square = dot(way, way);
 sum += max(0., dot(way, normal) - .04 * sqrt(square)) / (square + .02) * max(0., 1. - square * .3); }
 gl_FragColor = vec4(near < 1. ? min(${MOST}, sum * .055) : 0.); }`;
-  const LAID = `precision mediump float; varying vec2 at; uniform sampler2D dark; uniform vec2 size; uniform float alpha;
+  const MIXED = `precision mediump float; varying vec2 at; uniform sampler2D dark; uniform vec2 size;
 void main() { vec2 by = 1. / size, side = vec2(by.x, -by.y);
-float sum = texture2D(dark, at + by).r + texture2D(dark, at - by).r + texture2D(dark, at + side).r + texture2D(dark, at - side).r;
-gl_FragColor = vec4(.03, .05, .09, alpha * .25 * sum); }`;
+gl_FragColor = .25 * (texture2D(dark, at + by) + texture2D(dark, at - by) + texture2D(dark, at + side) + texture2D(dark, at - side)); }`;
+  // The picture is drawn anew at each click, so this looks to one place alone.
+  const LAID = `precision mediump float; varying vec2 at; uniform sampler2D dark; uniform float alpha;
+void main() { gl_FragColor = vec4(.03, .05, .09, alpha * texture2D(dark, at).r); }`;
 
   // A texture without content, and a frame to draw into.
   function textureOf(gl, [format, type], [width, height], filter) {
@@ -39,7 +41,7 @@ gl_FragColor = vec4(.03, .05, .09, alpha * .25 * sum); }`;
   // What darkens pictures, by programs that `program` makes; null where how near things are can't be kept.
   function on(gl, program) {
     if (!gl.getExtension('WEBGL_depth_texture')) return null;
-    const [dark, laid] = [DARK, LAID].map(text => program(gl, OVER, text)), square = gl.createBuffer();
+    const [dark, mixed, laid] = [DARK, MIXED, LAID].map(text => program(gl, OVER, text)), square = gl.createBuffer();
     let size = [0, 0], held = {};
     gl.bindBuffer(gl.ARRAY_BUFFER, square);
     gl.bufferData(gl.ARRAY_BUFFER, new Float32Array([-1, -1, 1, -1, -1, 1, 1, 1]), gl.STATIC_DRAW);
@@ -47,13 +49,14 @@ gl_FragColor = vec4(.03, .05, .09, alpha * .25 * sum); }`;
     // Makes the textures anew where the size is another.
     function measure(width, height) {
       if (width === size[0] && height === size[1]) return;
-      for (const name of ['normals', 'nears', 'darks']) gl.deleteTexture(held[name] || null);
-      for (const name of ['seen', 'darkened']) gl.deleteFramebuffer(held[name] || null);
+      for (const name of ['normals', 'nears', 'darks', 'mixes']) gl.deleteTexture(held[name] || null);
+      for (const name of ['seen', 'darkened', 'smoothed']) gl.deleteFramebuffer(held[name] || null);
       size = [width, height];
       const [bytes, depths] = [[gl.RGBA, gl.UNSIGNED_BYTE], [gl.DEPTH_COMPONENT, gl.UNSIGNED_INT]];
-      held = {normals: textureOf(gl, bytes, size, gl.NEAREST), nears: textureOf(gl, depths, size, gl.NEAREST), darks: textureOf(gl, bytes, size, gl.LINEAR)};
+      held = {nears: textureOf(gl, depths, size, gl.NEAREST), mixes: textureOf(gl, bytes, size, gl.LINEAR)};
+      for (const name of ['normals', 'darks']) held[name] = textureOf(gl, bytes, size, gl.NEAREST);
       held.seen = frameOf(gl, held.normals, held.nears);
-      held.darkened = frameOf(gl, held.darks, null);
+      [held.darkened, held.smoothed] = [held.darks, held.mixes].map(texture => frameOf(gl, texture, null));
     }
 
     // Draws the square with textures by their names.
@@ -86,6 +89,8 @@ gl_FragColor = vec4(.03, .05, .09, alpha * .25 * sum); }`;
       gl.useProgram(dark.made);
       gl.uniform1f(dark.at.zoom, zoom);
       over(dark, [['nears', held.nears], ['normals', held.normals]]);
+      gl.bindFramebuffer(gl.FRAMEBUFFER, held.smoothed);
+      over(mixed, [['dark', held.darks]]);
       gl.bindFramebuffer(gl.FRAMEBUFFER, null);
     }
 
@@ -94,7 +99,7 @@ gl_FragColor = vec4(.03, .05, .09, alpha * .25 * sum); }`;
       gl.enable(gl.BLEND);
       gl.useProgram(laid.made);
       gl.uniform1f(laid.at.alpha, alpha);
-      over(laid, [['dark', held.darks]]);
+      over(laid, [['dark', held.mixes]]);
     }
 
     return {reckon, lay};
