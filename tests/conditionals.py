@@ -10,7 +10,7 @@ from typing import Iterator
 
 from counts import TOP, command_line, told
 
-OWNING_NOTHING = ('Along', 'Axes', 'Failure', 'Place', 'Point', 'ScaledPoint', 'Side', 'Span', 'Spot', 'Strip', 'Vector', 'Wide', 'array',
+OWNING_NOTHING = ('Along', 'Axes', 'Failure', 'KnownPlane', 'Place', 'Point', 'ScaledPoint', 'Side', 'Span', 'Spot', 'Strip', 'Vector', 'Wide', 'array',
                   'gwb_near_plane')
 
 

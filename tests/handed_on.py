@@ -26,8 +26,8 @@ BESIDE = {'gwb_succeeded', 'gwb_kind_text', 'gwb_is_open', 'gwb_use_heap', 'gwb_
           'gwb_record', 'gwb_recorded', 'gwb_script', 'gwb_watch', 'gwb_watch_from', 'gwb_watch_to', 'gwb_compare', 'gwb_compare_from', 'gwb_compared',
           'gwb_compared_births', 'gwb_birth', 'gwb_became',
           'gwb_stop_by', 'gwb_greatest_number'}
-# Exports that gwb.h doesn't show, since calls.c alone gives them. The library exports none of them.
-HIDDEN = {'gwb_lack'}
+# Exports that gwb.h doesn't show, since calls.c or features.cpp alone gives them. The library exports none of them.
+HIDDEN = {'gwb_lack', 'gwb_lent_is_listing'}
 # C's name of each struct, and the names by which C and the crate call the same argument or field where they differ.
 STRUCTS = {'Refused': 'gwb_refusal', 'Counts': 'gwb_counts', 'Wide': 'gwb_wide', 'PlaneRow': 'gwb_plane', 'HalfEdgeRow': 'gwb_half_edge_row',
            'FaceRow': 'gwb_face_row', 'EdgeRow': 'gwb_edge_row', 'Place': 'gwb_point', 'Range': 'gwb_range'}
@@ -108,9 +108,10 @@ def agree(c: Tuple[Argument, ...], of_crate: Tuple[Argument, ...]) -> bool:
 
 
 def declared_by_calls(name: str) -> Optional[Function]:
-    """The declaration of an export in calls.c, under the kernel's name for it."""
-    found = re.search(rf'^(enum \w+|\w+) kernel_{name}\(([^)]*)\);', (BINDINGS / 'calls.c').read_text(), re.MULTILINE)
-    return Function(found.group(1), tuple(argument(it) for it in found.group(2).split(','))) if found else None
+    """The declaration of an export in calls.c: under the kernel's name for it, or as a reader."""
+    text = (BINDINGS / 'calls.c').read_text()
+    found = re.search(rf'^(?:(enum \w+) kernel_{name}|CALL\({name.removeprefix("gwb_")}, (\w+), )\(([^)]*)\)', text, re.MULTILINE)
+    return Function(found.group(1) or found.group(2), tuple(argument(it) for it in found.group(3).split(','))) if found else None
 
 
 def declarations(functions: Dict[str, Function], exports: Dict[str, Function]) -> Iterator[str]:
@@ -187,7 +188,7 @@ def renamed_exports() -> Set[str]:
 def stubs(functions: Dict[str, Function], exports: Dict[str, Function], called: Dict[str, str]) -> str:
     """The text of stubs.h."""
     renamed = renamed_exports()
-    shown = {**functions, **{name: exports[name] for name in HIDDEN}}
+    shown = {**functions, **{name: declared for name in HIDDEN if (declared := declared_by_calls(name))}}
     kernel = (stub(name, shown[name], renamed) for name in exports if name in shown and name != 'gwb_version')
     tries = (call_of(name, functions[name], export, exports[export].takes_memory) for name, export in called.items())
     all_tries = ''.join(f'    try_{name}(state, answers);\n' for name in called)
@@ -198,7 +199,7 @@ def complaints(text: str, folder: Path) -> List[str]:
     """What the stubs tell that is wrong."""
     (folder / 'stubs.h').write_text(text)
     program = str(folder / 'tried')
-    sources = [TOP / 'tests' / 'handed_on.c', *(BINDINGS / name for name in ('calls.c', 'record.c', 'watch.c', 'asked.c', 'births.c', 'seeing.c', 'history.c', 'became.c', 'bulk.c', 'heap.c'))]
+    sources = [TOP / 'tests' / 'handed_on.c', *(BINDINGS / name for name in ('calls.c', 'record.c', 'watch.c', 'asked.c', 'births.c', 'seeing.c', 'history.c', 'became.c', 'last.c', 'bulk.c', 'heap.c'))]
     build = ['cc', '-std=c11', '-O1', '-Werror=incompatible-pointer-types', '-DGWB_BLOCKS_ALONE', '-o', program,
              *(f'-I{at}' for at in (folder, BINDINGS, BINDINGS / 'include')), *map(str, sources)]
     for words in (build, [program]):

@@ -184,6 +184,8 @@ counted 'sessions watched and not' "$dir/built/library_watch"
 counted 'sessions watched and not, with each block alone' "$dir/alone/library_watch"
 built 'births are built' library_births.cpp "${CXX:-c++}" -std=c++17 -O1 -Wold-style-cast -Wshadow
 counted 'births beside whole copies' "$dir/built/library_births"
+built 'what came of what by the last command is built' library_became.c "${CC:-cc}" -std=gnu11 -O2
+counted 'what came of what by the last command' "$dir/built/library_became"
 built 'outlines and sizes are built' library_outlines.c "${CC:-cc}" -std=gnu11 -O2
 counted 'outlines and sizes of features' "$dir/built/library_outlines"
 built 'threads are built' library_threads.c "${CC:-cc}" -std=gnu11 -O2 -pthread
@@ -224,7 +226,7 @@ if has cargo 'cargo check where there is no archive' 'cargo doc where there is n
         --manifest-path bindings/rust/Cargo.toml
 fi
 # (each is a program that was built above)
-in_cpp='library_cpp library_results library_history library_features library_machining library_near library_booleans library_record library_watch library_births library_outlines library_heap library_load library_triangles'
+in_cpp='library_cpp library_results library_history library_features library_machining library_near library_booleans library_record library_watch library_births library_became library_outlines library_heap library_load library_triangles'
 threads='library_threads library_sharing library_pages'
 if has valgrind 'valgrind over the example in C' $in_cpp $threads 'one program of features'; then
     tried 'valgrind over the example in C' valgrind -q --error-exitcode=9 --leak-check=full --show-leak-kinds=all "$dir/alone/block_c"
@@ -251,7 +253,7 @@ echo 'int main(void) { return 0; }' > "$dir/empty.c"
 if "${CC:-cc}" $sanitizers -o "$dir/empty" "$dir/empty.c" 2> "$dir/err" && "$dir/empty"; then
     began=$(date +%s)
     tried 'the library is built with sanitizers' make -C bindings "ARCHIVE=$archive" "OUT=$dir/sanitized" "CFLAGS=$sanitizers" "CXXFLAGS=$sanitizers" "$dir/sanitized/libgwb.a"
-    for name in library_same_c library_features_refused library_record library_watch library_outlines library_heap library_load library_triangles library_threads library_pages library_worked; do
+    for name in library_same_c library_features_refused library_record library_watch library_became library_outlines library_heap library_load library_triangles library_threads library_pages library_worked; do
         sanitized "$name.c" "${CC:-cc}" -std=gnu11
     done
     for name in library_same_cpp library_cpp library_history library_features library_machining library_near library_booleans library_births library_sharing; do

@@ -228,12 +228,13 @@ static Solid solid_of(const Workbench &bench, const gwb_hit_row &hit)
     return Solid();
 }
 
-static void check_met(const Workbench &bench, const Failure &why, const std::vector<Solid> &solids, bool is_whole, const std::string &name)
+static void check_met(const Workbench &bench, const std::vector<Solid> &solids, bool is_whole, const std::string &name)
 {
-    const Met met(why.hit);
+    const gwb_hit_row hit = *bench.hit();
+    const Met met(hit);
     check(met.scale > 0 && met.is_whole() == is_whole, name + ": where it was");
-    check(met.scale > 0 && std::count(solids.begin(), solids.end(), solid_of(bench, why.hit)) == 1, name + ": what was met has the point");
-    outcomes["met " + std::string(why.hit.kind == GWB_VERTEX ? "a vertex" : why.hit.kind == GWB_EDGE ? "an edge" : "a face")]++;
+    check(met.scale > 0 && std::count(solids.begin(), solids.end(), solid_of(bench, hit)) == 1, name + ": what was met has the point");
+    outcomes["met " + std::string(hit.kind == GWB_VERTEX ? "a vertex" : hit.kind == GWB_EDGE ? "an edge" : "a face")]++;
 }
 
 // Whether cubes touch themselves near a point: at a corner of the cube that it lies in.
@@ -341,8 +342,9 @@ private:
         check((is_empty || meets) && why.value == solid_.number(), name + " is refused: " + why.name());
         check(bench_.listing() == before, name + " that is refused changes nothing");
         if (why.is(Misfit::meets)) {
-            check_met(bench_, why, solids, Met(why.hit).is_whole(), name);
-            check(touch_at(wanted, Met(why.hit)), name + ": what is made touches itself there");
+            const Met met(*bench_.hit());
+            check_met(bench_, solids, met.is_whole(), name);
+            check(touch_at(wanted, met), name + ": what is made touches itself there");
         }
         for (std::size_t at = 1; at < solids.size(); at++)
             kill_solid(bench_, solids[at]);
@@ -431,7 +433,7 @@ static void try_factors()
             const Result<Merger> made = combined(attempt, operation, {prism, block});
             check(!made && made.error().is(Misfit::off_lattice) && made.error().value == factor, std::string(made.error().name()) + ": the least factor");
             check(bench.listing() == before, "what is off the lattice changes nothing");
-            check_met(bench, made.error(), {prism, block}, false, "a corner off the lattice");
+            check_met(bench, {prism, block}, false, "a corner off the lattice");
             check(std::string(made.error().text()).find("X times") != std::string::npos, "by which factor");
             outcomes[made.error().name()]++;
         }
@@ -455,7 +457,7 @@ static void try_large_factors()
         const Solid block = bench.block({at, -1, -1}, {length, 80, 8});
         const Failure why = subtract(attempt, all, {block}).error();
         check(why.is(Misfit::off_lattice) && why.value == 0 && why.hit.cause == GWB_CAUSE_PAST_RANGE, "a factor that passes what can be said");
-        check_met(bench, why, {all, block}, false, "one of its corners");
+        check_met(bench, {all, block}, false, "one of its corners");
         outcomes["OffLattice by no number"]++;
     }
 }
@@ -473,7 +475,7 @@ static void try_met_faces()
         const Failure why = intersect(attempt, {block, one, other}).error();
         check(why.is(Misfit::off_lattice) && why.value == 2, std::string(why.name()) + ": half way between whole points");
         check(bench.listing() == before && why.hit.kind == GWB_FACE, "faces of three meet there");
-        check_met(bench, why, {block, one, other}, false, "where faces of three meet");
+        check_met(bench, {block, one, other}, false, "where faces of three meet");
     }
 }
 
@@ -490,7 +492,7 @@ static void try_met_vertices()
         for (Solid other : {beside, tip}) {
             const Failure why = unite(attempt, {block, other}).error();
             check(why.is(Misfit::meets) && why.hit.kind == GWB_VERTEX, std::string(why.name()) + ": a corner touches");
-            check_met(bench, why, {block, other}, true, "a corner");
+            check_met(bench, {block, other}, true, "a corner");
         }
         check(bench.listing() == before, "nothing has changed");
     }

@@ -2,6 +2,7 @@
 #include "checks.h"
 #include "gwb_export.hpp"
 #include <cstdlib>
+#include <filesystem>
 #include <fstream>
 #include <iostream>
 #include <sstream>
@@ -27,8 +28,8 @@ int main()
     const auto fault = [&](const std::string &path) { return try_export(bench, path).fault; };
     check(fault(base + "step") == ExportFault::refused && text_of(base + "step").empty(), "nothing is held");
     bench.block({0, 0, 0}, {4, 4, 4});
-    const std::pair<const char *, const char *> begins[] = {{"step", "ISO-10303-21;"}, {"STP", "ISO-10303-21;"}, {"3mf", "PK"}, {"stl", "solid"},
-                                                            {"obj", "v "},             {"off", "OFF"},           {"glb", "glTF"}};
+    const std::pair<const char *, const char *> begins[] = {{"step", "ISO-10303-21;"}, {"STP", "ISO-10303-21;"}, {"p21", "ISO-10303-21;"}, {"3mf", "PK"},
+                                                            {"stl", "solid"},          {"obj", "v "},            {"off", "OFF"},           {"glb", "glTF"}};
     for (const auto &[ending, first] : begins) {
         check(export_to(bench, base + ending).empty(), std::string("nothing to say: ") + ending);
         check(text_of(base + ending).rfind(first, 0) == 0, std::string("a file of the form ") + ending);
@@ -43,6 +44,7 @@ int main()
     check(export_to(bench, base + "stl").find("solids 1 and 2 touch") != std::string::npos, "a warning is told");
     const std::string before = text_of(base + "stl");
     check(fault(base + "xyz") == ExportFault::no_form && fault("part") == ExportFault::no_form, "no such form");
+    check(try_export(bench, "part").said.rfind("part: the endings are step stp ", 0) == 0, "the endings are told");
     check(fault(std::string(folder) + "/none/part.stl") == ExportFault::no_file, "no such folder");
     setenv("GWB_COMPANIONS", folder, 1);
     check(fault(base + "stl") == ExportFault::no_program && text_of(base + "stl") == before, "no such program, and the file is as it was");
@@ -53,8 +55,6 @@ int main()
         check(why.fault() == ExportFault::no_program && std::string(why.what()).rfind("NoProgram: ", 0) == 0, "why");
     }
     check(bench.depth() == 2, "nothing has changed");
-    for (const char *ending : {"step", "STP", "3mf", "stl", "obj", "off", "glb", "script"})
-        std::remove((base + ending).c_str());
-    std::remove(folder);
+    std::filesystem::remove_all(folder);
     return counted();
 }

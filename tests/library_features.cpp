@@ -145,62 +145,6 @@ static const Motion motions[] = {Motion(),
                                  Motion::mirror(2).then(Motion::move({0, 0, -1})),
                                  Motion::quarter_turns(2).then(Motion::mirror(1))};
 
-// Whether the triangles of a face have its edges and its area: the normals of all, as long as twice their areas, add up to that of the face.
-static bool are_whole(const Workbench &bench, Face face)
-{
-    const std::vector<Triangle> found = triangles(bench, face);
-    std::array<std::int64_t, 3> sum = {0, 0, 0};
-    for (auto [a, b, c] : found) {
-        const Point p = bench.vertex(a), q = bench.vertex(b), r = bench.vertex(c);
-        const std::array<std::int64_t, 3> u = {q.x - p.x, q.y - p.y, q.z - p.z}, v = {r.x - p.x, r.y - p.y, r.z - p.z};
-        for (std::size_t axis = 0; axis < 3; axis++)
-            sum[axis] += u[(axis + 1) % 3] * v[(axis + 2) % 3] - u[(axis + 2) % 3] * v[(axis + 1) % 3];
-    }
-    const gwb_plane plane = bench.plane(face);
-    std::size_t corners = 0, rings = 0;
-    for (Loop loop : bench.loops_of(face)) {
-        const std::size_t edges = bench.half_edges(loop).size();
-        corners += edges;
-        rings += edges != 0;
-    }
-    const bool is_wide = narrow(plane.a) == sum[0] && narrow(plane.b) == sum[1] && narrow(plane.c) == sum[2];
-    return is_wide && found.size() == corners + 2 * (rings - 1) - 2;
-}
-
-static void try_triangles(const std::string &name, Solid (*make)(Workbench &))
-{
-    for (const Motion &motion : motions) {
-        Workbench bench;
-        const Solid solid = copy_solid(bench, make(bench), motion);
-        for (Face face : bench.faces(solid))
-            check(are_whole(bench, face), name + ": the triangles of face " + std::to_string(face.number()));
-    }
-}
-
-// Faces of random outlines that are seen whole from one of their points, bent a third of the time.
-static void try_random_triangles()
-{
-    std::uint32_t state = 7;
-    const auto random = [&](std::uint32_t most) { return static_cast<std::int64_t>((state = state * 1664525 + 1013904223) >> 8) % most; };
-    for (int time = 0; time < 200; time++) {
-        const std::int64_t count = 3 + random(30), slope = random(5);
-        std::vector<Point> points;
-        for (std::int64_t x = 0; x < count; x++)
-            points.push_back({x * 10, -1 - random(50), 0});
-        for (std::int64_t x = count - 1; x >= 0; x--)
-            points.push_back({x * 10, 1 + random(50), 0});
-        for (Point &point : points)
-            point.z = slope * point.x + 3 * point.y + (time % 3 == 2 && &point == &points[2]);
-        Workbench bench;
-        bench.lamina(Solid(1), points);
-        for (Face face : bench.faces(Solid(1)))
-            if (time % 3 != 2)
-                check(are_whole(bench, face), "the triangles of a random face");
-            else
-                check(triangles(bench.attempt(), face).error().is(GWB_WHY_NOT_FLAT), "a face that is bent");
-    }
-}
-
 // In a draft they are steps of it, which a mark and the draft's end take back.
 static void try_drafts()
 {
@@ -379,6 +323,8 @@ static void try_no_triangles()
     bench.lamina(Solid(1), {{0, 0, 0}, {9, 9, 0}, {9, 0, 0}, {0, 9, 0}, {-5, 4, 0}});
     check(triangles(bench.attempt(), Face(1)).error().problem == Problem::crossed, "a face that crosses itself");
     check(triangles(bench.attempt(), Face(9)).error().is(GWB_WHY_NO_FACE), "no face");
+    bench.lamina(Solid(2), {{0, 0, 50}, {4, 0, 50}, {4, 4, 51}, {0, 4, 50}});
+    check(triangles(bench.attempt(), Face(3)).error().is(GWB_WHY_NOT_FLAT), "a face that is bent");
     try {
         (void)triangles(bench, Face(1));
         check(false, "a face that crosses itself has triangles");
@@ -645,11 +591,6 @@ int main()
         try_solid("a wire", wire);
         try_solid("two parts", parts);
         try_solid("a lone ring", lone_ring);
-        try_triangles("a pocket", pocket);
-        try_triangles("a hole", hole);
-        try_triangles("two holes", two_holes);
-        try_triangles("a lone ring", lone_ring);
-        try_random_triangles();
         try_all_triangles();
         try_once();
         try_loading("a pocket", pocket);

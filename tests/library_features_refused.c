@@ -1,52 +1,20 @@
 /* Each allocation of each feature refused in turn, and all from it on, in a session and in a draft with a mark: the answer is GWB_MEMORY, and the
- * model, the draft and the depth are as they were; given again the feature is made; nothing stays allocated when the session is closed. The last
- * line counts.
+ * model, the draft and the depth are as they were; given again the feature is made; nothing stays allocated when the session is closed. So it is where the
+ * caller ends it (gwb_stop_by), at each question in turn. The last line counts.
  *
  *     library_features_refused [EVERY]     of the allocations each, or each EVERYth where one is said, and a fifth of these with all after it; where EVERY
  *                                          is above 20, a fifth of these of what takes long: Booleans. Each of the sixteen ways in which a feature is
  *                                          made begins with another one, so that by EVERY 16 each is refused once */
 #include "gwb_features.h"
+#include "heaps.h"
 #include <stdio.h>
 #include <stdlib.h>
 #include <string.h>
 
-/* ---- a heap that refuses one request, or all from one on */
-
-static long until_refused = -1, live;
-static bool refuses_on, was_refused;
-
-static bool refuses(void)
-{
-    const bool is_refused = until_refused == 0;
-    if (until_refused > 0 || (is_refused && !refuses_on))
-        until_refused--;
-    was_refused = was_refused || is_refused;
-    return is_refused;
-}
-
-static void *take(void *user, size_t size)
-{
-    (void)user;
-    if (refuses())
-        return NULL;
-    live++;
-    return malloc(size);
-}
-
-static void *grow(void *user, void *block, size_t size)
-{
-    (void)user;
-    return refuses() ? NULL : realloc(block, size);
-}
-
-static void give_back(void *user, void *block)
-{
-    (void)user;
-    live -= block != NULL;
-    free(block);
-}
-
-static const gwb_heap refusing = {take, grow, give_back, NULL};
+/* what is asked of the heap, and whether all is refused from a request on */
+static struct requests asked;
+static bool refuses_on;
+static const gwb_heap refusing = {take, grow, give_back, &asked};
 
 /* ---- the features */
 
@@ -230,6 +198,13 @@ static enum gwb_kind compare(gwb *g)
     return kind == GWB_MEMORY && is_told ? GWB_NO_CALL : kind;
 }
 
+/* What came of what by the command before it. */
+static enum gwb_kind became(gwb *g)
+{
+    gwb_became_row none;
+    return gwb_became(g, &none, 0) == SIZE_MAX ? GWB_MEMORY : GWB_OK;
+}
+
 static const struct feature {
     const char *name;
     enum gwb_kind (*make)(gwb *g);
@@ -248,7 +223,8 @@ static const struct feature {
     {"intersect that meets a face", meet_face, block_and_walls},
     {"crossings", crossings_of_one, two_that_cross}, {"crossings of two", crossings_of_two, two_that_cross},
     {"separate", separate, two_apart}, {"join_faces", join_faces, two_glued}, {"renumber", renumber, NULL}, {"undo", undo, NULL},
-    {"redo", redo, NULL}, {"line", line, NULL}, {"compare", compare, NULL}
+    {"redo", redo, NULL}, {"line", line, NULL}, {"compare", compare, NULL},
+    {"became", became, two_glued}
 };
 
 /* ---- what must be as it was */
@@ -317,20 +293,43 @@ static bool try_refused(const struct feature *feature, int way, long nth)
     gwb g = {0};
     begin(&g, feature, way);
     look(&g, &before);
-    was_refused = false;
-    until_refused = nth;
+    refuse(&asked, nth + 1, refuses_on ? LONG_MAX : 1);
     enum gwb_kind kind = feature->make(&g);
-    until_refused = -1;
+    const bool was_refused = asked.made > nth;
+    refuse(&asked, 1, 0);
     check(kind == GWB_OK || (was_refused && kind == GWB_MEMORY), gwb_kind_text(kind), feature, way, nth); /* a request may be one for speed alone */
     if (kind == GWB_MEMORY) {
         check(is_same(&g, &before), "not as before", feature, way, nth);
         check(feature->make(&g) == GWB_OK, "not made when given again", feature, way, nth);
     }
-    const bool was_there = was_refused;
     gwb_close(&g);
-    check(live == 0, "leaks", feature, way, nth);
-    live = 0;
-    return was_there;
+    check(asked.live == 0, "leaks", feature, way, nth);
+    asked.live = 0;
+    return was_refused;
+}
+
+/* ---- work that its caller ends */
+
+static long left; /* so many questions whether to end are answered no */
+static bool is_over(void *user) { return (void)user, left-- == 0; }
+
+/* The feature ended at a question: whether there were so many. */
+static bool try_stopped(const struct feature *feature, int way, long nth)
+{
+    static struct seen before;
+    gwb g = {0};
+    begin(&g, feature, way);
+    look(&g, &before);
+    left = nth;
+    gwb_stop_by(&g, is_over, NULL);
+    const enum gwb_kind kind = feature->make(&g);
+    const bool was_stopped = left < 0;
+    gwb_stop_by(&g, NULL, NULL);
+    check(kind == (was_stopped ? GWB_STOPPED : GWB_OK), gwb_kind_text(kind), feature, way, nth);
+    check(!was_stopped || is_same(&g, &before), "not as before where it is ended", feature, way, nth);
+    check(!was_stopped || feature->make(&g) == GWB_OK, "not made when given again", feature, way, nth);
+    gwb_close(&g);
+    return was_stopped;
 }
 
 int main(int argc, char **argv)
@@ -343,6 +342,10 @@ int main(int argc, char **argv)
             for (long nth = way % WAYS * step / WAYS; try_refused(&features[at], way % WAYS, nth); nth += step)
                 ;
         }
+    for (size_t at = 0; at < sizeof features / sizeof features[0]; at++)
+        for (int way = 0; way < WAYS; way += every > 20 ? 5 : 1)
+            for (long nth = 0; try_stopped(&features[at], way, nth); nth++)
+                ;
     printf("%ld passed, %ld failed\n", passed, failed);
     return failed != 0;
 }

@@ -2,51 +2,25 @@
  * given back to it, also by calls that come while another heap is used, or from another thread; where a pool is full, memory is refused and
  * the session goes on, and a part is told its first false condition before. The last line is 'N passed, M failed'. */
 #include "checks.h"
-#include "gwb.h"
 #include "gwb_names.h"
+#include "heaps.h"
 #include <pthread.h>
 #include <stdio.h>
 #include <stdlib.h>
 #include <string.h>
 
-/* A heap over that of the C library that counts, and refuses from some request on. */
-struct pool {
-    long held, requests, most;
-};
-
-static bool may(struct pool *pool) { return pool->requests++ < pool->most; }
-
-static void *allocate(void *user, size_t size)
-{
-    struct pool *pool = user;
-    void *block = may(pool) ? malloc(size) : NULL;
-    pool->held += block != NULL;
-    return block;
-}
-
-static void *reallocate(void *user, void *block, size_t size) { return may(user) ? realloc(block, size) : NULL; }
-
-static void release(void *user, void *block)
-{
-    struct pool *pool = user;
-    pool->held--;
-    free(block);
-}
-
-static gwb_heap heap_of(struct pool *pool) { return (gwb_heap){allocate, reallocate, release, pool}; }
-
 static void try_two(void)
 {
-    struct pool first = {.most = 1000000}, second = {.most = 1000000};
+    struct requests first = {0}, second = {0};
     gwb_heap one = heap_of(&first), other = heap_of(&second);
     gwb g = {0}, h = {0}, plain = {0};
     check(gwb_use_heap(&one) == NULL && gwb_open(&g) && gwb_block(&g, 1, 0, 0, 0, 4, 4, 4) == GWB_OK, "a session in the first pool");
     check(gwb_use_heap(&other) == &one && gwb_open(&h) && gwb_block(&h, 1, 0, 0, 0, 4, 4, 4) == GWB_OK, "one in the second");
-    check(first.held > 0 && second.held > 0, "blocks in both");
+    check(first.live > 0 && second.live > 0, "blocks in both");
     check(gwb_use_heap(NULL) == &other && gwb_open(&plain), "one in neither");
     check(gwb_split(&g, 1, 0, 0, 1, -2, 2) == GWB_OK && gwb_split(&h, 1, 0, 0, 1, -2, 2) == GWB_OK, "commands while neither is in use");
     gwb_close(&h), gwb_close(&g), gwb_close(&plain);
-    check(first.held == 0 && second.held == 0, "each block went back to where it came from");
+    check(first.live == 0 && second.live == 0, "each block went back to where it came from");
 }
 
 /* Every call that takes memory, one after another. */
@@ -76,7 +50,7 @@ static void *give_in_thread(void *g) { return give_all(g) ? g : NULL; }
 /* All that a session takes is of the heap in which it was opened, which another thread uses no more. */
 static void try_own(void)
 {
-    struct pool own = {.most = 1000000}, other = {.most = 0};
+    struct requests own = {0}, other = {.first_refused = 1, .refused = LONG_MAX};
     gwb_heap heap = heap_of(&own), full = heap_of(&other);
     gwb g = {0}, h = {0};
     pthread_t thread;
@@ -84,9 +58,9 @@ static void try_own(void)
     check(gwb_open_in(&g, &heap) && gwb_open_in(&h, &heap) && gwb_use_heap(&full) == NULL, "two sessions in a heap");
     check(give_all(&g), "calls while another heap is used, which is full");
     check(pthread_create(&thread, NULL, give_in_thread, &h) == 0 && pthread_join(thread, &given) == 0 && given == &h, "and from another thread");
-    check(other.requests == 0 && gwb_use_heap(NULL) == &full, "nothing was asked of it");
+    check(other.made == 0 && gwb_use_heap(NULL) == &full, "nothing was asked of it");
     gwb_close(&g), gwb_close(&h);
-    check(own.held == 0, "each block went back");
+    check(own.live == 0, "each block went back");
 }
 
 /* Refuses each request of a session in its turn. */
@@ -94,7 +68,7 @@ static void try_full(void)
 {
     bool is_done = false, is_well = true;
     for (long most = 0; !is_done; most++) {
-        struct pool pool = {.most = most};
+        struct requests pool = {.first_refused = most + 1, .refused = LONG_MAX};
         gwb_heap heap = heap_of(&pool);
         gwb g = {0};
         gwb_use_heap(&heap);
@@ -102,10 +76,10 @@ static void try_full(void)
         enum gwb_kind block = is_open ? gwb_block(&g, 1, 0, 0, 0, 4, 4, 4) : GWB_CLOSED;
         is_done = block == GWB_OK;
         is_well = is_well && (is_open ? is_done || block == GWB_MEMORY : !gwb_is_open(&g)) && (!is_open || gwb_depth(&g) == (is_done ? 1 : 0));
-        pool.most = 1000000;
+        refuse(&pool, 1, 0);
         is_well = is_well && (is_open || gwb_open(&g)) && (is_done || gwb_block(&g, 1, 0, 0, 0, 4, 4, 4) == GWB_OK);
         gwb_close(&g);
-        is_well = is_well && pool.held == 0;
+        is_well = is_well && pool.live == 0;
     }
     gwb_use_heap(NULL);
     check(is_well, "a pool that is full refuses, and the session goes on");
@@ -122,18 +96,18 @@ static bool has_prism(gwb *g, uint32_t solid, int64_t x)
 }
 
 /* Parts off the faces from 1 to n while the pool is full. */
-static enum gwb_kind part_without(gwb *g, struct pool *pool, uint32_t n, uint32_t solid)
+static enum gwb_kind part_without(gwb *g, struct requests *pool, uint32_t n, uint32_t solid)
 {
     uint32_t faces[4000];
     for (uint32_t i = 0; i < n; i++)
         faces[i] = i + 1;
-    pool->most = 0;
+    refuse(pool, 1, LONG_MAX);
     enum gwb_kind kind = gwb_part(g, faces, n, solid);
-    pool->most = 1000000;
+    refuse(pool, 1, 0);
     return kind;
 }
 
-static bool is_refused(gwb *g, struct pool *pool, uint32_t n, uint32_t solid, enum gwb_why why, uint32_t value)
+static bool is_refused(gwb *g, struct requests *pool, uint32_t n, uint32_t solid, enum gwb_why why, uint32_t value)
 {
     gwb_refusal refusal = {0, 0};
     bool is_told = part_without(g, pool, n, solid) == GWB_REFUSED && gwb_last_refusal(g, &refusal) == GWB_FOUND;
@@ -143,7 +117,7 @@ static bool is_refused(gwb *g, struct pool *pool, uint32_t n, uint32_t solid, en
 /* Faces that are parted off without memory for their list: the first false condition is named, as with memory; if none is false, it is memory. */
 static void try_part(void)
 {
-    struct pool pool = {.most = 1000000};
+    struct requests pool = {0};
     gwb_heap heap = heap_of(&pool);
     gwb g = {0};
     check(gwb_open_in(&g, &heap) && has_prism(&g, 1, 0) && has_prism(&g, 2, 100), "two solids of 66 faces");
@@ -156,7 +130,7 @@ static void try_part(void)
     check(gwb_merge(&g, 1, 2) == GWB_OK && part_without(&g, &pool, 66, 2) == GWB_MEMORY && gwb_depth(&g) == 5, "faces that could go, without memory");
     check(part_without(&g, &pool, 4000, 1) == GWB_REFUSED && gwb_depth(&g) == 5, "nothing has changed");
     gwb_close(&g);
-    check(pool.held == 0, "each block of theirs went back");
+    check(pool.live == 0, "each block of theirs went back");
 }
 
 int main(void)

@@ -4,7 +4,9 @@
 #include "gwb_history.hpp"
 #include <array>
 #include <cstdlib>
+#include <functional>
 #include <iostream>
+#include <map>
 #include <numeric>
 #include <sstream>
 #include <string>
@@ -231,6 +233,66 @@ static void try_became()
     check(became.faces.size() == 4 && became.vertices.empty(), "no more than that");
     const Became none = follow(bench, [&] { bench.block({90, 0, 0}, {4, 4, 4}); }).became;
     check(none.faces.empty() && none.edges.empty() && none.vertices.empty(), "what is new came of nothing");
+}
+
+// The same by a union that nobody followed, by which a colour goes along; a session without notes knows no births.
+static void try_last()
+{
+    Workbench bench, plain;
+    for (Workbench *each : {&bench, &plain})
+        (void)each->block({0, 0, 0}, {4, 4, 4}), (void)each->block({4, 0, 0}, {4, 4, 4});
+    Notes<Face, std::string> colours(bench);
+    Notes<Edge, int> widths(bench);
+    const Face two = Face(7);
+    colours[two] = "red";
+    for (Workbench *each : {&bench, &plain})
+        (void)unite(*each, {Solid(1), Solid(2)});
+    const std::string before = bench.listing();
+    const Became told = became(bench, colours, widths), other = became(plain);
+    check(told.faces.size() == 4 && told.faces[0].old == two && told.faces[0].made == Face(1) && told.faces[0].old_birth != 0, "one top went into the other");
+    check(other.faces.size() == 4 && other.faces[0].made == Face(1) && other.faces[0].made_birth == 0, "without births");
+    check(colours.all() == std::map<Face, std::string>{{Face(1), "red"}} && bench.listing() == before && bench.ahead() == 0, "the colour goes along");
+    (void)bench.split(Solid(1), 0, 0, 1, -2);
+    check(became(bench, colours).faces.size() == 4 && colours.all().size() == 1, "a split below what has a colour");
+    const Draft draft = bench.draft();
+    check(became(bench).faces.empty(), "a draft has no last command");
+    Attempts closed = Workbench().attempt();
+    check(became(closed).error().problem == Problem::closed, "a workbench that is gone");
+}
+
+// What of the last command is told, also where it is redone, is what one that is followed tells, but for births.
+static void try_followed_or_not()
+{
+    const std::vector<Point> at_edge = {{-1, 1, 4}, {2, 1, 4}, {2, 3, 4}, {-1, 3, 4}};
+    const std::map<std::string, std::function<void(Workbench &)>> commands = {
+        {"union", [](Workbench &bench) { (void)unite(bench, {Solid(1), Solid(2)}); }},
+        {"subtract", [](Workbench &bench) { (void)subtract(bench, Solid(1), {Solid(2)}); }},
+        {"notch", [&](Workbench &bench) { (void)notch(bench, Face(1), at_edge, 2); }},
+        {"split", [](Workbench &bench) { (void)bench.split(Solid(1), 0, 0, 1, -2); }},
+        {"glue_all", [](Workbench &bench) { glue_all(bench, {Solid(1), Solid(2)}); }},
+        {"cut", [](Workbench &bench) { (void)cut(bench, Solid(1), {0, 0, 1, -2}); }},
+        {"mev", [](Workbench &bench) { (void)bench.mev(plus(Edge(1)), plus(Edge(1)), {9, 9, 9}); }}};
+    const auto bare = [](const Became &of) {
+        Told found;
+        const auto add = [&](const auto &heirs) {
+            for (const auto &heir : heirs)
+                found.push_back({heir.old.number(), heir.made.number()});
+            found.push_back({0, 0});
+        };
+        add(of.faces), add(of.edges), add(of.vertices);
+        return found;
+    };
+    for (const auto &[name, command] : commands) {
+        Workbench followed, bench;
+        for (Workbench *each : {&followed, &bench})
+            (void)each->block({0, 0, 0}, {4, 4, 4}), (void)each->block({4, 0, 0}, {4, 4, 4});
+        const Told wanted = bare(follow(followed, [&, &command = command] { command(followed); }).became);
+        command(bench);
+        check(bare(became(bench)) == wanted, name + ", followed or not");
+        bench.undo();
+        bench.redo();
+        check(bare(became(bench)) == wanted, name + ", redone");
+    }
 }
 
 // What has no value has none when it is there again, though what it was joined to has one.
@@ -512,9 +574,9 @@ static void try_costs()
 
 int main()
 {
-    for (void (*part)() : {try_operators, try_nested, try_splits, try_gone, try_numbers_used_again, try_gone_unseen, try_became, try_joined, try_renumbered, try_throws,
-                           try_walls_and_copies, try_touched,
-                           try_what_was_before, try_draft_given_up, try_costs}) {
+    for (void (*part)() : {try_operators, try_nested, try_splits, try_gone, try_numbers_used_again, try_gone_unseen, try_became, try_last,
+                           try_followed_or_not, try_joined, try_renumbered, try_throws, try_walls_and_copies, try_touched, try_what_was_before,
+                           try_draft_given_up, try_costs}) {
         try {
             part();
         } catch (const std::exception &thrown) {

@@ -2,7 +2,7 @@
  * session as it was. Then each request for memory is refused in turn. Random maps of many handles are loaded too. The last line is 'N passed, M
  * failed'. */
 #include "checks.h"
-#include "gwb.h"
+#include "heaps.h"
 #include <stdio.h>
 #include <stdlib.h>
 #include <string.h>
@@ -82,18 +82,13 @@ static void try_changed(const char *listing, size_t length)
     }
 }
 
-/* A heap over that of the C library that refuses from some request on. */
-static void *allocate(void *left, size_t size) { return (*(long *)left)-- > 0 ? malloc(size) : NULL; }
-static void *reallocate(void *left, void *block, size_t size) { return (*(long *)left)-- > 0 ? realloc(block, size) : NULL; }
-static void release(void *left, void *block) { (void)left, free(block); }
-
 /* Loads a listing, and cuts its faces into triangles, where memory is refused from each request on in turn. */
 static void try_refused(const char *listing, size_t length)
 {
     bool is_well = true, is_done = false;
     for (long most = 0; is_well && !is_done; most++) {
-        long left = most;
-        gwb_heap heap = {allocate, reallocate, release, &left};
+        struct requests requests = {.first_refused = most + 1, .refused = LONG_MAX};
+        gwb_heap heap = heap_of(&requests);
         gwb g = {0};
         gwb_refusal refusal;
         gwb_triangle_row row;
@@ -252,6 +247,8 @@ static void try_lines(void)
     check(gwb_open(&g) && gwb_lines(&g, script, sizeof script - 1, &line) == GWB_REFUSED && line == 4 && gwb_depth(&g) == 1, "a script up to its line 4");
     check(gwb_load(&g, "solid 1\n", 8, &refusal) == GWB_NO_CALL && gwb_depth(&g) == 1, "a solid without a face");
     check(gwb_load(&g, cones, sizeof cones - 1, &refusal) == GWB_NO_CALL && gwb_depth(&g) == 1, "two solids in one that touch in a vertex");
+    check(gwb_mvfs(&g, 2, 11, 11, 31, 0, 0, 0) == GWB_OK && gwb_load(&g, cones, sizeof cones - 1, &refusal) == GWB_NO_CALL && gwb_undo(&g) == GWB_OK,
+          "the same, where its numbers are in use");
     check(gwb_load(&g, "", 0, &refusal) == GWB_NO_CALL && gwb_load(&g, "\n", 1, &refusal) == GWB_NO_CALL && gwb_depth(&g) == 1, "no line");
     check(gwb_load(&g, "empty\n", 6, &refusal) == GWB_OK && gwb_depth(&g) == 2 && gwb_undo(&g) == GWB_OK, "the empty model");
     check(gwb_draft(&g) == GWB_OK && gwb_load(&g, "solid 2\nface 9 2 9\nloop 9 at 9\nvertex 9 1 2 3\n", 46, &refusal) == GWB_OK, "a vertex in a draft");

@@ -420,6 +420,14 @@ static void try_refusals()
     Workbench bench;
     const Solid block = bench.block({0, 0, 0}, {8, 8, 8});
     const std::vector<Point> square = {{2, 2, 8}, {4, 2, 8}, {4, 4, 8}, {2, 4, 8}};
+    try {
+        Workbench gone;
+        (void)ring(gone, gone.block({0, 0, 0}, {8, 8, 8}).top, {{2, 2, 8}, {4, 2, 8}, {8, 8, 8}});
+        check(false, "an outline that touches a corner is refused");
+    } catch (const Impossible &why) { // (which has it all, though the workbench is gone)
+        const gwb_hit_row &hit = why.hit();
+        check(hit.cause == GWB_CAUSE_VERTEX_TOUCHED && hit.kind == GWB_VERTEX && narrow(hit.point[0]) == 8 && narrow(hit.scale) == 1, "where it was");
+    }
     check(off_lattice(bench, block, {0, 0, 0, 0}).advice(Solid(2)).empty(), "nothing to say of no plane");
     try {
         (void)pocket(bench, Face(1), square, 8);

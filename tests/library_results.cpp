@@ -86,7 +86,9 @@ static void try_features()
     const Result<Pocket> deep = pocket(session, plate->far, {{6, 2, 7}, {8, 2, 7}, {8, 4, 7}}, 7);
     check(deep.error().is(Misfit::meets) && std::string_view(deep.error().name()) == "Meets" && std::string_view(deep.error().text()) == gwb_cause_text(GWB_CAUSE_TOUCHES_FACE) &&
               *deep.error().text() != '\0' && deep.error().hit.kind == GWB_FACE, "one that reaches the far side");
-    check(slot(session, plate->far, {6, 0, 7}, {6, 8, 7}, 2, 1) && *session.depth() == 3, "a slot");
+    static_assert(sizeof(Failure) <= 24, "what a refused call gives is small");
+    check(session.hit() && session.hit()->number == deep.error().hit.number && session.hit()->cause == GWB_CAUSE_TOUCHES_FACE, "the session tells it too");
+    check(slot(session, plate->far, {6, 0, 7}, {6, 8, 7}, 2, 1) && *session.depth() == 3 && !session.hit(), "a slot");
     check(off_lattice(session, plate->solid, {2, 0, 0, -3})->factor().low == 2, "a cut between whole points");
 }
 

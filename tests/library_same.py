@@ -25,7 +25,7 @@ from counts import TOP, there
 sys.path.insert(0, str(TOP / 'companions'))
 
 from gwb import FacePart, InDraft, Refused, Workbench  # noqa: E402
-from gwb.protocol.refusals import CAUSES  # noqa: E402
+from gwb.refusals import CAUSES  # noqa: E402
 from library_features import Line, Table, refusal  # noqa: E402
 
 PARTS, LINES = 150, 11

@@ -105,7 +105,7 @@ private:
     }
 
     // Whether a line was accepted. If not, its refusal is told.
-    template <class T> static bool is_well(const Result<T> &result)
+    template <class T> bool is_well(const Result<T> &result)
     {
         if (result || result.error().problem == Problem::no_call)
             std::cout << (result ? "ok" : "NoCall");
@@ -114,10 +114,10 @@ private:
         return static_cast<bool>(result);
     }
     // The name of what is refused and its value; and what was met, as far as that is told.
-    static void put_refusal(const Failure &failure)
+    void put_refusal(const Failure &failure)
     {
         constexpr std::array things = {"solid", "face", "loop", "edge", "vertex"};
-        const gwb_hit_row &hit = failure.hit;
+        const gwb_hit_row hit = failure.problem == Problem::impossible ? attempt_->hit().value_or(gwb_hit_row{}) : gwb_hit_row{};
         std::cout << failure.name() << ' ' << failure.value << (hit.cause != 0 ? " " : "") << gwb_cause_name(hit.cause);
         if (hit.number != 0 && hit.kind < things.size())
             std::cout << ' ' << things[hit.kind] << ' ' << hit.number;
@@ -143,21 +143,21 @@ private:
         std::cout << ' ' << numbers.size();
         put(numbers);
     }
-    static void put_notch(const Result<Notch> &made)
+    void put_notch(const Result<Notch> &made)
     {
         if (is_well(made)) {
             put_counted(made->floor);
             put_counted(made->walls);
         }
     }
-    static void put_pocket(const Result<Pocket> &made)
+    void put_pocket(const Result<Pocket> &made)
     {
         if (is_well(made)) {
             std::cout << ' ' << made->face.number() << ' ' << made->loop.number();
             put(made->sides);
         }
     }
-    static bool put_hole(const Result<Hole> &made)
+    bool put_hole(const Result<Hole> &made)
     {
         if (!is_well(made))
             return false;
@@ -269,7 +269,7 @@ private:
         const auto sides = static_cast<std::uint32_t>(words.number());
         put_drilled(gwb_session::drill_along(*attempt_, face, center, radius, sides, words.point()));
     }
-    static void put_drilled(const Result<Hole> &made)
+    void put_drilled(const Result<Hole> &made)
     {
         if (put_hole(made))
             for (const Point &at : made->points)
@@ -287,7 +287,7 @@ private:
         const std::int64_t height = words.number();
         put_pad(gwb_session::pad(*attempt_, face, words.points(), height));
     }
-    static void put_pad(const Result<Pad> &made)
+    void put_pad(const Result<Pad> &made)
     {
         if (is_well(made)) {
             put_counted(made->top);
@@ -462,7 +462,7 @@ private:
     {
         is_well(gwb_session::join_faces(*attempt_, words.name<Solid>()));
     }
-    static void put_split(const Result<Split> &made)
+    void put_split(const Result<Split> &made)
     {
         if (is_well(made)) {
             put_counted(made->lower_caps);

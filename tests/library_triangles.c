@@ -3,7 +3,7 @@
  * which cross or touch; stars with rings, spurs and bridges; corridors, combs, spirals and plates with holes; points at the limits of
  * coordinates, in several planes; memory refused at each request. The last line is 'N passed, M failed'. */
 #include "checks.h"
-#include "gwb.h"
+#include "heaps.h"
 #include <stdio.h>
 #include <stdlib.h>
 #include <string.h>
@@ -567,22 +567,6 @@ static void try_pinched(void)
     }
 }
 
-/* A heap over that of the C library that counts, and refuses from some request on. */
-struct few {
-    long left, held;
-};
-
-static void *allocate(void *user, size_t size)
-{
-    struct few *few = user;
-    void *block = few->left-- > 0 ? malloc(size) : NULL;
-    few->held += block != NULL;
-    return block;
-}
-
-static void *reallocate(void *user, void *block, size_t size) { return ((struct few *)user)->left-- > 0 ? realloc(block, size) : NULL; }
-static void release(void *user, void *block) { ((struct few *)user)->held--, free(block); }
-
 /* Cuts a face where memory is refused from each request on in turn. */
 static void try_refused(void)
 {
@@ -591,12 +575,12 @@ static void try_refused(void)
     check(make(&g, planes[0]), "a star is made");
     size_t wanted = gwb_face_triangles(&g, 1, triangles, 0), found = SIZE_MAX;
     for (long most = 0; found == SIZE_MAX; most++) {
-        struct few few = {most, 0};
-        gwb_heap heap = {allocate, reallocate, release, &few};
+        struct requests few = {.first_refused = most + 1, .refused = LONG_MAX};
+        gwb_heap heap = heap_of(&few);
         gwb_use_heap(&heap);
         found = most % 2 == 0 ? gwb_face_triangles(&g, 1, triangles, 2 * MOST) : gwb_read_triangles(&g, 1, triangles, 0);
         gwb_use_heap(NULL);
-        check(few.held == 0, "memory given back");
+        check(few.live == 0, "memory given back");
         check(most < 100, "memory is refused so often");
     }
     check(found >= wanted && wanted > 0, "triangles where there is memory");

@@ -3,8 +3,7 @@
  *
  *     library_watch [ROUNDS]     so many sessions: 200 where none is said */
 #include "checks.h"
-#include "gwb.h"
-#include <limits.h>
+#include "heaps.h"
 #include <stdio.h>
 #include <stdlib.h>
 #include <string.h>
@@ -17,36 +16,6 @@ static uint32_t below(uint32_t n)
     seed = seed * UINT64_C(6364136223846793005) + UINT64_C(1442695040888963407);
     return (uint32_t)(seed >> 33) % n;
 }
-
-/* ---- a heap whose blocks hold no zeros, and that refuses each request from one on, so many of them */
-
-struct requests {
-    long made, first_refused, refused, live;
-};
-
-static bool refuses(struct requests *r)
-{
-    r->made++;
-    return r->made >= r->first_refused && r->made - r->first_refused < r->refused;
-}
-
-static void *take(void *user, size_t size)
-{
-    struct requests *r = user;
-    void *block = refuses(r) ? NULL : malloc(size);
-    r->live += block != NULL;
-    return block != NULL ? memset(block, 0xA5, size) : NULL;
-}
-
-static void *grow(void *user, void *block, size_t size) { return refuses(user) ? NULL : realloc(block, size); }
-
-static void give_back(void *user, void *block)
-{
-    ((struct requests *)user)->live--;
-    free(block);
-}
-
-static void refuse(struct requests *r, long first, long count) { *r = (struct requests){0, first, count, r->live}; }
 
 /* ---- calls, the same to each session */
 
@@ -188,7 +157,7 @@ static void try_random(long rounds)
 {
     for (long round = 0; round < rounds; round++) {
         struct requests r = {0}, others = {0};
-        const gwb_heap heap = {take, grow, give_back, &r}, other_heap = {take, grow, give_back, &others};
+        const gwb_heap heap = heap_of(&r), other_heap = heap_of(&others);
         gwb g = {0}, other = {0};
         if (!gwb_open_in(&g, &heap) || !gwb_open_in(&other, &other_heap))
             abort();
@@ -247,7 +216,7 @@ static long give_refused(bool is_watched, const gwb *wanted)
     long refused = 0;
     for (long first = 1;; first++) {
         struct requests r = {0};
-        const gwb_heap heap = {take, grow, give_back, &r};
+        const gwb_heap heap = heap_of(&r);
         gwb g = {0};
         if (!gwb_open_in(&g, &heap))
             abort();
@@ -279,7 +248,7 @@ static void try_each_request(void)
 static void try_redone(void)
 {
     struct requests r = {0};
-    const gwb_heap heap = {take, grow, give_back, &r};
+    const gwb_heap heap = heap_of(&r);
     gwb g = {0};
     if (!gwb_open_in(&g, &heap))
         abort();

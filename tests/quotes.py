@@ -4,10 +4,10 @@
     tests/quotes.py [--write]        --write puts what the sources say into the pages
 
 A quotation is a block whose fence says where it is from, as ```rust low_euler/src/applying.rt apply``` (a function's head with its whole
-contract, each `requires` too) or ```antt euler_laws/specs/Laws.antt InversesUndo``` (the clauses of definitions, without their types, and
-whole records and data types) or ```lemma lattice/proofs/Crossings.antt opposite_turned``` (with its type); more names follow, and more files with names of
-theirs. ```edit lattice/must-fail/EDIT.edit``` is a whole file. A block of `text` quotes nothing; another with no such words is counted as wrong. The last
-line counts the quotations.
+contract, each `requires` too; by `apply.ready` that clause of what it ensures alone) or ```antt euler_laws/specs/Laws.antt InversesUndo``` (the clauses of
+definitions, without their types, and whole records and data types) or ```lemma lattice/proofs/Crossings.antt opposite_turned``` (with its type); more names
+follow, and more files with names of theirs. ```edit lattice/must-fail/EDIT.edit``` is a whole file. A block of `text` quotes nothing; another with no such
+words is counted as wrong. The last line counts the quotations.
 """
 import re
 import sys
@@ -25,12 +25,16 @@ class Missing(Exception):
 
 
 def head_of(lines: List[str], name: str) -> List[str]:
-    """The head of the Rust function of this name, and its contract, from the margin on."""
+    """The head of the Rust function of this name, and its contract, from the margin on; of `FUNCTION.CLAUSE` that clause alone."""
+    function, _, clause = name.partition('.')
     for at, line in enumerate(lines):
-        if re.match(rf'\s*(pub )?(extern "C" )?fn {name}\b', line):
+        if re.match(rf'\s*(pub )?(extern "C" )?fn {function}\b', line):
             margin = line[:len(line) - len(line.lstrip())]
             ends = next(to for to in range(at, len(lines)) if lines[to] in (margin + '{', margin + '{}'))
-            return [text[len(margin):] for text in lines[at:ends]]
+            head = [text[len(margin):] for text in lines[at:ends]]
+            found = [text.strip() for text in head if text.startswith(f'    ensures {clause} {{')] if clause else head
+            if found:
+                return found
     raise Missing(f'no function {name}')
 
 

@@ -4,13 +4,15 @@ crates/euler_operators/src/lib.rt, whose numbers are proved.
 
     tests/refusals.py [--write]
 
-Compares with the table what is made of it (companions/gwb/protocol/refusals.py, bindings/include/gwb_names.h, bindings/rust/src/refusal.rs and the
-tables of docs/REFUSALS.md), which --write makes anew first, and the names that stand elsewhere: in the kernel, in the help text of gwb, in the table of
-docs/SCRIPT.md, and the last condition in gwb.hpp. The last line counts.
+Compares with the table what is made of it (companions/gwb/refusals.py, bindings/include/gwb_names.h,
+bindings/features/cut_advice.hpp, bindings/rust/src/refusal.rs and the tables of docs/REFUSALS.md), which --write makes anew first, and the names that stand elsewhere: in the kernel, in the help text of gwb, in the table of
+docs/SCRIPT.md, and the last condition in gwb.hpp. No other file of code says by hand what the table says. The last line counts.
 """
+import ast
 import re
 import sys
-from typing import Callable, Dict, Iterator, List, NamedTuple, Set, Tuple
+from pathlib import Path
+from typing import Any, Callable, Dict, Iterator, List, Mapping, NamedTuple, Set, Tuple
 
 from counts import TOP, command_line, told
 
@@ -18,6 +20,11 @@ Names = Dict[int, str]
 MADE = 'Made by tests/refusals.py --write of bindings/refusals.table; edit nothing here.'
 TABLE = 'bindings/refusals.table'
 PAGE = 'docs/REFUSALS.md'
+# What calls are named in the table of features, where it isn't the same.
+_CALLS = {'halve': 'cut', 'around': 'pattern_around', 'chamfers': 'chamfer_edges'}
+# Files of code in which no text of the table stands by hand.
+CODE = ('bindings/*.[ch]', 'bindings/features/*pp', 'bindings/include/*', 'bindings/rust/**/src/*.rs', 'companions/gwb/**/*.py', 'companions/gwb/**/*.js',
+        'crates/*/src/**/*.rt')
 
 
 class Block(NamedTuple):
@@ -34,6 +41,11 @@ class Block(NamedTuple):
         return self.said['text']
 
     @property
+    def advice(self) -> Dict[str, str]:
+        """What would do in Python, by the call that is refused, or for `any`."""
+        return {call: text for key, text in self.said.items() if key.startswith('python of ') for call in key.split(' ')[2:]}
+
+    @property
     def row(self) -> str:
         """Its row in the page."""
         name, *told = self.name if self.kind == 'misfit' else f'{self.number} {self.name}', self.said['happened'], self.said.get('try', '')
@@ -46,8 +58,8 @@ class Table:
     def __init__(self, text: str) -> None:
         blocks = [block for block in text.split('\n\n') if not block.startswith('#')]
         found = [self._block(*block.strip('\n').split('\n')) for block in blocks]
-        self.kinds = [[block for block in found if block.kind == kind] for kind in ('condition', 'fault', 'misfit', 'cause', 'error')]
-        self.conditions, self.faults, self.misfits, self.causes, self.errors = self.kinds
+        self.kinds = [[block for block in found if block.kind == kind] for kind in ('condition', 'fault', 'misfit', 'cause', 'cut', 'error')]
+        self.conditions, self.faults, self.misfits, self.causes, self.cuts, self.errors = self.kinds
 
     @property
     def is_whole(self) -> bool:
@@ -59,7 +71,7 @@ class Table:
     @staticmethod
     def _block(head: str, *lines: str) -> Block:
         kind, number, name = head.split(' ')
-        return Block(kind, int(number), name, dict(line.split(': ', 1) for line in lines))
+        return Block(kind, int(number), name, {key: said for key, said in (line.split(': ', 1) for line in lines)})
 
 
 def text_of(file: str) -> str:
@@ -92,13 +104,14 @@ def capitals(name: str) -> str:
 # ---- what is made
 
 def python_text(table: Table) -> str:
-    """companions/gwb/protocol/refusals.py."""
-    def rows(pairs: Dict[object, object]) -> str:
+    """companions/gwb/refusals.py."""
+    def rows(pairs: Mapping[Any, object]) -> str:
         return ''.join(f'    {key!r}: {value!r},\n' for key, value in pairs.items())
 
     otherwise = {(key[len('text of '):], block.name): text for block in [*table.conditions, *table.faults] for key, text in block.said.items()
                  if key.startswith('text of ')}
-    parts = (('NAMES: Dict[int, str]', 'The conditions of commands.', names_of(table.conditions)),
+    parts: Tuple[Tuple[str, str, Mapping[Any, object]], ...] = (
+             ('NAMES: Dict[int, str]', 'The conditions of commands.', names_of(table.conditions)),
              ('TEXTS: Dict[int, str]', 'What they say, in which X stands for the value.', {block.number: block.text for block in table.conditions}),
              ('OTHERWISE: Dict[Tuple[str, str], str]', "Where a command, a feature or the value '0' says it otherwise.", otherwise),
              ('REMEDIES: Dict[int, str]', 'What would do, as far as that can be said without the model.',
@@ -108,9 +121,10 @@ def python_text(table: Table) -> str:
               {block.name: block.said.get('text of python', block.text) for block in table.misfits}),
              ('CAUSES: Dict[int, Tuple[str, str]]', 'The names and texts of their causes, in which Y stands for the number of what was met.',
               {block.number: (block.name, block.said.get('text of python', block.text)) for block in table.causes}),
-             ('ADVICE: Dict[str, str]', 'What would do in the place of a feature, by the cause.',
-              {block.name: block.said['python'] for block in table.causes if 'python' in block.said}))
-    made = ''.join(f'\n# {what}\n{name} = {{\n{rows(dict(pairs))}}}\n' for name, what, pairs in parts)
+             ('ADVICE: Dict[Tuple[str, str], str]', 'What would do in the place of a feature, by its call, or any, and the cause.',
+              {(call, block.name): text for block in table.causes for call, text in block.advice.items()}),
+             ('OF_CUTS: Dict[str, str]', "What is said of a cut whose points aren't whole.", {block.name: block.text for block in table.cuts}))
+    made = ''.join(f'\n# {what}\n{name} = {{\n{rows(pairs)}}}\n' for name, what, pairs in parts)
     return f'"""What is said of refusals. {MADE}"""\n\nfrom typing import Dict, Tuple\n{made}'
 
 
@@ -191,6 +205,19 @@ enum class Misfit : uint32_t {{
 """
 
 
+def advice_text(table: Table) -> str:
+    """bindings/features/cut_advice.hpp."""
+    texts = ''.join(f'constexpr const char *{snake(block.name)} = "{block.text}";\n' for block in table.cuts)
+    return f"""/// @file cut_advice.hpp What is said of a cut whose points aren't whole. {MADE}
+#pragma once
+
+namespace gwb_session::cutting::advice {{
+
+{texts}
+}} // namespace gwb_session::cutting::advice
+"""
+
+
 def rust_text(table: Table) -> str:
     """bindings/rust/src/refusal.rs."""
     conditions, misfits, causes = (''.join(f'    {block.name} = {block.number}: "{block.text}",\n' for block in of)
@@ -228,8 +255,9 @@ def page_text(table: Table) -> str:
 
 
 MAKERS: Dict[str, Callable[[Table], str]] = {
-    'companions/gwb/protocol/refusals.py': python_text,
+    'companions/gwb/refusals.py': python_text,
     'bindings/include/gwb_names.h': c_text,
+    'bindings/features/cut_advice.hpp': advice_text,
     'bindings/rust/src/refusal.rs': rust_text,
     PAGE: page_text,
 }
@@ -268,6 +296,65 @@ def error_names() -> Set[str]:
     return found - {'CompanionError', 'Complaint', 'Refused', 'Faulted', 'Impossible'}
 
 
+# ---- advice
+
+def refused_features() -> Set[Tuple[str, str, str]]:
+    """The call, the misfit and the cause of each row of the table of features that is refused. A call with a vector in place of a depth is the same one."""
+    found = (re.match(r'(?:[:!] )?(\w+) .* = ([A-Z]\w+)(?: \d+ ([A-Z]\w+))?', row) for row in text_of('tests/library_features.table').splitlines())
+    return {(_CALLS.get(row[1], row[1].replace('_along', '')), row[2], row[3] or '') for row in found if row}
+
+
+def advised_again(table: Table) -> Iterator[str]:
+    """Where advice, in Python, in C or in the page, names the call that is refused, and where a call gets none of a cause that has some for others."""
+    blocks = {block.name: block for block in [*table.misfits, *table.causes]}
+    for call, misfit, cause in sorted(refused_features()):
+        block = blocks.get(cause, Block('', 0, '', {}))
+        text = block.advice.get(call, block.advice.get('any', ''))
+        named = (rf'\b{call}\(', text), (rf'\bgwb_{call}\b', block.said.get('c', '')), (f'`{call}`', blocks[misfit].said['try'] if misfit in blocks else '')
+        yield from (f'{call} is refused {misfit} {cause}, and advised: {said}' for pattern, said in named if re.search(pattern, said))
+        if block.advice and not text:
+            yield f'{call} is refused {misfit} {cause}, of which the advice is for other calls'
+
+
+def commanded_again(table: Table) -> Iterator[str]:
+    """Where what is said to who was refused a command is that command."""
+    sys.path.insert(0, str(TOP / 'companions'))
+    from gwb.protocol.command_rows import COMMAND_ROWS
+    for block in table.conditions:
+        said = ' '.join(block.said.get(key, '') for key in ('try', 'shell'))
+        yield from (f'{command} is refused {block.name}, and advised: {said}' for command, row in COMMAND_ROWS.items()
+                    if block.number in row.refusals and f'`{command}`' in said)
+
+
+# ---- texts that are written by hand
+
+def told_by(path: Path) -> str:
+    """The texts of a file of code, a line each, in which {} stands for what is put into one. Comments and docstrings aren't told."""
+    text = path.read_text()
+    if path.suffix != '.py':
+        return re.sub(r'"\s*\n\s*"', '', re.sub(r'^\s*(?://|/?\*).*', '', text, flags=re.MULTILINE))
+    nodes = list(ast.walk(ast.parse(text)))
+    comments = {id(node.value) for node in nodes if isinstance(node, ast.Expr)}
+    return '\n'.join(_told(node) for node in nodes if isinstance(node, (ast.Constant, ast.JoinedStr)) and id(node) not in comments)
+
+
+def _told(node: ast.expr) -> str:
+    """The text of an expression, of whose parts only the constant ones are known."""
+    if isinstance(node, ast.JoinedStr):
+        return ''.join(map(_told, node.values))
+    return str(node.value) if isinstance(node, ast.Constant) else '{}'
+
+
+def written_again(table: Table) -> Iterator[str]:
+    """The texts of the table, advice too, that a file of code says by hand besides, with any number or expression in the place of X or Y."""
+    made = {TOP / file for file in MAKERS}
+    told = {path: told_by(path) for where in CODE for path in sorted(TOP.glob(where)) if path not in made}
+    texts = {text for of in table.kinds for block in of for key, text in block.said.items() if key not in ('of', 'happened', 'try')}
+    for text in sorted(texts):
+        pattern = re.compile(r'(?:[\d,]+|\{[^{}]*\}|[XY])'.join(map(re.escape, re.split(r'\[[XY]\]|\b[XY]\b', text))))
+        yield from (f'{path.relative_to(TOP)} says by hand what {TABLE} says: {text}' for path, said in told.items() if pattern.search(said))
+
+
 def findings(table: Table) -> Iterator[str]:
     """For each place what is wrong with it, or nothing."""
     names, faults = names_of(table.conditions), names_of(table.faults)
@@ -276,6 +363,8 @@ def findings(table: Table) -> Iterator[str]:
               if ' or ' in said and key not in ('happened', 'try', 'shell')]
     yield f'{TABLE}: texts join causes by `or`: {", ".join(joined)}' if joined else ''
     yield '' if kernel_names() == names else f'{TABLE}: the conditions of crates/euler_operators are others'
+    yield '; '.join(written_again(table))
+    yield '; '.join([*advised_again(table), *commanded_again(table)])
     for file, make in MAKERS.items():
         yield '' if text_of(file) == make(table) else f'{file} is not the one that --write makes'
     yield '' if help_names('Refusals') == names else 'crates/command_line/src/words.rt: the help text has other names'
@@ -290,7 +379,8 @@ def main() -> int:
     table = Table(text_of(TABLE))
     if given.write:
         for file, make in MAKERS.items():
-            (TOP / file).write_text(make(table))
+            if text_of(file) != make(table):    # (what is made of a file that is the same isn't made anew)
+                (TOP / file).write_text(make(table))
     return told(findings(table))
 
 
