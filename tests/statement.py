@@ -205,7 +205,7 @@ Of the bytes of files and pipes that says nothing, as [run](#run) explains.''',
 holds is: its machine is consistent, so its first model is empty, each model is sound, and each next one is made by accepted operators; and the model of a
 draft is sound too, and made by the draft's steps.''',
     'HandlesMakeCalls': '''While no export closes an open handle, it stays open, and what it holds is what the calls that the exports ask for make of what it
-held before (`MakesAll`). So all laws of lists of calls hold of it. `AreAnswered` says which codes C is told, and what the last answer is.''',
+held before (`MakesAll`). So all laws of lists of calls hold of it. `AreAnswered` says which kinds C is told, and what the last answer is.''',
     'HandlesAreTakenBack': '''If a handle holds a session before and after exports that don't close it, the calls that these make are neither undo nor redo,
 and n more commands can be undone after them than before, then n undos are told 1 (accepted) each, and the model is the one before these calls.''',
     'ReadersLeaveHandles': '''If what is lent to an export that only looks is the same after it as before, the case `reads` of `HandleGoes` holds of the
@@ -267,8 +267,8 @@ handle; a *reader* is here an export that only looks, and not what [run](#run) r
 words of [Calls](../crates/gwb_c/specs/Calls.antt) where it asks for something, by [ReadersLeaveHandles](#readersleavehandles) where it only looks.
 [PROOFS](PROOFS.md#the-library-for-c) says more, and follows a call.
 
-An export tells C a number, its *code*; the formulas call it `kind`. `gwb_open` tells 1 or 0: the handle was opened, or it wasn't. `gwb_close` tells nothing;
-what only looks tells numbers of its own, of which `HandleGoes` says nothing. The codes of all others:
+An export tells C a number, the *kind* of its answer (`kind`). `gwb_open` tells 1 or 0: the handle was opened, or it wasn't. `gwb_close` tells nothing;
+what only looks tells numbers of its own, of which `HandleGoes` says nothing. The kinds of all others:
 
 | 0 | 1 | 2 | 3 | 4 | 5 | 6 | 7 | 8 | 9 | 10 | 11 | 12 |
 |---|---|---|---|---|---|---|---|---|---|---|---|---|
