@@ -152,7 +152,9 @@ class Things(unittest.TestCase):
              'face': {'face': 'face'}, 'loop': {'loop': 'loop'}, 'edge': {'edge': 'edge'}, 'vertex': {'vertex': 'vertex'},
              'faces': {'solid': 'solid'}, 'edges': {'solid': 'solid'}, 'vertices': {'solid': 'solid'}, 'ring': {'face': 'face'}, 'sketch': {'face': 'face'},
              'pocket': {'face': 'face'}, 'boss': {'face': 'face'}, 'hole': {'face': 'face'}, 'drill': {'face': 'face'},
-             'crossings': {'solid': 'solid', 'other': 'solid'},
+             'crossings': {'solid': 'solid', 'other': 'solid'}, 'shoulder': {'face': 'face', 'edge': 'edge'}, 'chamfer': {'edge': 'edge'},
+             **dict.fromkeys(('delete', 'copy', 'move', 'turn', 'mirror', 'pattern', 'pattern_around', 'cut', 'trim', 'separate', 'join_faces'), {'solid': 'solid'}),
+             **dict.fromkeys(('notch', 'pad', 'slot', 'groove'), {'face': 'face'}),
              **dict.fromkeys(('bounding_box', 'centroid', 'surface_area', 'inertia', 'section', 'off_lattice'), {'solid': 'solid'}),
              **dict.fromkeys(('area', 'square_area'), {'face': 'face'}), **dict.fromkeys(('length', 'square_length'), {'edge': 'edge'}),
              **dict.fromkeys(('distance', 'square_distance'), {'face': 'face', 'other': 'face'})}
@@ -178,7 +180,7 @@ class Things(unittest.TestCase):
             for name, kind in names.items():
                 for other in self.ALL:
                     if other != kind:
-                        wanted = 'half-edge' if kind == 'edge' and method not in ('edge',) else kind
+                        wanted = 'half-edge' if kind == 'edge' and method not in ('edge', 'shoulder', 'chamfer') else kind
                         self.refused(TypeError, rf'^{name}: an? {wanted} is wanted, not the {other} 1$', method, name, getattr(self.bench, other)(1))
 
     def test_things_of_another_bench(self):
@@ -195,6 +197,8 @@ class Things(unittest.TestCase):
         bench, other = self.bench, self.other
         self.refused(TypeError, r'^solids\[0\]: a solid is wanted, not the face 1$', 'glue_all', 'solids', [bench.face(1)])
         self.refused(ValueError, r'^solids\[0\]: the solid 1 is of another workbench$', 'glue_all', 'solids', [other.solid(1)])
+        self.refused(TypeError, r'^solids\[0\]: a solid is wanted, not the face 1$', 'union', 'solids', [bench.face(1), 1])
+        self.refused(ValueError, r'^solids\[1\]: the solid 1 is of another workbench$', 'union', 'solids', [1, other.solid(1)])
         self.refused(TypeError, r'^between\[1\]: a face is wanted, not the edge 1$', 'edges', 'between', (bench.face(1), bench.edge(1)))
         self.refused(TypeError, r'^point\[0\]: a length .* is wanted, not the face 1$', 'block', 'point', (bench.face(1), 0, 0))
         self.refused(TypeError, r'^first.loop: a loop is wanted, not the face 1$', 'mev', 'first', Lone(bench.face(1)))

@@ -14,7 +14,6 @@ from gwb.checks.solid_checks import SolidCheck
 from gwb.geometry.flat_face import FlatFace
 from gwb.geometry.plane_figures import Place
 from gwb.geometry.vectors import cross, dot, subtract
-from test_session_features import PARTS, part
 
 # The eight faces of an octahedron, and two more points that cut one of them in three.
 FACES = [(4, 0, 2), (4, 2, 1), (4, 1, 3), (4, 3, 0), (5, 2, 0), (5, 1, 2), (5, 3, 1), (5, 0, 3)]
@@ -91,13 +90,19 @@ class Crossings(unittest.TestCase):
         self.assertGreaterEqual(outcomes['plain'], 10, outcomes)
 
     def test_parts(self):
+        """Of two parts with pockets in pockets, bosses on bosses and holes, after each feature."""
         outcomes = Counter()
-        for path in PARTS:
-            with self.subTest(path.stem), Workbench(library(), step=STEP) as bench:
-                part(path).make(bench)
-                for number in bench.solids().numbers:
-                    self.compare(bench, number, outcomes)
-        self.assertGreaterEqual(outcomes['plain'], 12)
+        with Workbench(library(), step=STEP) as bench:
+            for bottom, act in ((0, bench.pocket), (40, bench.boss)):
+                block = bench.block((0, 0, bottom), (20, 20, 20))
+                face, low, level = block.top, 2, bottom + 20
+                for _ in range(3):
+                    face = act(face, [(low, low, level), (20 - low, low, level), (20 - low, 20 - low, level), (low, 20 - low, level)], 5).face
+                    low, level = low + 2, level + (5 if act == bench.boss else -5)
+                    self.compare(bench, block.solid, outcomes)
+                bench.hole(face, [(9, 9, level), (11, 9, level), (11, 11, level)])
+                self.compare(bench, block.solid, outcomes)
+        self.assertEqual(outcomes['plain'], 8)
 
     def test_two_solids(self):
         for move, is_met in (((2, 0, 0), True), ((4, 0, 0), True), ((4, 4, 4), True), ((5, 0, 0), False), ((1, 1, 1), False)):

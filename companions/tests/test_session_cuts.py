@@ -1,16 +1,16 @@
-"""Cuts that split refuses, made all the same, and solids that touch made one; what can't be is refused with nothing changed."""
+"""Cuts that split refuses, made all the same, and solids that touch made one: what Python says of them, what is undone, and oblique cuts at random."""
 
 import os
 import tempfile
 import unittest
 import warnings
 from collections import Counter
+from contextlib import suppress
 from fractions import Fraction
 from pathlib import Path
 from random import Random
 
 from support import folder_of, library, step_of
-from voxel_parts import AXES, World, cells_of, squares_of
 
 from gwb import Refused, Workbench
 from gwb.checks.check import check
@@ -78,16 +78,9 @@ class Stepwise(unittest.TestCase):
             path.write_text(''.join('v {} {} {}\n'.format(*point) for point in points) + ''.join('f {} {} {}\n'.format(*face) for face in faces))
             return self.bench.import_file(path).one()
 
-    def count(self, solid):
-        """Vertices, edges, faces and rings of a solid."""
-        return tuple(self.bench.count(solid))[:4]
-
 
 class Cuts(Stepwise):
     """One cut each."""
-
-    def split_refuses(self, name, solid, plane):
-        self.refuse(name, lambda: self.bench.split(solid, plane))
 
     def test_one_that_split_takes(self):
         block = self.bench.block((0, 0, 0), (4, 4, 4))
@@ -97,34 +90,6 @@ class Cuts(Stepwise):
         self.assertEqual((self.volume(1), self.volume(9)), (16, 48))
         self.assertEqual([self.bench.face(cap).solid.number for cap in (*made.lower_caps, *made.upper_caps)], [1, 9])
 
-    def test_level_with_a_step(self):
-        step = self.bench.profile([(0, 0, 0), (4, 0, 0), (4, 2, 0), (2, 2, 0), (2, 4, 0), (0, 4, 0)], along=(0, 0, 2))
-        flat = self.bench.faces(plane=(0, 1, 0, -2)).one().number
-        self.split_refuses('TouchedFace', step.solid, (0, 1, 0, -2))
-        made = self.one_step(lambda: self.bench.cut(step.solid, (0, 1, 0, -2)))
-        self.assertEqual((self.volume(made.below), self.volume(made.above)), (16, 8))
-        self.assertEqual((self.count(made.below), self.count(made.above)), ((8, 12, 6, 0), (8, 12, 6, 0)))
-        self.assertEqual(made.lower_caps, (flat,))
-
-    def u_with_pocket(self, points, depth):
-        solid = self.bench.profile(U_SHAPE, along=(0, 0, 6)).solid
-        self.bench.pocket(self.bench.faces(solid=solid, containing=points[0]).one(), points, depth)
-        return solid
-
-    def test_past_a_pocket(self):
-        solid = self.u_with_pocket([(2, 1, 6), (10, 1, 6), (10, 3, 6), (2, 3, 6)], 1)
-        self.split_refuses('CutOften', solid, (0, 1, 0, -8))
-        made = self.one_step(lambda: self.bench.cut(solid, (0, 1, 0, -8)))
-        self.assertEqual((self.volume(made.below), self.volume(made.above)), (80 * 6 - 16, 32 * 6))
-        self.assertEqual((len(made.lower_caps), self.bench.count(made.above).sum), (2, 4))
-
-    def test_through_a_pocket_in_one_of_two_legs(self):
-        solid = self.u_with_pocket([(11, 12, 2), (11, 12, 4), (9, 12, 4), (9, 12, 2)], 6)
-        self.split_refuses('SectionHoles', solid, (0, 1, 0, -8))
-        made = self.one_step(lambda: self.bench.cut(solid, (0, 1, 0, -8)))
-        self.assertEqual((self.volume(made.below), self.volume(made.above)), (480 - 8, 192 - 16))
-        self.assertEqual(sorted(len(self.bench.face(cap).rings) for cap in made.lower_caps), [0, 1])
-
     def test_what_is_kept(self):
         block = self.bench.block((0, 0, 0), (4, 4, 4)).solid
         made = self.one_step(lambda: self.bench.cut(block, (1, 0, 0, -1), keep='below'))
@@ -133,39 +98,9 @@ class Cuts(Stepwise):
         made = self.one_step(lambda: self.bench.cut(block, (1, 0, 0, -1), keep='above'))
         self.assertEqual((made.below, made.above, made.lower_caps, self.volume(block)), (None, block, (), 48))
         self.bench.undo()
+        self.assertRaisesRegex(ValueError, 'above', self.bench.cut, block, (1, 0, 0, -1), keep='below', above=2)
         caps = self.one_step(lambda: self.bench.trim(block, (1, 1, 1, -6)))
         self.assertEqual((self.bench.listing().solids, len(caps), self.bench.plane(caps[0]).flat), ((block,), 1, True))
-
-    def test_in_a_draft(self):
-        block = self.bench.block((0, 0, 0), (4, 4, 4)).solid
-        before = self.bench.listing()
-        with self.bench.draft():
-            made = self.bench.cut(block, (1, -1, 0, 0))
-            self.assertEqual(self.count(made.above), (6, 9, 5, 0))
-            self.bench.trim(made.above, (0, 0, 1, -1))
-            self.assertEqual(self.volume(made.above), 8)
-        self.bench.undo()
-        self.assertEqual(self.bench.listing(), before)
-        with self.bench.draft():
-            self.refuse_in_draft('PlaneMisses', (1, 0, 0, -4))
-            self.refuse_in_draft('PlaneMisses', (1, 0, 0, 0))
-            self.refuse_in_draft('NotLattice', (7, 0, 0, -1))
-            self.refuse_in_draft('SolidTaken', (1, 0, 0, -1), above=1)
-            self.refuse_in_draft('NumberRange', (1, 0, 0, -1), above=1_000_001)
-            self.assertEqual(self.bench.listing(), before)
-
-    def refuse_in_draft(self, name, plane, **more):
-        with self.assertRaises(Refused) as caught:
-            self.bench.cut(1, plane, **more)
-        self.assertEqual(caught.exception.name, name)
-
-    def test_what_no_cut_can_do(self):
-        block = self.bench.block((0, 0, 0), (4, 4, 4)).solid
-        self.refuse('PlaneMisses', lambda: self.bench.cut(block, (1, 0, 0, -4)))
-        self.refuse('NotLattice', lambda: self.bench.cut(block, (7, 0, 0, -1)))
-        self.refuse('PlaneRange', lambda: self.bench.cut(block, (0, 0, 0, 1)))
-        self.refuse('NoSolid', lambda: self.bench.trim(7, (1, 0, 0, -1)))
-        self.refuse('SolidTaken', lambda: self.bench.cut(block, (1, 0, 0, -1), above=block))
 
 
 class Unions(Stepwise):
@@ -173,69 +108,6 @@ class Unions(Stepwise):
 
     def blocks(self, *boxes):
         return [self.bench.block(point, sizes).solid for point, sizes in boxes]
-
-    def test_two_blocks_become_one(self):
-        solids = self.blocks(((0, 0, 0), (4, 4, 4)), ((4, 0, 0), (3, 4, 4)))
-        self.assertEqual(self.one_step(lambda: self.bench.union(solids)), solids[0])
-        self.assertEqual((self.count(1), self.volume(1)), ((8, 12, 6, 0), 7 * 16))
-        self.assertEqual(self.bench.listing().only(1).faces.keys(), {1, 2, 3, 5, 6, 10})
-
-    def test_an_l_of_two_blocks(self):
-        solids = self.blocks(((0, 0, 0), (10, 4, 4)), ((0, 4, 0), (4, 6, 4)))
-        self.one_step(lambda: self.bench.union(solids))
-        self.assertEqual((self.count(1), self.volume(1)), ((12, 18, 8, 0), 160 + 96))
-
-    def test_part_on_part(self):
-        slab, column = self.blocks(((0, 0, 0), (10, 10, 2)), ((3, 3, 2), (4, 4, 8)))
-        self.one_step(lambda: self.bench.union([slab, column]))
-        self.assertEqual(self.count(slab), (16, 24, 11, 1))
-
-    def test_two_pairs_of_faces_close_a_ring(self):
-        one = self.bench.profile([(0, 0, 0), (12, 0, 0), (12, 4, 0), (8, 4, 0), (8, 2, 0), (4, 2, 0), (4, 4, 0), (0, 4, 0)], along=(0, 0, 3)).solid
-        other = self.bench.copy(one, mirror=(0, 1, 0, -4)).solid
-        self.one_step(lambda: self.bench.union([one, other]))
-        self.assertEqual((self.count(one), self.bench.count(one).sum), ((16, 24, 10, 2), 0))
-
-    def test_a_room_is_closed(self):
-        half = self.bench.block((0, 0, 0), (6, 6, 3)).solid
-        self.bench.pocket(self.bench.faces().top().one(), [(2, 2, 3), (4, 2, 3), (4, 4, 3), (2, 4, 3)], 1)
-        other = self.bench.copy(half, mirror=(0, 0, 1, -3)).solid
-        self.one_step(lambda: self.bench.union([half, other]))
-        self.assertEqual((self.count(half), len(self.bench.listing().shells(half)), self.volume(half)), ((16, 24, 12, 0), 2, 208))
-
-    def test_four_cubes_and_more_in_any_order(self):
-        solids = self.blocks(*(((2 * x, 2 * y, 0), (2, 2, 2)) for x, y in ((0, 0), (1, 1), (1, 0), (0, 1))))
-        self.one_step(lambda: self.bench.union(solids[1::-1] + solids[2:]))
-        self.assertEqual((self.count(2), self.volume(2), self.bench.listing().solids), ((8, 12, 6, 0), 32, (2,)))
-
-    def test_a_cut_and_a_union_leave_what_was(self):
-        self.bench.block((0, 0, 0), (6, 6, 6))
-        self.bench.hole(1, [(2, 2, 6), (4, 2, 6), (4, 4, 6), (2, 4, 6)])
-        count, volume = self.bench.count(1), self.volume(1)
-        for plane in ((1, 0, 0, -3), (1, -1, 0, 0), (1, 1, 1, -9)):
-            made = self.one_step(lambda: self.bench.cut(1, plane))
-            self.one_step(lambda: self.bench.union([made.below, made.above]))
-            self.assertEqual((self.bench.count(1), self.volume(1)), (count, volume))
-
-    def test_solids_that_cross_or_lie_apart(self):
-        solids = self.blocks(((0, 0, 0), (4, 4, 4)), ((5, 0, 0), (4, 4, 4)), ((2, 2, 2), (4, 4, 4)), ((0, 0, 0), (2, 2, 2)))
-        self.assertEqual(self.one_step(lambda: self.bench.union(solids)), solids[0])
-        self.assertEqual(self.volume(1), 64 + 64 + 64 - 8 - 1 * 2 * 2)
-
-    def test_a_keyway_into_a_bore(self):
-        hub = self.bench.block((0, 0, 0), (40, 40, 20))
-        self.bench.hole(hub.top, [(16, 10, 20), (24, 10, 20), (30, 16, 20), (30, 24, 20), (24, 30, 20), (16, 30, 20), (10, 24, 20), (10, 16, 20)])
-        key = self.bench.block((18, 26, 0), (4, 7, 20)).solid
-        self.assertEqual(self.one_step(lambda: self.bench.subtract(hub.solid, [key])), hub.solid)
-        self.assertEqual((self.volume(1), self.count(1)), (25200, (32, 48, 18, 2)))
-        with self.assertRaisesRegex(ValueError, 'tools: the solid 1 itself'):
-            self.bench.subtract(1, [1])
-
-    def test_what_solids_have_in_common(self):
-        one, other, far = self.blocks(((0, 0, 0), (4, 4, 4)), ((1, 2, 3), (4, 4, 4)), ((9, 9, 9), (1, 1, 1)))
-        self.assertEqual(self.refuse('NothingLeft', lambda: self.bench.intersect([one, far])).value, one)
-        self.assertEqual(self.one_step(lambda: self.bench.intersect([one, other])), one)
-        self.assertEqual(self.volume(one), 3 * 2)
 
     def test_a_factor_that_makes_corners_whole(self):
         wedge = self.bench.profile([(0, 0, 0), (12, 0, 0), (0, 0, 1)], along=(0, 5, 0)).solid
@@ -264,34 +136,6 @@ class Unions(Stepwise):
         self.assertEqual(([self.volume(part) for part in parts], parts[0], len(parts)), ([64, 8], left, 2))
         self.assertEqual({self.bench.labels['solid', part].name for part in parts}, {'both'})
 
-    def test_seams_are_joined(self):
-        left, right = self.blocks(((0, 0, 0), (4, 4, 4)), ((4, 0, 0), (4, 4, 4)))
-        self.bench.glue_all([left, right])
-        self.assertEqual(self.one_step(lambda: self.bench.join_faces(left)), left)
-        self.assertEqual(self.count(left), (8, 12, 6, 0))
-
-    def test_what_can_not_be_one(self):
-        self.blocks(((0, 0, 0), (4, 4, 4)), ((4, 4, 0), (2, 2, 2)))
-        self.assertEqual(self.refuse('Meets', lambda: self.bench.union([1, 2])).value, 1)
-        self.refuse('NoSolid', lambda: self.bench.union([1, 9]))
-        bent = self.bench.lamina([(0, 0, 0), (4, 0, 0), (4, 4, 1), (0, 4, 0)]).solid
-        self.refuse('NotFlat', lambda: self.bench.cut(bent, (1, 0, 0, -2)))
-        self.refuse('NotFlat', lambda: self.bench.union([bent, 2]))
-
-    def test_a_union_that_is_refused_half_way(self):
-        self.blocks(((0, 0, 0), (4, 4, 4)), ((4, 0, 0), (4, 4, 4)), ((8, 4, 4), (4, 4, 4)))
-        self.refuse('Meets', lambda: self.bench.union([1, 2, 3]))
-        with self.bench.draft():
-            self.refuse('Meets', lambda: self.bench.union([1, 2, 3]))
-            self.refuse('Meets', lambda: self.bench.union([2, 3]))
-            self.bench.union([1, 2])
-        self.assertEqual(self.bench.solids().numbers, (1, 3))
-
-    def test_solids_in_any_order(self):
-        self.blocks(*(((4 * place, 0, 0), (4, 4, 4)) for place in range(6)))
-        self.assertEqual(self.one_step(lambda: self.bench.union([3, 6, 1, 5, 2, 4])), 3)
-        self.assertEqual((self.count(3), self.volume(3)), ((8, 12, 6, 0), 24 * 16))
-
 
 class RandomCuts(unittest.TestCase):
     """RANDOM_CUTS of the environment may name how many parts are cut."""
@@ -300,31 +144,28 @@ class RandomCuts(unittest.TestCase):
         told = Counter()
         for seed in range(int(os.environ.get('RANDOM_CUTS', 12))):
             with self.subTest(seed=seed), Workbench(library(), step=step_of(self, 'test_oblique_cuts_are_taken_back_by_unions')) as bench:
-                self.try_part(World(bench, Random(seed)), told)
+                self.try_part(bench, Random(seed), told)
         self.assertGreater(told['made anew'], 0)
         self.assertGreater(told['split'], 0)
 
-    def try_part(self, world, told):
-        """Six cuts of a part of cells."""
-        world.unit, random = 60, world.random
-        sizes = [random.randint(2, 4) for _ in AXES]
-        world.bench.block((0, 0, 0), tuple(60 * size for size in sizes))
-        world.solids[1] = cells_of((0, 0, 0), sizes)
+    def try_part(self, bench, random, told):
+        """Six cuts of a block less some others."""
+        bench.block((0, 0, 0), [60 * random.randint(2, 4) for _ in range(3)])
         for _ in range(4):
-            random.choice([world.notch, world.shoulder, world.slot])()
+            with suppress(Refused), bench.draft():
+                bench.subtract(1, [bench.block(*([60 * random.randint(*ends) for _ in range(3)] for ends in ((-1, 3), (1, 2))))])
         for _ in range(6):
             across = random.choice([(1, 0, 0), (0, 1, -1), (1, 1, 0), (1, -1, 1), (1, 2, 0), (2, -1, 1), (-2, 1, 2)])
-            corner = random.choice(world.bench.vertices()).point
-            point = [part + random.choice((0, 0, 30, -30, 60)) for part in corner]
-            self.try_cut(world, (*across, -sum(one * two for one, two in zip(across, point))), told)
+            point = [part + random.choice((0, 0, 30, -30, 60)) for part in random.choice(bench.vertices()).point]
+            self.try_cut(bench, (*across, -sum(one * two for one, two in zip(across, point))), told)
 
     def touches_itself(self, solid):
         """Whether gwb-check says so of a solid taken alone."""
         return any(finding.kind == 'touching' for finding in check(solid).findings)
 
-    def try_cut(self, world, plane, told):
-        """One cut, and the union of both parts, which is square by square what it was."""
-        bench, before, volume = world.bench, world.bench.listing(), volume_of(world.bench, 1)
+    def try_cut(self, bench, plane, told):
+        """One cut, and the union of both parts, whose faces are those that it had."""
+        before, volume = bench.listing(), volume_of(bench, 1)
         try:
             made = bench.cut(1, plane)
         except Refused as refused:
@@ -342,7 +183,6 @@ class RandomCuts(unittest.TestCase):
             self.assertGreater(way * sum(one * two for one, two in zip(bench.face(cap).normal, plane)), 0)
         bench.union([made.below, made.above])
         self.assertEqual(faces_of(bench.listing()), faces_of(before))
-        self.assertEqual(Counter(world.squares(bench.listing(), 1)), Counter(squares_of(world.solids[1])))
         bench.undo()
         bench.undo()
         self.assertEqual(bench.listing(), before)

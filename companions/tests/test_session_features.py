@@ -1,132 +1,29 @@
-"""Features make what arithmetic says, pass gwb-check, undo in as many steps as they were made, or are refused with nothing changed."""
+"""What Python says of features: what methods return and refuse, selections, and scripts that are saved and loaded."""
 
-import os
 import pickle
 import tempfile
 import unittest
 from fractions import Fraction
-from importlib import util
 from math import cos, pi, sin
 from pathlib import Path
-from random import Random
 from unittest import mock
 
-from support import STEP, TESTS, library, step_of
+from support import STEP, library, step_of
 
 from gwb import CompanionError, Impossible, NotOne, Refused, Unfit, Workbench
 from gwb.checks.check import check
 from gwb.geometry.measures import area_vector
-from gwb.geometry.vectors import add
 from gwb.programs.playing import played
 from gwb.scripts.marks import mark_in
 
-PARTS = sorted((TESTS / 'parts').glob('*.py'))
 
-
-def part(path):
-    """A stored part: its module has `make(bench)`, and SOLIDS with six volumes each and STEPS."""
-    spec = util.spec_from_file_location(path.stem, path)
-    module = util.module_from_spec(spec)
-    spec.loader.exec_module(module)
-    return module
-
-
-class Parts(unittest.TestCase):
-    """Each stored part."""
-
-    def test_each_part(self):
-        self.assertGreaterEqual(len(PARTS), 12)
-        for path in PARTS:
-            with self.subTest(path.stem), Workbench(library(), step=STEP) as bench:
-                self.try_part(bench, part(path))
-
-    def try_part(self, bench, module):
-        solid = module.make(bench)
-        self.assertEqual(bench.volume(solid), module.VOLUME)
-        model = bench.listing()
-        self.assertEqual(check(model).findings, [])
-        for _ in range(module.STEPS):
-            self.assertNotEqual(bench.listing().solids, ())
-            bench.undo()
-        self.assertEqual(bench.listing().solids, ())
-        for _ in range(module.STEPS):
-            bench.redo()
-        self.assertEqual(bench.listing(), model)
-
-
-class RandomFeatures(unittest.TestCase):
-    """RANDOM_FEATURES of the environment may name how many pockets and holes."""
-
-    def test_random_pockets_and_holes(self):
-        random, left, made = Random(7), int(os.environ.get('RANDOM_FEATURES', 60)), 0
-        while left > 0:
-            with Workbench(library(), step=STEP) as bench:
-                bench.block((0, 0, 0), (30, 20, 10))
-                count = min(left, 10)
-                made += sum(self.try_feature(bench, random) for _ in range(count))
-                self.assertEqual(check(bench.listing()).findings, [])
-                left -= count
-        self.assertGreater(made, 0)
-
-    def try_feature(self, bench, random):
-        """One feature: whether it was made."""
-        face = random.choice(list(bench.solid(1).faces))
-        corners = list(zip(*face.points))
-        axes = [axis for axis in range(3) if face.normal[axis] == 0]
-        points = []
-        for u, v in random.choice((((0, 0), (3, 0), (3, 2), (0, 2)), ((0, 0), (4, 1), (1, 3)), ((0, 0), (3, 0), (0, 3), (3, 3)),
-                                   ((0, 0), (0, 4), (1, 1), (5, 1)))):
-            points.append(add(tuple(map(min, corners)), tuple((u, v)[axes.index(axis)] if axis in axes else 0 for axis in range(3))))
-        shift = tuple(random.randrange(max(max(along) - min(along), 1)) for along in corners)
-        shift = tuple(part if axis in axes else 0 for axis, part in enumerate(shift))
-        points = [add(point, shift) for point in points]
-        depth = random.randrange(1, 9)
-        before, script, volume = bench.listing(), bench.script(), bench.volume(1)
-        try:
-            made = bench.pocket(face, points, depth) if random.random() < 0.6 else bench.hole(face, points)
-        except Refused as refused:
-            self.assertTrue(isinstance(refused, Impossible) or refused.name == 'RepeatedPoint', refused)
-            self.assertEqual((bench.listing(), bench.script()), (before, script))
-            return False
-        area = max(map(abs, area_vector(points)))
-        if hasattr(made, 'other'):
-            depth = next(abs(sum(b) - sum(a)) for a, b in [bench.edge(self.rising(bench, made)).points])
-        self.assertEqual(bench.volume(1), volume - Fraction(area * depth, 2))
-        return True
-
-    def rising(self, bench, made):
-        """An edge that rises along a hole."""
-        ring = {edge.number for edge in bench.loop(made.loop).edges}
-        first, second = ({edge.number for edge in bench.face(side).edges} for side in made.sides[:2])
-        return next(iter(first & second - ring))
-
-
-class Refusals(unittest.TestCase):
-    """What isn't possible is refused by name, and nothing has changed."""
+class OnABlock(unittest.TestCase):
+    """A block of 10 by 10 by 10."""
 
     def setUp(self):
         self.bench = Workbench(library(), step=step_of(self, 'test_a_condition_of_a_command_says_what_it_means', 'test_parts_are_those_of_the_listing'))
         self.addCleanup(self.bench.close)
         self.block = self.bench.block((0, 0, 0), (10, 10, 10))
-
-    def refused(self, name, call):
-        before = (self.bench.listing(), self.bench.script())
-        with self.assertRaises(Refused) as caught:
-            call()
-        self.assertEqual(caught.exception.name, name)
-        self.assertEqual((self.bench.listing(), self.bench.script()), before)
-
-    def test_outlines(self):
-        bench, top = self.bench, self.block.top
-        bench.pocket(top, [(4, 4, 10), (6, 4, 10), (6, 6, 10), (4, 6, 10)], 2)
-        for name, points in (
-                ('FewPoints', [(1, 1, 10), (2, 2, 10)]), ('RepeatedPoint', [(1, 1, 10), (2, 1, 10), (1, 1, 10), (1, 2, 10)]),
-                ('NotInPlane', [(1, 1, 10), (2, 1, 10), (1, 2, 9)]), ('OutlineCrossed', [(1, 1, 10), (3, 1, 10), (1, 3, 10), (3, 3, 10), (2, 9, 10)]),
-                ('NoArea', [(1, 1, 10), (2, 1, 10), (3, 1, 10)]), ('OutlineOutside', [(1, 1, 10), (11, 1, 10), (1, 2, 10)]),
-                ('OutlineOutside', [(0, 1, 10), (2, 1, 10), (1, 2, 10)]), ('OutlineOutside', [(20, 20, 10), (22, 20, 10), (20, 22, 10)]),
-                ('OutlineAroundRing', [(3, 3, 10), (7, 3, 10), (7, 7, 10), (3, 7, 10)])):
-            with self.subTest(name):
-                self.refused(name, lambda points=points: bench.pocket(top, points, 1))
 
     def test_what_was_met(self):
         bench = Workbench(library(), step=1)
@@ -137,18 +34,43 @@ class Refusals(unittest.TestCase):
         ring = bench.pocket(block.top, [(3, 3, 10), (5, 3, 10), (5, 5, 10), (3, 5, 10)], 1).loop
         deep = [(6, 6, 10), (8, 6, 10), (8, 8, 10), (6, 8, 10)]
         for points, depth, cause, hit, point in (
-                ([(1, 1, 10), (12, 1, 10), (1, 2, 10)], 1, 'EdgeCrossed', edge, None), ([(6, 1, 10), (10, 5, 10), (6, 8, 10)], 1, 'EdgeTouched', edge, None),
+                ([(1, 1, 10), (12, 1, 10), (1, 2, 10)], 1, 'EdgeCrossed', edge, None),
                 ([(6, 1, 10), (10, 10, 10), (6, 8, 10)], 1, 'VertexTouched', corner, (10, 10, 10)),
                 ([(4, 4, 10), (8, 4, 10), (8, 8, 10), (4, 8, 10)], 1, 'RingMet', ('loop', ring), None),
                 ([(20, 20, 10), (22, 20, 10), (20, 22, 10)], 1, 'WhollyOutside', None, None),
-                ([(1, 1, 10), (2, 1, 10), (1, 2, 9)], 1, 'OffFace', ('face', block.top), (1, 2, 9)),
-                (deep, 10, 'TouchesFace', ('face', block.bottom), None),
-                (deep, 11, 'ComesThrough', ('face', block.bottom), None)):
+                (deep, 10, 'TouchesFace', ('face', block.bottom), None)):
             with self.subTest(cause), self.assertRaises(Impossible) as caught:
                 bench.pocket(block.top, points, depth)
             error = pickle.loads(pickle.dumps(caught.exception))
             self.assertEqual((error.cause, error.hit, error.point), (cause, hit, point))
             self.assertIn(f'{hit[0]} {hit[1]}' if hit else 'face', str(error))
+
+    def test_what_features_up_to_edges_return(self):
+        """And faces that a slot doesn't touch keep their numbers."""
+        bench, top = self.bench, self.block.top
+        before, edge = bench.listing(), bench.edges(between=(top, self.block.sides[1])).one()
+        slot = bench.slot(top, (4, 0, 10), (4, 10, 10), 2, 4)
+        after = bench.listing()
+        self.assertEqual([after.faces[face] for face in (2, 4, 6)], [before.faces[face] for face in (2, 4, 6)])
+        self.assertTrue(set(before.faces) < set(after.faces) and set(before.edges) < set(after.edges))
+        self.assertEqual((bench.plane(slot.floor[0]), {bench.face(wall).normal for wall in slot.walls}), ((0, 0, 1, -6, True), {(1, 0, 0), (-1, 0, 0)}))
+        groove = bench.groove(self.block.bottom, (4, 0, 0), (4, 10, 0), 2, 1)
+        self.assertEqual((groove.floor, {bench.face(wall).normal for wall in groove.walls}), ((), {(1, 0, -1), (-1, 0, -1)}))
+        self.assertEqual(bench.face(bench.chamfer(edge, 1)).normal, (1, 0, 1))
+        pad = bench.pad(self.block.sides[3], [(0, 2, 2), (0, 4, 2), (0, 4, 4), (0, 2, 4)], 3)
+        self.assertEqual((bench.plane(pad.top[0]), len(pad.walls)), ((-1, 0, 0, -3, True), 4))
+
+    def test_a_union_leaves_rings_where_they_are(self):
+        plate, commands = self.bench.block((0, 0, 20), (100, 60, 10)), []
+        for pockets in (0, 5):
+            for x in range(6, 20 * pockets, 20):
+                self.bench.pocket(plate.top, [(x, 30, 30), (x + 5, 30, 30), (x + 5, 35, 30), (x, 35, 30)], 4)
+            before = self.bench.script().count('\n')
+            self.bench.union([plate, self.bench.block((58, -3, 30), (2, 6, 5))])
+            commands.append(self.bench.script().count('\n') - before)
+            self.bench.undo()
+            self.bench.undo()
+        self.assertLessEqual(commands[1], commands[0] + 8)
 
     def test_what_was_met_is_said_by_what_would_do(self):
         bench = Workbench(library(), step=1)
@@ -162,35 +84,6 @@ class Refusals(unittest.TestCase):
         self.assertIn('all must be 5 times as large', str(caught.exception))
         bench.refine(5)
         self.assertEqual(len(bench.pocket(slope, outline, 2).sides), 3)
-
-    def test_pockets_and_holes(self):
-        bench, top = self.bench, self.block.top
-        square = [(1, 1, 10), (3, 1, 10), (3, 3, 10), (1, 3, 10)]
-        self.refused('Meets', lambda: bench.pocket(top, square, 10))
-        self.refused('Meets', lambda: bench.pocket(top, square, 11))
-        self.refused('NoFace', lambda: bench.pocket(99, square, 1))
-        bench.hole(self.block.sides[0], [(1, 0, 4), (3, 0, 4), (3, 0, 6), (1, 0, 6)])
-        self.refused('Meets', lambda: bench.pocket(top, square, 5))
-        self.refused('OutlineOutside', lambda: bench.hole(top, square))
-
-    def test_a_face_that_is_not_opposite(self):
-        bench = self.bench
-        wedge = bench.profile([(20, 0, 0), (30, 0, 0), (20, 0, 10)], along=(0, 10, 0))
-        bottom = bench.faces(solid=wedge.solid, normal=(0, 0, -1)).one()
-        self.refused('NotParallel', lambda: bench.hole(bottom, [(21, 1, 0), (23, 1, 0), (21, 3, 0)]))
-        slope = bench.faces(solid=wedge.solid, normal=(1, 0, 1)).one()
-        self.refused('OffLattice', lambda: bench.pocket(slope, [(25, 2, 5), (24, 2, 6), (24, 4, 6)], 1))
-        self.refused('NotAcross', lambda: bench.drill(slope, (25, 5, 5), 2, 4))
-
-    def test_glue_all(self):
-        bench = self.bench
-        others = [bench.block((10, 0, 0), (10, 10, 10)).solid, bench.block((20, 0, 0), (10, 10, 10)).solid]
-        far = bench.block((50, 0, 0), (10, 10, 10)).solid
-        self.refused('NoMatch', lambda: bench.glue_all([self.block.solid, far]))
-        self.assertEqual(bench.glue_all([self.block.solid, *others]), self.block.solid)
-        self.assertEqual(bench.volume(self.block.solid), 3000)
-        bench.undo()
-        self.assertEqual(len(bench.solids()), 4)
 
     def test_a_condition_of_a_command_says_what_it_means(self):
         one, other = (self.bench.block((x, 0, 0), (9, 9, 9)) for x in (200, 209))
@@ -292,20 +185,10 @@ class Refusals(unittest.TestCase):
         with self.assertRaisesRegex(Unfit, 'lone loop'):
             bench.face(self.block.top).area
 
-    def test_a_profile_either_way_round_and_either_way_along(self):
-        bench = self.bench
-        points = [(20, 0, 0), (60, 0, 0), (60, 5, 0), (25, 5, 0), (25, 40, 0), (20, 40, 0)]
-        for outline in (points, points[::-1]):
-            for height in (3, -3):
-                made = bench.profile(outline, along=(0, 0, height))
-                self.assertEqual(bench.volume(made.solid), 3 * 375)
-                for i, side in enumerate(made.sides):
-                    self.assertLessEqual({outline[i], outline[(i + 1) % 6]}, set(bench.face(side).points))
-
-
     def test_sides_follow_the_points(self):
         bench, top = self.bench, self.block.top
-        ways = (lambda points: bench.pocket(top, points, 2), lambda points: bench.boss(top, points, 2), lambda points: bench.hole(top, points))
+        ways = (lambda points: bench.pocket(top, points, 2), lambda points: bench.boss(top, points, 2), lambda points: bench.hole(top, points),
+                lambda points: bench.profile(points, along=(0, 0, 3)), lambda points: bench.profile(points, along=(0, 0, -3)))
         points = [(1, 1, 10), (5, 1, 10), (6, 4, 10), (3, 8, 10)]
         for outline in (points, points[::-1], points[2:] + points[:2]):
             for make in ways:

@@ -256,7 +256,7 @@ class RandomPrograms(unittest.TestCase):
             return at(*(random.randrange(-12, 13) for _ in range(3)))
         solids, faces, edges = bench.solids(), bench.faces(), bench.edges()
         word = random.choice(['block', 'profile', 'move', 'copy', 'turn', 'cut', 'drill', 'pocket', 'chamfer', 'slot', 'union', 'mirror', 'pattern', 'sketch',
-                              'boss', 'notch', 'trim', 'subtract', 'intersect', 'swing'])
+                              'boss', 'notch', 'trim', 'subtract', 'intersect', 'swing', 'pad', 'groove', 'shoulder', 'slopes'])
         if word == 'block' or len(solids) < 2:
             bench.block(spot(), at(*(random.randrange(3, 9) for _ in range(3))))
             return
@@ -275,6 +275,8 @@ class RandomPrograms(unittest.TestCase):
          'mirror': lambda: bench.mirror(solid, (1, 0, 0, far)), 'pattern': lambda: bench.pattern(solid, 2, at(40, 0, 0)),
          'boss': lambda: bench.boss(face, near, depth), 'notch': lambda: bench.notch(face, near, depth), 'trim': lambda: bench.trim(solid, (*plane, far)),
          'subtract': lambda: bench.subtract(solid, [other]), 'intersect': lambda: bench.intersect([solid, other]),
+         'pad': lambda: bench.pad(face, near, depth), 'groove': lambda: bench.groove(face, middle, (x, y, z), 2 * times, depth),
+         'shoulder': lambda: bench.shoulder(face, face.edges[0], size * times, depth), 'slopes': lambda: bench.chamfer_edges(face.edges[:2], size * times),
          'swing': lambda: bench.turn(solid, 'z', to=(4, 3), about=way),
          'sketch': lambda: bench.ring(face, bench.sketch(face).rectangle(at(1, 1), at(1, 2)))}[word]()
 

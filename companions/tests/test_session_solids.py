@@ -3,16 +3,14 @@
 import unittest
 
 from support import library, scripts, step_of
-from voxel_parts import loaded
 
-from gwb import Lone, Refused, Workbench
+from gwb import Refused, Workbench
 from gwb.checks.check import check
 from gwb.geometry.measures import six_volume
 from gwb.geometry.moved import changed, mirroring
 from gwb.protocol.listing import model_of
 from gwb.protocol.replies import split_replies
 from gwb.protocol.soundness import require_sound
-from gwb.scripts.inversion import script_of
 
 
 def listings():
@@ -34,8 +32,7 @@ class Whole(unittest.TestCase):
     """Each way, and what it leaves."""
 
     def setUp(self):
-        self.bench = Workbench(library(), step=step_of(self, 'test_a_copy_says_what_became_of_each_thing', 'test_a_wire_and_a_bare_solid',
-                                                       'test_points_follow', 'test_where_no_point_can_lie'))
+        self.bench = Workbench(library(), step=step_of(self, 'test_a_copy_says_what_became_of_each_thing', 'test_points_follow', 'test_where_no_point_can_lie'))
         self.addCleanup(self.bench.close)
 
     def six_volume(self, solid):
@@ -61,34 +58,6 @@ class Whole(unittest.TestCase):
             act()
         self.assertEqual((caught.exception.name, caught.exception.value), (name, value))
         self.assertEqual((self.bench.listing(), self.bench.script()), (before, script))
-
-    def test_whatever_a_model_has(self):
-        tried = 0
-        for stem, model in listings():
-            for solid in model.solids:
-                with self.subTest(stem, solid=solid), loaded('\n'.join(script_of(model)), library()) as self.bench:
-                    tried += self.try_ways(model, solid)
-        self.assertGreater(tried, 300)
-
-    def try_ways(self, model, solid):
-        """Six ways with one solid of a model: how many. The others stay as they were."""
-        rest = [model.only(other) for other in model.solids if other != solid]
-        volume = self.six_volume(solid)
-        for act in (lambda: self.bench.move(solid, (1, -2, 3)), lambda: self.bench.turn(solid, 'y', degrees=270),
-                    lambda: self.bench.mirror(solid, (1, -1, 0, 0)), lambda: self.bench.mirror(solid, (0, 0, 3, -6))):
-            self.one_step(act)
-            after = self.bench.listing()
-            self.assertEqual([after.only(other) for other in model.solids if other != solid], rest)
-            self.assertEqual((after.solids, list(after.faces), list(after.edges)), (model.solids, list(model.faces), list(model.edges)))
-            self.assertEqual(self.six_volume(solid), volume)
-        made = self.one_step(lambda: self.bench.copy(solid, mirror=(1, 0, 0, 0)))
-        self.assertEqual(self.six_volume(made.solid), volume)
-        self.assertEqual(self.bench.count(made.solid), self.bench.count(solid))
-        self.one_step(lambda: self.bench.delete(solid))
-        after = self.bench.listing()
-        self.assertEqual([after.only(other) for other in model.solids if other != solid], rest)
-        self.assertEqual(set(after.solids), {*model.solids, made.solid} - {solid})
-        return 6
 
     def test_points_follow(self):
         block = with_hole(self.bench)
@@ -157,13 +126,6 @@ class Whole(unittest.TestCase):
                 self.assertEqual(self.six_volume(made.solid), self.six_volume(block.solid))
         self.refuse('PointRange', 1, lambda: self.bench.pattern_around(block, 2, 'z', about=(999_999_999, 999_999_999, 0)))
 
-    def test_numbers_of_a_copy_were_never_in_use(self):
-        gone = self.bench.block((0, 0, 0), (1, 1, 1))
-        self.bench.undo()
-        block = self.bench.block((0, 0, 0), (1, 1, 1), solid=5)
-        made = self.bench.copy(block.solid)
-        self.assertEqual((made.solid, made.face(block.top), made.vertex(block.vertices[0])), (6, gone.top + 6, 9))
-
     def test_low_numbers(self):
         block = with_hole(self.bench)
         self.bench.mvfs((40, 0, 0), solid=1_000_000, face=1_000_000)
@@ -180,23 +142,6 @@ class Whole(unittest.TestCase):
         self.bench.undo()
         self.assertEqual(self.bench.labels, labels)
 
-    def test_in_a_draft(self):
-        block = with_hole(self.bench)
-        before = self.bench.listing()
-        with self.bench.draft():
-            made = self.bench.copy(block.solid, move=(20, 0, 0))
-            self.bench.delete(block.solid)
-            self.bench.mirror(made.solid, (1, 0, 0, 0))
-        self.assertEqual(self.bench.listing().solids, (made.solid,))
-        self.bench.undo()
-        self.assertEqual(self.bench.listing(), before)
-
-    def test_no_such_solid(self):
-        self.bench.block((0, 0, 0), (1, 1, 1))
-        for act in (self.bench.delete, self.bench.copy, lambda solid: self.bench.move(solid, (1, 0, 0)), lambda solid: self.bench.turn(solid, 'x'),
-                    lambda solid: self.bench.mirror(solid, (1, 0, 0, 0)), lambda solid: self.bench.pattern(solid, 2, (1, 0, 0))):
-            self.refuse('NoSolid', 2, lambda: act(2))
-
     def test_where_no_point_can_lie(self):
         block = self.bench.block((0, 0, 0), (1, 2, 3))
         self.refuse('PointRange', 2, lambda: self.bench.move(block.solid, (1_000_000_000, 0, 0)))
@@ -206,41 +151,6 @@ class Whole(unittest.TestCase):
         self.refuse('OffLattice', 2, lambda: self.bench.copy(block.solid, mirror=(1, 2, 0, 0)))
         self.bench.turn(block.solid, 'x', degrees=36 * 10 ** 12)
         self.assertEqual(self.bench.vertices(at=(1, 2, 3)).one().number, 7)
-
-    def test_numbers_in_gaps_where_the_last_one_is_in_use(self):
-        self.bench.mvfs((0, 0, 0), solid=1_000_000)
-        self.bench.mvfs((0, 0, 0), face=1_000_000, solid=1)
-        self.assertEqual(self.bench.copy(1).solid, 2)
-
-    def test_arguments(self):
-        block = self.bench.block((0, 0, 0), (1, 1, 1)).solid
-        for error, part, act in (
-                (TypeError, 'vector', lambda: self.bench.move(block, 1)), (ValueError, 'axis', lambda: self.bench.turn(block, 'w')),
-                (TypeError, 'times', lambda: self.bench.turn(block, 'x', 1)), (TypeError, 'about', lambda: self.bench.turn(block, 'x', about=0)),
-                (ValueError, 'plane', lambda: self.bench.mirror(block, (0, 0, 0, 1))),
-                (ValueError, 'mirror', lambda: self.bench.copy(block, mirror=(0, 0, 0, 0))),
-                (ValueError, 'count', lambda: self.bench.pattern(block, 1, (1, 0, 0))),
-                (ValueError, 'step', lambda: self.bench.pattern(block, 2, (0, 0, 0))),
-                (ValueError, 'factor', lambda: self.bench.scale(0)), (TypeError, 'solid', lambda: self.bench.delete('1')),
-                (ValueError, 'keep', lambda: self.bench.cut(block, (1, 0, 0, 0), keep='all')),
-                (ValueError, 'above', lambda: self.bench.cut(block, (1, 0, 0, 0), keep='below', above=2)),
-                (ValueError, 'solids', lambda: self.bench.union([block])), (ValueError, 'solids', lambda: self.bench.union([block, block])),
-                (ValueError, 'depth', lambda: self.bench.notch(1, [(0, 0, 1)], 0)), (ValueError, 'width', lambda: self.bench.chamfer(1, 0)),
-                (ValueError, 'width', lambda: self.bench.slot(1, (0, 0, 1), (1, 0, 1), 0, 1)),
-                (ValueError, 'other', lambda: self.bench.chamfer(1, 1, -1)),
-                (TypeError, 'edge', lambda: self.bench.shoulder(1, None, 1, 1))):
-            before = self.bench.script()
-            with self.subTest(part), self.assertRaisesRegex(error, part):
-                act()
-            self.assertEqual(self.bench.script(), before)
-
-    def test_a_wire_and_a_bare_solid(self):
-        bare = self.bench.mvfs((1, 2, 3))
-        self.bench.mev(Lone(bare.loop), Lone(bare.loop), (4, 5, 6))
-        made = self.bench.copy(bare.solid, move=(0, 0, 1))
-        self.assertEqual(sorted(self.bench.listing().only(made.solid).vertices.values()), [(1, 2, 4), (4, 5, 7)])
-        self.one_step(lambda: self.bench.delete(bare.solid))
-        self.assertEqual(self.bench.listing().solids, (made.solid,))
 
     def test_mirrored_twice_is_as_before(self):
         for stem, model in listings():
