@@ -1,9 +1,9 @@
 """Drafts: their steps are one command, or leave no trace; over the program as over the library."""
 
-import ctypes
 import os
 import tempfile
 import unittest
+from contextlib import suppress
 from random import Random
 
 from support import STEP, as_listed, library
@@ -205,6 +205,29 @@ class Drafts(unittest.TestCase):
             inner.__exit__(None, None, None)
         self.assertEqual(self.bench.listing(), made)
 
+    def test_memory_is_refused_in_it(self):
+        lines = self.bench._kernel.lines
+        command = lines.command
+
+        def refusing(*_):
+            lines.command = command
+            raise MemoryRefused('memory was refused')
+
+        for is_caught in (True, False):
+            with self.subTest(is_caught=is_caught), suppress(MemoryRefused), self.bench.draft():
+                cut(self.bench)
+                made, lines.command = self.bench.listing(), refusing
+                with suppress(*([MemoryRefused] if is_caught else [])):
+                    self.bench.mvfs((30, 0, 0))
+                self.assertEqual((is_caught, self.bench.listing()), (True, made))
+            if is_caught:
+                self.assertEqual(self.bench.listing(), made)
+                self.bench.undo()
+                self.bench.block((20, 0, 0), (1, 1, 1))
+                self.both = self.bench.listing()
+                self.bench.undo()
+        self.nothing_has_changed()
+
     def test_numbers_after_one_that_was_given_up(self):
         with self.assertRaises(GivenUp), self.bench.draft():
             made = self.bench.mvfs((30, 30, 30))
@@ -287,235 +310,6 @@ class Drafts(unittest.TestCase):
             self.bench.pocket(self.block.bottom, [(1, 1, 0), (1, 4, 0), (4, 1, 0)], 2)
         self.assertEqual(caught.exception.name, 'NumbersSpent')
         self.half_has_left_no_trace()
-
-
-class Twelve(unittest.TestCase):
-    """A hole through a block, which gets longer by a block that is cut and glued on: twelve commands, with numbers of their own."""
-
-    def setUp(self):
-        self.bench = bench = Workbench(library(), step=STEP)
-        self.addCleanup(bench.close)
-        bench.block((0, 0, 0), (9, 9, 9))
-        bench.block((0, 20, 0), (1, 1, 1))
-        self.both = bench.listing()
-        bench.undo()
-        self.held, self.before = bench.listing(), bench.script()
-        self.commands = [
-            lambda: bench.mev(7, 7, (2, 2, 9), edge=20, vertex=20), lambda: bench.kemr(20, loop=20),
-            lambda: bench.mev(Lone(20), Lone(20), (2, 5, 9), edge=21, vertex=21), lambda: bench.mev(-21, -21, (5, 5, 9), edge=22, vertex=22),
-            lambda: bench.mev(-22, -22, (5, 2, 9), edge=23, vertex=23), lambda: bench.mef(-23, 21, edge=24, face=20, loop=21),
-            lambda: bench.sweep(20, (0, 0, -9)), lambda: bench.kfmrh(2, 20), lambda: bench.block((9, 0, 0), (6, 9, 9), solid=2),
-            lambda: bench.split(2, (1, 0, 0, -12), above=3), lambda: bench.glue(4, self.face(2, 9)),
-            lambda: bench.glue(self.face(1, 12), self.face(3, 12))]
-        self.models = [self.held]
-        for command in self.commands:
-            command()
-            self.models.append(bench.listing())
-        self.script = bench.script()
-        for _ in self.commands:
-            bench.undo()
-        self.assertEqual(bench.listing(), self.held)
-        self.leave_a_block()
-
-    def leave_a_block(self):
-        """A block can be redone."""
-        self.bench.block((0, 20, 0), (1, 1, 1), solid=2)
-        self.bench.undo()
-
-    def face(self, solid, x):
-        """The face of a solid across the x axis at a place."""
-        return next(face for face in self.bench.faces(solid=solid) if all(point[0] == x for point in face.points))
-
-    def give(self, start=0, end=12):
-        for command in self.commands[start:end]:
-            command()
-
-    def require_made(self):
-        """All twelve are one command."""
-        self.assertEqual((self.bench.listing(), self.bench.script(), as_listed(self.bench)), (self.models[12], self.script, self.models[12]))
-        self.bench.undo(command=True)
-        self.assertEqual((self.bench.listing(), as_listed(self.bench)), (self.held, self.held))
-        with self.assertRaises(Refused):
-            self.bench.redo(), self.bench.redo()
-        self.assertEqual(self.bench.listing(), self.models[12])
-        self.bench.undo()
-
-    def require_nothing(self):
-        """There is no trace, and what could be redone still can."""
-        self.assertEqual((self.bench.listing(), self.bench.script()), (self.held, self.before))
-        self.bench.redo()
-        self.assertEqual(self.bench.listing(), self.both)
-        self.bench.undo()
-
-
-class TwelveCommands(Twelve):
-    """All of them in a draft."""
-
-    def test_in_a_draft(self):
-        with self.bench.draft():
-            for place, command in enumerate(self.commands, 1):
-                command()
-                self.assertEqual((self.bench.listing(), as_listed(self.bench)), (self.models[place],) * 2)
-        self.require_made()
-
-    def test_saved_and_loaded(self):
-        with self.bench.draft():
-            self.give()
-        with tempfile.TemporaryDirectory() as folder:
-            self.bench.save(f'{folder}/part.gwb')
-            with Workbench.load(f'{folder}/part.gwb', library()) as self.bench:
-                self.require_made()
-
-    def test_refused_at_each_step(self):
-        for place in range(13):
-            with self.bench.draft():
-                self.give(end=place)
-                for line in ('sweep 99 0 0 1', 'glue 1 1', 'split 1 0 0 1 5 9', 'block 1 0 0 0 1 1 1', 'lamina 4 0 0 0', 'kvfs 1'):
-                    self.assertTrue(self.bench.ask(line).is_complaint, line)
-                self.assertEqual(self.bench.listing(), self.models[place])
-                self.give(start=place)
-            self.require_made()
-            with self.assertRaises(Refused), self.bench.draft():
-                self.give(end=place)
-                self.bench.glue(1, 1)
-            self.assertEqual(self.bench.listing(), self.held)
-
-    def test_out_of_memory_at_each_step(self):
-        for place in range(12):
-            for is_caught in (True, False):
-                with self.subTest(place=place, is_caught=is_caught):
-                    self.out_of_memory(place, is_caught)
-
-    def out_of_memory(self, place, is_caught):
-        lines = self.bench._kernel.lines
-        command, refused = lines.command, MemoryRefused('memory was refused')
-
-        def refusing(*_):
-            lines.command = command
-            raise refused
-
-        try:
-            with self.bench.draft():
-                self.give(end=place)
-                lines.command = refusing
-                try:
-                    self.commands[place]()
-                except MemoryRefused:
-                    if not is_caught:
-                        raise
-                self.assertEqual(self.bench.listing(), self.models[place])
-                self.give(start=place)
-        except MemoryRefused:
-            self.require_nothing()
-        else:
-            self.require_made()
-        self.leave_a_block()
-
-    def test_marks_within_it(self):
-        for place in range(12):
-            for later in range(place, 12):
-                with self.bench.draft():
-                    self.give(end=place)
-                    with self.assertRaises(GivenUp), self.bench.draft():
-                        self.give(place, later)
-                        with self.bench.draft():
-                            self.give(start=later)
-                        self.assertEqual(self.bench.listing(), self.models[12])
-                        raise GivenUp
-                    self.assertEqual((self.bench.listing(), as_listed(self.bench)), (self.models[place],) * 2)
-                    self.give(start=place)
-                self.require_made()
-
-    def test_given_up_after_each_step(self):
-        for place in range(13):
-            with self.assertRaises(GivenUp), self.bench.draft():
-                with self.bench.draft():
-                    self.give(end=place)
-                raise GivenUp
-            self.require_nothing()
-
-
-class Heap(ctypes.Structure):
-    """A heap of libgwb.so: that of the C library, of which one request is refused."""
-
-    TAKEN = ctypes.PYFUNCTYPE(ctypes.c_void_p, ctypes.c_void_p, ctypes.c_size_t)
-    CHANGED = ctypes.PYFUNCTYPE(ctypes.c_void_p, ctypes.c_void_p, ctypes.c_void_p, ctypes.c_size_t)
-    RELEASED = ctypes.PYFUNCTYPE(None, ctypes.c_void_p, ctypes.c_void_p)
-    _fields_ = [('allocate', TAKEN), ('reallocate', CHANGED), ('release', RELEASED), ('user', ctypes.c_void_p)]
-
-    def __init__(self):
-        system = ctypes.CDLL(None)
-        for name, words in (('malloc', [ctypes.c_size_t]), ('realloc', [ctypes.c_void_p, ctypes.c_size_t]), ('free', [ctypes.c_void_p])):
-            getattr(system, name).argtypes, getattr(system, name).restype = words, None if name == 'free' else ctypes.c_void_p
-        self.requests, self.refused = 0, None
-        super().__init__(self.TAKEN(lambda _, size: self.taken(system.malloc, size)),
-                         self.CHANGED(lambda _, block, size: self.taken(system.realloc, block, size)),
-                         self.RELEASED(lambda _, block: system.free(block)), None)
-
-    def taken(self, take, *words):
-        self.requests += 1
-        return None if self.requests - 1 == self.refused else take(*words)
-
-    def refuse(self, request):
-        """Refuses a request, counted from 0 on, and no other one."""
-        self.requests, self.refused = 0, request
-
-
-class OutOfMemory(Twelve):
-    """Over the library each request for memory in the draft is refused in turn."""
-
-    def setUp(self):
-        use_heap, self.heap = ctypes.PyDLL(library()).gwb_use_heap, Heap()
-        use_heap.argtypes, use_heap.restype = [ctypes.c_void_p], ctypes.c_void_p
-        self.addCleanup(use_heap, use_heap(ctypes.addressof(self.heap)))
-        super().setUp()
-
-    def test_each_request_is_refused_in_turn(self):
-        self.caught(None)
-        requests = self.requests
-        told = sum(self.caught(request) for request in range(requests))
-        self.assertGreater(told, 5)    # (small blocks lie in pages, so there are few requests)
-        for request in range(requests):
-            self.not_caught(request)
-
-    def caught(self, request):
-        """The command for which memory is refused is given again; whether there was one."""
-        refusals = 0
-        self.heap.refuse(request)
-        try:
-            with self.bench.draft():
-                for place, command in enumerate(self.commands):
-                    try:
-                        command()
-                    except MemoryRefused:
-                        refusals += 1
-                        self.assertEqual((self.bench.listing(), as_listed(self.bench)), (self.models[place],) * 2)
-                        command()
-        except MemoryRefused:
-            self.heap.refuse(None)
-            self.require_nothing()
-            return True
-        self.assertLess(refusals, 2)
-        self.requests = self.heap.requests
-        self.heap.refuse(None)
-        self.require_made()
-        self.leave_a_block()
-        return refusals > 0
-
-    def not_caught(self, request):
-        """The draft is given up by it."""
-        self.heap.refuse(request)
-        try:
-            with self.bench.draft():
-                self.give()
-        except MemoryRefused:
-            self.heap.refuse(None)
-            self.require_nothing()
-        else:
-            self.heap.refuse(None)
-            self.require_made()
-            self.leave_a_block()
-        self.assertEqual(self.bench.listing(), self.held)
 
 
 class RandomDrafts(unittest.TestCase):
