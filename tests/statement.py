@@ -85,7 +85,7 @@ by which operators."""
 SHARED_ANCHOR = '#larger-commands'
 SHARED_SAYS = 'when a lamina, a block, a sweep, a glue and a split are refused, and what they make'
 # No line of the page is longer.
-WIDTH = 158
+WIDTH = 160
 # Where a longer one is broken at the earliest.
 INDENT = 20
 # So many lines has what the page quotes at most: a law, or a law with all that it rests on.
