@@ -202,7 +202,7 @@ built 'triangles are built' library_triangles.c "${CC:-cc}" -std=gnu11 -O2
 counted 'faces cut into triangles' "$dir/built/library_triangles"
 prints 'the example in Python' bindings/examples/block_python.expected bindings/examples/block.py "$dir/built/libgwb.so"
 if has rustc 'the crate and the example in Rust are built' 'the example in Rust' 'the tests in Rust, session' 'the tests in Rust, features' \
-    'the tests in Rust, session, with each block alone' 'one program in Rust'; then
+    'one program in Rust'; then
     tried 'the crate and the example in Rust are built' make_here rust
     prints 'the example in Rust' bindings/examples/block_rust.expected "$dir/built/block_rust"
     for name in session features; do
@@ -211,9 +211,6 @@ if has rustc 'the crate and the example in Rust are built' 'the example in Rust'
     tried 'one program in Rust is built' rustc --edition 2021 -O -L "dependency=$dir/built" -o "$dir/built/library_same_rust" \
         tests/library_same_rust.rs --extern "gwb=$dir/built/libgwb.rlib"
     set -- "$@" "$dir/built/library_same_rust"
-    tried 'the tests in Rust with each block alone are built' make -C bindings "ARCHIVE=$archive" "OUT=$dir/alone" 'CFLAGS=-O2 -DGWB_BLOCKS_ALONE' \
-        "$dir/alone/session_rust"
-    tried 'the tests in Rust, session, with each block alone' env GWB_BLOCKS_ALONE=1 "$dir/alone/session_rust"
 fi
 counted 'the programs of the page' tests/library_readme.py "$dir/built/libgwb.a"
 without_archive() {

@@ -8,7 +8,6 @@
 #include <iostream>
 #include <map>
 #include <numeric>
-#include <sstream>
 #include <string>
 
 using namespace gwb_session;
@@ -367,144 +366,6 @@ static void try_walls_and_copies()
     check(colours.all().size() == 2 && *colours.find(copy->of(block.top)) == "red", "and its copy");
 }
 
-// ---- what touched solids tell, beside what the whole model does: of a line all solids are compared
-
-// Gives random commands to a session as calls, and as lines to another one, and compares what both say of it.
-class Beside {
-public:
-    explicit Beside(std::uint32_t seed) : state_(seed)
-    {
-        for (std::int64_t place = 0; place < 4; place++)
-            give({"block " + std::to_string(place + 1) + " " + std::to_string(20 * place) + " 0 0 8 8 8"});
-    }
-    void step()
-    {
-        const std::uint32_t what = random(12);
-        if (what == 0)
-            compare("undo", follow_undo(calls_.attempt_), follow_undo(lines_.attempt_));
-        else if (what == 1)
-            compare("redo", follow_redo(calls_.attempt_), follow_redo(lines_.attempt_));
-        else if (what == 2)
-            follow_both({line(), line(), line()}, true);
-        else if (what == 3)
-            give({line()}); // which nobody follows
-        else
-            follow_both({line()}, false);
-    }
-
-private:
-    struct Side {
-        Workbench bench_;
-        Attempts attempt_ = bench_.attempt();
-    };
-
-    std::uint32_t random(std::uint32_t most) { return ((state_ = state_ * 1664525 + 1013904223) >> 8) % most; }
-    template <class Kind> std::string any()
-    {
-        std::vector<Kind> all;
-        for (Kind kind : calls_.bench_.numbers<Kind>())
-            all.push_back(kind);
-        return std::to_string(all.empty() ? 1 : all[random(static_cast<std::uint32_t>(all.size()))].number());
-    }
-    std::string number() { return std::to_string(static_cast<int>(random(9)) - 1); }
-    std::string line()
-    {
-        const std::string free = std::to_string(1000 + random(2000)), half = (random(2) == 0 ? "+" : "-") + any<Edge>();
-        switch (random(9)) {
-        case 0: return "block " + std::to_string(5 + random(90)) + " " + std::to_string(100 * random(30)) + " 50 0 8 8 8";
-        case 1:
-        case 2: return "split " + any<Solid>() + " " + (random(2) == 0 ? "0 0 1 -" : "0 1 0 -") + std::to_string(1 + random(7)) + " " + std::to_string(5 + random(90));
-        case 3: return "sweep " + any<Face>() + " " + number() + " " + number() + " " + number();
-        case 4: return "mev " + half + " " + half + " " + free + " " + free + " " + number() + " " + number() + " 9";
-        case 5: return "mef " + half + " " + (random(2) == 0 ? "+" : "-") + any<Edge>() + " " + free + " " + free + " " + free;
-        case 6: return "kev " + half;
-        case 7: return "kef " + half;
-        default: return "glue " + any<Face>() + " " + any<Face>();
-        }
-    }
-    // The same as a call.
-    static void call(Attempts &bench, const std::string &line)
-    {
-        std::istringstream words(line);
-        std::string word, sign;
-        words >> word;
-        const auto number = [&] {
-            std::int64_t value = 0;
-            words >> value;
-            return value;
-        };
-        const auto name = [&] { return static_cast<std::uint32_t>(number()); };
-        const auto half = [&] {
-            const std::int64_t value = number();
-            return value < 0 ? minus(Edge(static_cast<std::uint32_t>(-value))) : plus(Edge(static_cast<std::uint32_t>(value)));
-        };
-        gwb *g = bench.handle();
-        if (word == "kev" || word == "kef") {
-            word == "kev" ? gwb_kev(g, half().code()) : gwb_kef(g, half().code());
-        } else if (word == "mev" || word == "mef") {
-            const std::uint32_t one = half().code(), other = half().code(), edge = name(), next = name();
-            const std::int64_t x = number(), y = word == "mev" ? number() : 0;
-            word == "mev" ? gwb_mev(g, one, other, edge, next, x, y, number()) : gwb_mef(g, one, other, edge, next, static_cast<std::uint32_t>(x));
-        } else if (word == "glue") {
-            const std::uint32_t face = name();
-            gwb_glue(g, face, name());
-        } else {
-            const std::uint32_t first = name();
-            const std::int64_t x = number(), y = number(), z = number();
-            if (word == "sweep") {
-                gwb_sweep(g, first, x, y, z);
-                return;
-            }
-            const std::int64_t fourth = number(), fifth = number();
-            word == "split" ? gwb_split(g, first, x, y, z, fourth, static_cast<std::uint32_t>(fifth)) : gwb_block(g, first, x, y, z, fourth, fifth, number());
-        }
-    }
-    void give(const std::vector<std::string> &all)
-    {
-        for (const std::string &line : all) {
-            call(calls_.attempt_, line);
-            (void)lines_.attempt_.run(line);
-        }
-    }
-    void follow_both(const std::vector<std::string> &all, bool in_draft)
-    {
-        const auto drafted = [&](Side &side, auto give_one) {
-            return follow(side.attempt_, [&] {
-                std::optional<Draft> draft;
-                if (in_draft)
-                    draft.emplace(side.bench_.draft());
-                for (const std::string &line : all)
-                    give_one(side.attempt_, line);
-                if (in_draft && all[0].size() % 3 != 0)
-                    draft->commit();
-            });
-        };
-        const Changes one = drafted(calls_, call), other = drafted(lines_, [](Attempts &bench, const std::string &line) { (void)bench.run(line); });
-        compare(all[0], one, other);
-    }
-    void compare(const std::string &what, const Result<Changes> &one, const Result<Changes> &other)
-    {
-        check(static_cast<bool>(one) == static_cast<bool>(other) && calls_.bench_.listing() == lines_.bench_.listing(), what.c_str());
-        if (!one || !other)
-            return;
-        const bool are_faces = told(one->faces.made) == told(other->faces.made) && told(one->faces.removed) == told(other->faces.removed);
-        const bool are_edges = told(one->edges.made) == told(other->edges.made) && told(one->edges.removed) == told(other->edges.removed);
-        check(are_faces && are_edges && one->from == other->from && one->to == other->to, ("what touched solids tell: " + what).c_str());
-    }
-
-    std::uint32_t state_;
-    Side calls_, lines_;
-};
-
-static void try_touched()
-{
-    for (std::uint32_t seed = 0; seed < 20; seed++) {
-        Beside beside(seed);
-        for (int time = 0; time < 60; time++)
-            beside.step();
-    }
-}
-
 // A draft that is open when following begins, commands from before, and undo of those.
 static void try_what_was_before()
 {
@@ -575,8 +436,8 @@ static void try_costs()
 int main()
 {
     for (void (*part)() : {try_operators, try_nested, try_splits, try_gone, try_numbers_used_again, try_gone_unseen, try_became, try_last,
-                           try_followed_or_not, try_joined, try_renumbered, try_throws, try_walls_and_copies, try_touched, try_what_was_before,
-                           try_draft_given_up, try_costs}) {
+                           try_followed_or_not, try_joined, try_renumbered, try_throws, try_walls_and_copies, try_what_was_before, try_draft_given_up,
+                           try_costs}) {
         try {
             part();
         } catch (const std::exception &thrown) {

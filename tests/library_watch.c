@@ -1,5 +1,5 @@
 /* What is touched, and what it was (gwb_watch): a watched and recorded session beside one that isn't, by random calls and lines, over a heap that fills
- * its blocks and refuses requests. The watch decides no answer, and tells each face that is made or gone, or that it lost what was. The last line counts.
+ * its blocks and refuses requests. The watch decides no answer, and tells each face and edge that is made or gone, or that it lost what was. The last line counts.
  *
  *     library_watch [ROUNDS]     so many sessions: 200 where none is said */
 #include "checks.h"
@@ -8,7 +8,7 @@
 #include <stdlib.h>
 #include <string.h>
 
-enum { ROOM = 200000, TURNS = 80, FACES = 4000 };
+enum { ROOM = 200000, TURNS = 80, MOST = 4000, KINDS = 2 };
 
 static uint64_t seed = 5;
 static uint32_t below(uint32_t n)
@@ -73,7 +73,7 @@ static struct given any(const gwb *g)
     return it;
 }
 
-/* ---- the faces that are there, and those that gwb_compared tells */
+/* ---- the faces and edges that are there, and those that gwb_compared tells */
 
 static char listing[ROOM], other_listing[ROOM];
 
@@ -84,42 +84,48 @@ static bool are_alike(const gwb *g, const gwb *other)
            gwb_depth(g) == gwb_depth(other) && gwb_ahead(g) == gwb_ahead(other) && gwb_mark(g) == gwb_mark(other);
 }
 
-/* The births of the faces, by their numbers: 0 of what isn't there. */
-static void read_faces(const gwb *g, uint64_t *births)
+static const uint32_t kinds[KINDS] = {GWB_FACE, GWB_EDGE};
+typedef uint64_t births_of[KINDS][MOST];
+
+/* The births of what there is, by kinds and numbers: 0 of what isn't there. */
+static void read_births(const gwb *g, births_of births)
 {
-    for (uint32_t face = 0; face < FACES; face++)
-        births[face] = gwb_birth(g, GWB_FACE, face);
+    for (size_t kind = 0; kind < KINDS; kind++)
+        for (uint32_t number = 0; number < MOST; number++)
+            births[kind][number] = gwb_birth(g, kinds[kind], number);
 }
 
-static void check_faces(const gwb *g, bool are_made, const uint64_t *before, const uint64_t *after, const char *what)
+static void check_told(const gwb *g, uint32_t kind, bool are_made, const uint64_t *before, const uint64_t *after)
 {
-    static gwb_born_change rows[FACES];
-    static gwb_change changes[FACES];
-    static uint64_t told[FACES];
+    static gwb_born_change rows[MOST];
+    static gwb_change changes[MOST];
+    static uint64_t told[MOST];
     memset(told, 0, sizeof told);
-    bool is_right = gwb_compared(g, GWB_FACE, are_made, changes, FACES) == gwb_compared_births(g, GWB_FACE, are_made, rows, FACES);
-    for (size_t at = gwb_compared_births(g, GWB_FACE, are_made, rows, FACES); at-- > 0;) {
+    bool is_right = gwb_compared(g, kind, are_made, changes, MOST) == gwb_compared_births(g, kind, are_made, rows, MOST);
+    for (size_t at = gwb_compared_births(g, kind, are_made, rows, MOST); at-- > 0;) {
         told[rows[at].number] = rows[at].birth;
         is_right = is_right && rows[at].number == changes[at].number && rows[at].other == changes[at].other && (at == 0 || rows[at].number > rows[at - 1].number);
         is_right = is_right && (rows[at].other_birth == 0 || rows[at].other_birth == (are_made ? before : after)[rows[at].other]);
     }
-    for (uint32_t face = 0; face < FACES; face++)
-        is_right = is_right && told[face] == (after[face] != before[face] ? after[face] : 0);
-    check(is_right, what);
+    for (uint32_t number = 0; number < MOST; number++)
+        is_right = is_right && told[number] == (after[number] != before[number] ? after[number] : 0);
+    check(is_right, kind == GWB_FACE ? "faces that are made or gone" : "edges that are made or gone");
 }
 
-static uint64_t was[FACES], is[FACES];
+static births_of was, is;
 
-/* What happened since the faces were read: whether it is lost. */
+/* What happened since births were read: whether it is lost. */
 static bool compare(gwb *g, bool is_refused)
 {
     if (gwb_compare(g) == GWB_MEMORY) {
         check(is_refused && gwb_compared(g, GWB_FACE, true, NULL, 0) == 0, "what was is lost, though no memory was refused");
         return true;
     }
-    read_faces(g, is);
-    check_faces(g, true, was, is, "faces that are made");
-    check_faces(g, false, is, was, "faces that are gone");
+    read_births(g, is);
+    for (size_t kind = 0; kind < KINDS; kind++) {
+        check_told(g, kinds[kind], true, was[kind], is[kind]);
+        check_told(g, kinds[kind], false, is[kind], was[kind]);
+    }
     return false;
 }
 
@@ -135,7 +141,7 @@ static void round_of(gwb *g, gwb *other, struct requests *r, struct requests *ot
         if (below(12) == 0) {
             is_watched = gwb_watch(g, true) == GWB_OK;
             is_refused = false;
-            read_faces(g, was);
+            read_births(g, was);
         }
         const struct given it = any(g);
         const bool is_without = below(5) == 0;
@@ -198,7 +204,7 @@ static long give_all(gwb *g, bool is_watched)
         while (is_watched && at % 6 == 2 && gwb_watch(g, true) == GWB_MEMORY)
             ;
         if (at % 6 == 2)
-            read_faces(g, was);
+            read_births(g, was);
         while (give(g, &calls[at]) == GWB_MEMORY) {
             check(needs_memory(calls[at].word), "no memory for a call that needs none");
             check(replies(g, "memory\n"), "no memory, and a reply of another answer");

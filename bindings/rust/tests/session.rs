@@ -1,6 +1,6 @@
 //! A session from outside: what commands make, what refuses them, and what readers find.
 use gwb::{
-    lone, minus, plus, version, Became, Change, Draft, Edge, EdgeQuery, EdgeRow, Error, Face, FaceQuery, FaceRow, HalfEdge, Heap, Heir, Loop, Motion, Notes, Operators,
+    lone, minus, plus, version, Became, Change, Draft, Edge, EdgeQuery, EdgeRow, Error, Face, FaceQuery, FaceRow, HalfEdge, Heap, Heir, Loop, Motion, Notes,
     Plane, Point, Refusal, Session, Solid, Vertex,
 };
 use std::cell::Cell;
@@ -484,36 +484,6 @@ fn what_became_of_things_by_the_last_command() {
     assert_eq!(colours.iter(&session).collect::<Vec<_>>(), [(Face(1), &"red")]);
 }
 
-/// Each command tells, undone and redone too, what one that is followed tells, but for births.
-#[test]
-fn what_became_of_things_followed_or_not() {
-    type Command = fn(&mut Session) -> Result<(), Error>;
-    const AT_EDGE: [[i64; 3]; 4] = [[-1, 1, 4], [2, 1, 4], [2, 3, 4], [-1, 3, 4]];
-    let commands: [(&str, Command); 7] = [
-        ("union", |session| session.union(&[Solid(1), Solid(2)]).map(drop)),
-        ("subtract", |session| session.subtract(Solid(1), &[Solid(2)]).map(drop)),
-        ("notch", |session| session.notch(Face(1), &AT_EDGE, 2).map(drop)),
-        ("split", |session| session.split(Solid(1), [0, 0, 1, -2], None).map(drop)),
-        ("glue_all", |session| session.glue_all(&[Solid(1), Solid(2)])),
-        ("cut", |session| session.cut(Solid(1), [0, 0, 1, -2], None).map(drop)),
-        ("mev", |session| session.mev(plus(Edge(1)), plus(Edge(1)), None, None, [9, 9, 9]).map(drop)),
-    ];
-    fn numbers<N: Copy>(heirs: &[Heir<N>]) -> Vec<(N, N)> {
-        heirs.iter().map(|heir| (heir.old, heir.made)).collect()
-    }
-    let bare = |told: &Became| (numbers(&told.faces), numbers(&told.edges), numbers(&told.vertices));
-    for (name, command) in commands {
-        let (mut followed, mut session) = (blocks(), blocks());
-        let wanted = followed.followed(command).unwrap().1.became;
-        command(&mut session).unwrap();
-        assert_eq!(bare(&session.became().unwrap()), bare(&wanted), "{name}");
-        assert!(session.became().unwrap().edges.iter().all(|heir| (heir.old_birth, heir.made_birth) == (0, 0)), "{name}");
-        session.undo().unwrap();
-        session.redo().unwrap();
-        assert_eq!(bare(&session.became().unwrap()), bare(&wanted), "{name}, redone");
-    }
-}
-
 /// What is followed within another is told to both.
 #[test]
 fn followed_within_another() {
@@ -789,74 +759,26 @@ fn heaps_of_sessions() {
     assert!(matches!(unsafe { Session::new_in(&full.heap()) }, Err(Error::Memory)));
 }
 
-// ---- twelve commands in a draft
-
-type Step = fn(&mut Operators) -> Result<(), Error>;
-
-/// A hole through a block, which gets longer by a block that is cut and glued on.
-const TWELVE: [Step; 12] = [
-    |draft| draft.mev(plus(Edge(7)), plus(Edge(7)), Edge(20), Vertex(20), [2, 2, 9]).map(|_| ()),
-    |draft| draft.kemr(plus(Edge(20)), Loop(20)).map(|_| ()),
-    |draft| draft.mev(lone(Loop(20)), lone(Loop(20)), Edge(21), Vertex(21), [2, 5, 9]).map(|_| ()),
-    |draft| draft.mev(minus(Edge(21)), minus(Edge(21)), Edge(22), Vertex(22), [5, 5, 9]).map(|_| ()),
-    |draft| draft.mev(minus(Edge(22)), minus(Edge(22)), Edge(23), Vertex(23), [5, 2, 9]).map(|_| ()),
-    |draft| draft.mef(minus(Edge(23)), plus(Edge(21)), Edge(24), Face(20), Loop(21)).map(|_| ()),
-    |draft| draft.sweep(Face(20), [0, 0, -9]),
-    |draft| draft.kfmrh(Face(2), Face(20)),
-    |draft| draft.block(Solid(2), [9, 0, 0], [6, 9, 9]).map(|_| ()),
-    |draft| draft.split(Solid(2), [1, 0, 0, -12], Solid(3)).map(|_| ()),
-    |draft| draft.glue(Face(4), Face(30)),
-    |draft| draft.glue(Face(35), Face(39)),
-];
-
-/// Gives a step with one request for memory more each time, until that is enough: refused memory leaves no trace. Says how often it was refused.
-fn give_at_last(draft: &mut Draft<'_>, pool: &Pool, step: Step) -> i64 {
-    let before = draft.listing().unwrap();
-    for allowed in 0.. {
-        pool.left.set(allowed);
-        let told = step(draft);
-        pool.left.set(1_000_000);
-        if told.is_ok() {
-            return allowed;
-        }
-        assert_eq!((told, draft.listing().unwrap()), (Err(Error::Memory), before.clone()));
-    }
-    unreachable!()
-}
-
-/// What is refused, and what is given since a mark within a mark and taken back, leave no trace.
-fn go_back_and_forth(draft: &mut Draft<'_>) {
-    let (outer, before) = (draft.mark(), draft.listing().unwrap());
-    assert_eq!((draft.kfmrh(Face(2), Face(2)), draft.listing().unwrap()), (refused(Refusal::SameFace, 2), before.clone()));
-    draft.block(Solid(9), [0, 40, 0], [1, 1, 1]).unwrap();
-    let (inner, with_block) = (draft.mark(), draft.listing().unwrap());
-    draft.lamina(Solid(10), &[[0, 60, 0], [1, 60, 0], [0, 61, 0]]).unwrap();
-    draft.back(inner).unwrap();
-    assert_eq!(draft.listing().unwrap(), with_block);
-    draft.back(outer).unwrap();
-    assert_eq!(draft.listing().unwrap(), before);
-}
-
+/// Memory that is refused in a draft leaves no trace, and what was refused is given again.
 #[test]
-fn twelve_commands_are_one() {
+fn memory_refused_in_a_draft() {
     let pool = Pool::new(1_000_000);
     let heap = pool.heap();
     let mut session = unsafe { Session::new_in(&heap) }.unwrap();
-    session.block(Solid(1), [0, 0, 0], [9, 9, 9]).unwrap();
-    let held = listing(&session);
     let mut draft = session.draft().unwrap();
     let mut refusals = 0;
-    for step in TWELVE {
-        go_back_and_forth(&mut draft);
-        refusals += give_at_last(&mut draft, &pool, step);
+    for place in 0..200 {
+        let before = draft.listing().unwrap();
+        pool.left.set(0);
+        let told = draft.block(None, [9 * place, 0, 0], [4, 4, 4]);
+        pool.left.set(1_000_000);
+        if told.is_err() {
+            assert_eq!((told, draft.listing().unwrap()), (Err(Error::Memory), before));
+            draft.block(None, [9 * place, 0, 0], [4, 4, 4]).unwrap();
+            refusals += 1;
+        }
     }
-    // (where small blocks lie in pages, the first page has room for all of it, and the heap isn't asked)
-    assert!(refusals > 12 || std::env::var_os("GWB_BLOCKS_ALONE").is_none());
-    let made = draft.listing().unwrap();
+    assert!(refusals > 0);
     draft.commit().unwrap();
-    assert_eq!((session.depth(), listing(&session), session.six_volumes(Solid(1))), (2, made.clone(), Ok(6804)));
-    session.undo().unwrap();
-    assert_eq!(listing(&session), held);
-    session.redo().unwrap();
-    assert_eq!(listing(&session), made);
+    assert_eq!((session.depth(), session.numbers::<Solid>().count()), (1, 200));
 }
