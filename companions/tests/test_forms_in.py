@@ -229,7 +229,7 @@ class Obj(InFiles):
 
     def test_only_files_beside_it_are_read(self):
         outside = self.file(self.MATERIALS, 'outside.mtl')
-        Path(self.folder.name, 'in').mkdir()
+        (self.folder / 'in').mkdir()
         for name in ('../outside.mtl', outside):
             path = self.file(f'mtllib {name}\nusemtl skin\n' + obj(TETRAHEDRON, SIDES), 'in/part.obj')
             self.assertEqual(len(read_file(path).said), 1)
@@ -260,7 +260,7 @@ class Obj(InFiles):
         self.assertEqual(read_file(self.file('o box\n' + of_two)).looks, {('solid', 1): Appearance('box')})
 
     def test_a_pipe_in_the_place_of_its_materials(self):
-        os.mkfifo(Path(self.folder.name, 'part.mtl'))
+        os.mkfifo(self.folder / 'part.mtl')
         path = self.file('mtllib part.mtl\n' + obj(TETRAHEDRON, SIDES), 'part.obj')
         self.assertEqual(read_file(path).said, ['the material file part.mtl is not beside it: its colours are missing'])
 

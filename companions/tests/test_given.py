@@ -5,6 +5,7 @@ import unittest
 from pathlib import Path
 
 from support import InFolder, box, program, run, shells
+from test_forms_in import amf, amf_object, ply
 
 from gwb.errors import CompanionError
 from gwb.formats.appearance import Appearance, Said, comments
@@ -27,25 +28,15 @@ def listed(script: str) -> bytes:
     return subprocess.run([program()], input=(ascii_lines + 'list\n').encode(), capture_output=True, check=True).stdout
 
 
-def ply_of(model) -> str:
-    """The model's triangles as PLY, which no companion writes."""
+def unwritten(model) -> dict:
+    """The model's triangles in the forms that no companion writes."""
     mesh = mesh_of(model)
-    head = ['ply', 'format ascii 1.0', f'element vertex {len(mesh.vertices)}', *(f'property int {axis}' for axis in 'xyz'),
-            f'element face {len(mesh.triangles)}', 'property list uchar int vertex_indices', 'end_header']
-    places = {vertex: place for place, vertex in enumerate(mesh.vertices)}
-    return '\n'.join([*head, *(' '.join(map(str, model.vertices[vertex])) for vertex in mesh.vertices),
-                      *(' '.join(['3', *(str(places[vertex]) for vertex in triangle)]) for triangle in mesh.triangles)]) + '\n'
+    places, points = {vertex: place for place, vertex in enumerate(mesh.vertices)}, [model.vertices[vertex] for vertex in mesh.vertices]
 
-
-def amf_of(model) -> str:
-    """The model's triangles as AMF, which no companion writes."""
-    mesh = mesh_of(model)
-    places = {vertex: place for place, vertex in enumerate(mesh.vertices)}
-    corners = ''.join('<vertex><coordinates><x>{}</x><y>{}</y><z>{}</z></coordinates></vertex>'.format(*model.vertices[vertex]) for vertex in mesh.vertices)
-    objects = ''.join(f'<object id="{solid}"><mesh><vertices>{corners}</vertices><volume>' + ''.join(
-        '<triangle><v1>{}</v1><v2>{}</v2><v3>{}</v3></triangle>'.format(*(places[vertex] for vertex in triangle)) for triangle in mesh.triangles_of(solid))
-        + '</volume></mesh></object>' for solid in model.solids)
-    return f'<amf unit="millimeter">{objects}</amf>'
+    def faces(triangles):
+        return [[places[vertex] for vertex in triangle] for triangle in triangles]
+    objects = (amf_object(solid, (faces(mesh.triangles_of(solid)), ''), points=points) for solid in model.solids)
+    return {'ply': ply(points, faces(mesh.triangles), 'ascii'), 'amf': amf(''.join(objects)).encode()}
 
 
 def files_of(folder: Path) -> dict:
@@ -53,7 +44,7 @@ def files_of(folder: Path) -> dict:
     replies = listed(SCRIPT_TEXT)
     model = read_model(replies)
     held = {'script': SCRIPT_TEXT.encode(), 'replies': replies, 'listing': replies.partition(b'ok\nok\n')[2], 'step': step_text(model, LOOKS).encode(),
-            'ply': ply_of(model).encode(), 'amf': amf_of(model).encode(), **{form: FORMS[form].write(model, Said(LOOKS)) for form in MESHES}}
+            **unwritten(model), **{form: FORMS[form].write(model, Said(LOOKS)) for form in MESHES}}
     paths = {}
     for name, data in held.items():
         paths[name] = folder / f'part.{name}'

@@ -3,13 +3,11 @@
 import io
 import struct
 import subprocess
-import tempfile
 import unittest
 import zipfile
 from fractions import Fraction
-from pathlib import Path
 
-from support import STORED, box, examples, listing, model_in, program, run, turned
+from support import STORED, InFolder, box, examples, listing, model_in, program, run, turned
 
 from gwb.checks.check import check
 from gwb.errors import CompanionError, Unfit
@@ -86,17 +84,11 @@ def volumes(model):
     return sorted(six_volume(model, model.faces_of(solid)) for solid in model.solids)
 
 
-class InFiles(unittest.TestCase):
+class InFiles(InFolder):
     """What the tests share."""
 
-    def setUp(self):
-        self.folder = tempfile.TemporaryDirectory()
-        self.addCleanup(self.folder.cleanup)
-
     def file(self, data, name='part'):
-        path = Path(self.folder.name, name)
-        path.write_bytes(as_bytes(data))
-        return str(path)
+        return super().file(name, data)
 
     def read(self, data, **words):
         return imported(self.file(data), **words)

@@ -9,16 +9,13 @@ from collections import Counter
 from fractions import Fraction
 from random import Random
 
-from support import STEP, box, library, listing, model_in, turned
+from support import STEP, library
 
 from gwb import Refused, Workbench
-from gwb.errors import Unfit
-from gwb.formats.mesh import mesh_of
 from gwb.formats.forms import FORMS, MESHES
 from gwb.formats.models_of_parts import model_of_parts
 from gwb.formats.polygon_files import read_parts
 from gwb.formats.step.write import step_text
-from gwb.geometry.measures import six_volume
 from gwb.geometry.nesting import nests
 from gwb.joining.soup import soup_of
 from gwb.joining.surfaces import surface_of, with_joined_faces

@@ -92,21 +92,6 @@ class Session(unittest.TestCase):
         self.bench = Workbench(library(), step=step_of(self, 'test_a_closed_session', 'test_words_are_separated_as_the_program_separates_them'))
         self.addCleanup(self.bench.close)
 
-    def test_a_block_with_a_hole_without_a_number_given(self):
-        bench = self.bench
-        block = bench.block((0, 0, 0), (6, 6, 6))
-        corner_there = bench.listing().loops[bench.listing().faces[block.top].outer].halves[0]
-        spur = bench.mev(corner_there, corner_there, (2, 2, 6))
-        ring = bench.kemr(spur.edge)
-        first = bench.mev(Lone(ring), Lone(ring), (2, 4, 6))
-        second = bench.mev(-first.edge, -first.edge, (4, 4, 6))
-        third = bench.mev(-second.edge, -second.edge, (4, 2, 6))
-        inside = bench.mef(-third.edge, first.edge)
-        bench.sweep(inside.face, (0, 0, -6))
-        bench.kfmrh(block.bottom, inside.face)
-        self.assertEqual(bench.count(block.solid), (16, 24, 10, 2, 0))
-        self.assertEqual(6 * bench.volume(block.solid), 1152)
-
     def test_fresh_numbers_are_those_of_the_model(self):
         bench = self.bench
         bench.mvfs((0, 0, 0), solid=7, face=40, loop=50, vertex=60)
@@ -129,29 +114,6 @@ class Session(unittest.TestCase):
             halves = set(map(abs, model.face_halves(side)))
             self.assertLessEqual({edge, rising, far}, halves)
             self.assertEqual(model.edges[rising], (below, vertex))
-
-    def test_a_sweep_of_a_face_with_a_ring(self):
-        bench = self.bench
-        lamina = bench.lamina([(0, 0, 0), (9, 0, 0), (9, 9, 0), (0, 9, 0)])
-        spur = bench.mev(lamina.edges[0], lamina.edges[0], (2, 2, 0))
-        ring = bench.kemr(spur.edge)
-        first = bench.mev(Lone(ring), Lone(ring), (2, 4, 0))
-        second = bench.mev(-first.edge, -first.edge, (4, 4, 0))
-        bench.mef(-second.edge, first.edge)
-        swept = bench.sweep(lamina.front, (0, 0, 1))
-        model = bench.listing()
-        self.assertEqual(sorted(swept.sides), [face for face in model.faces if face > swept.face and face >= min(swept.sides)])
-        for side, rising, far in zip(swept.sides, swept.rising, swept.far):
-            self.assertLessEqual({rising, far}, set(map(abs, model.face_halves(side))))
-
-    def test_a_split_gives_both_caps(self):
-        bench = self.bench
-        block = bench.block((0, 0, 0), (4, 4, 4))
-        parts = bench.split(block.solid, (1, 0, 0, -2))
-        self.assertEqual([bench.plane(face) for face in parts.lower_caps], [(1, 0, 0, -2, True)])
-        self.assertEqual([bench.plane(face) for face in parts.upper_caps], [(-1, 0, 0, 2, True)])
-        self.assertEqual(bench.volume(block.solid), bench.volume(parts.solid))
-        self.assertEqual(bench.glue(parts.lower_caps[0], parts.upper_caps[0]), block.solid)
 
     def test_a_refusal_has_its_name_and_value(self):
         bench = self.bench
@@ -187,20 +149,6 @@ class Session(unittest.TestCase):
         fault = complaint('block 1 ..', reply)
         self.assertIsInstance(fault, Faulted)
         self.assertEqual((fault.name, fault.number), ('BadNumber', 2))
-
-    def test_undo_and_redo(self):
-        bench = self.bench
-        self.assertEqual(bench.listing().solids, ())
-        block = bench.block((0, 0, 0), (1, 2, 3))
-        held = bench.listing()
-        bench.undo()
-        self.assertEqual(bench.listing().solids, ())
-        bench.redo()
-        self.assertEqual(bench.listing(), held)
-        self.assertEqual(bench.volume(block.solid), 6)
-        with self.assertRaises(Refused) as caught:
-            bench.redo()
-        self.assertEqual(caught.exception.name, 'NothingToRedo')
 
     def test_numbers_after_lines_of_the_language(self):
         bench = self.bench

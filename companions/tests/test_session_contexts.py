@@ -10,7 +10,7 @@ from pathlib import Path
 
 from support import STEP, library, step_of
 
-from gwb import NoDraft, OutOfStep, Refused, Workbench
+from gwb import OutOfStep, Refused, Workbench
 
 
 class GivenUp(Exception):
@@ -165,16 +165,6 @@ class Contexts(unittest.TestCase):
         self.bench.block((10, 0, 0), (1, 1, 1))
         del block
         self.assertEqual(len(self.bench.solids()), 1)
-        self.is_free()
-
-    def test_blocks_that_end_in_another_order(self):
-        outer, inner = self.bench.draft(), self.bench.draft()
-        outer.__enter__()
-        inner.__enter__()
-        self.bench.block((10, 0, 0), (1, 1, 1))
-        outer.__exit__(None, None, None)
-        self.assertRaises(NoDraft, inner.__exit__, None, None, None)
-        self.assertEqual(len(self.bench.solids()), 2)
         self.is_free()
 
     def test_a_workbench_that_is_closed_in_another_task(self):

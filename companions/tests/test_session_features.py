@@ -4,15 +4,12 @@ import pickle
 import tempfile
 import unittest
 from fractions import Fraction
-from math import cos, pi, sin
 from pathlib import Path
 from unittest import mock
 
 from support import STEP, library, step_of
 
 from gwb import CompanionError, Impossible, NotOne, Refused, Unfit, Workbench
-from gwb.checks.check import check
-from gwb.geometry.measures import area_vector
 from gwb.programs.playing import played
 from gwb.scripts.marks import mark_in
 
@@ -204,34 +201,6 @@ class OnABlock(unittest.TestCase):
         drilled = bench.drill(top, (5, 5, 10), 3, 8)
         for i, side in enumerate(drilled.sides):
             self.assertLessEqual({drilled.points[i], drilled.points[(i + 1) % 8]}, set(bench.face(side).points))
-
-    def test_an_outline_of_many_points(self):
-        """A wheel of 20 teeth and 80 points, as a solid, a ring, a pocket and a hole; and a round one."""
-        bench, points = self.bench, []
-        for place in range(80):
-            reach, angle = (200, 220)[place % 4 in (1, 2)], 2 * pi * place / 80
-            points.append((round(300 + reach * cos(angle)), round(300 + reach * sin(angle)), 0))
-        area = abs(area_vector(points)[2])
-        for outline in (points, points[::-1]):
-            for height in (5, -5):
-                wheel = bench.profile(outline, along=(0, 0, height))
-                self.assertEqual(bench.volume(wheel), Fraction(5 * area, 2))
-                for i, side in enumerate(wheel.sides):
-                    self.assertLessEqual({outline[i], outline[(i + 1) % 80]}, set(bench.face(side).points))
-                bench.undo()
-            plate = bench.block((0, 0, -30), (600, 600, 30))
-            self.assertEqual(len(bench.face(bench.ring(plate.top, outline).face).edges), 80)
-            bench.undo()
-            bench.pocket(plate.top, outline, 5)
-            self.assertEqual(bench.volume(plate), 600 * 600 * 30 - Fraction(5 * area, 2))
-            bench.undo()
-            bench.hole(plate.top, outline)
-            bench.undo()
-            bench.drill(plate.top, (300, 300, 0), 250, 96, depth=3)
-            self.assertEqual(check(bench.listing()).findings, [])
-            bench.undo()
-            bench.undo()
-        self.assertEqual(repr(bench), '<Workbench, 1 command held>')
 
     def test_slices_of_selections(self):
         bench = self.bench

@@ -6,6 +6,8 @@ from fractions import Fraction
 from pathlib import Path
 
 from support import STORED, bench_and_folder, library
+from test_forms_in import amf, amf_object, ply
+from test_import import SIDES, TETRAHEDRON
 
 from gwb import CompanionError, InDraft, Unfit, Workbench
 from gwb.formats.appearance import Appearance
@@ -13,24 +15,8 @@ from gwb.checks.check import check
 from gwb.formats.importing import imported
 from gwb.geometry.measures import six_volume
 
-AMF = ('<?xml version="1.0"?><amf unit="millimeter"><object id="0"><mesh><vertices>{}</vertices><volume>{}</volume></mesh></object></amf>')
-POINTS = [(0, 0, 0), (6, 0, 0), (0, 6, 0), (0, 0, 6)]
-SIDES = [(0, 2, 1), (0, 1, 3), (1, 2, 3), (0, 3, 2)]
-
-
-def ply():
-    """A tetrahedron of six units as PLY."""
-    rows = ['ply', 'format ascii 1.0', 'element vertex 4', 'property float x', 'property float y', 'property float z', 'element face 4',
-            'property list uchar int vertex_indices', 'end_header', *(' '.join(map(str, point)) for point in POINTS),
-            *(f'3 {a} {b} {c}' for a, b, c in SIDES)]
-    return '\n'.join(rows) + '\n'
-
-
-def amf():
-    """The same as AMF."""
-    return AMF.format(
-        ''.join('<vertex><coordinates><x>{}</x><y>{}</y><z>{}</z></coordinates></vertex>'.format(*point) for point in POINTS),
-        ''.join('<triangle><v1>{}</v1><v2>{}</v2><v3>{}</v3></triangle>'.format(*side) for side in SIDES))
+# A tetrahedron of 36 cubic millimetres.
+PLY, AMF = ply(TETRAHEDRON, SIDES, 'ascii').decode(), amf(amf_object(1, (SIDES, '')))
 
 
 class Imports(unittest.TestCase):
@@ -48,7 +34,7 @@ class Imports(unittest.TestCase):
     def test_each_form(self):
         files = [STORED / 'programs' / name for name in ('freecad_hole.step', 'freecad_hole.stl', 'freecad_two.obj', 'openscad_hole.off',
                                                          'freecad_angle.3mf')]
-        files += [self.written('part.ply', ply()), self.written('part.amf', amf())]
+        files += [self.written('part.ply', PLY), self.written('part.amf', AMF)]
         for path in files:
             with self.subTest(path.name):
                 self.try_file(path)
@@ -70,13 +56,13 @@ class Imports(unittest.TestCase):
         self.bench.undo()
 
     def test_what_is_imported_is_as_what_was_made(self):
-        made = self.bench.import_file(str(self.written('part.ply', ply())))
+        made = self.bench.import_file(str(self.written('part.ply', PLY)))
         self.bench.pocket(self.bench.faces(solid=made.one(), normal=(0, 0, -1)).one(), [(1, 1, 0), (2, 1, 0), (1, 2, 0)], 1)
         self.assertEqual(self.bench.volume(made.one()), 36 - Fraction(1, 2))
         self.assertEqual(self.bench.import_file(self.folder / 'part.ply').numbers, (3,))
 
     def test_options(self):
-        part = self.written('part.ply', ply())
+        part = self.written('part.ply', PLY)
         for options, volume in (({'scale': 2}, 36 * 8), ({'scale': Fraction(1, 2)}, Fraction(36, 8)),
                                 ({'scale': Fraction(2, 3), 'form': 'ply'}, Fraction(32, 3))):
             with self.subTest(options=options):
@@ -89,12 +75,12 @@ class Imports(unittest.TestCase):
         self.assertEqual(self.bench.volume(plain), self.bench.volume(triangles))
 
     def test_points_that_lie_near_a_whole_place(self):
-        near = self.written('near.ply', ply().replace('6 0 0', '6.0004 0 0'))
+        near = self.written('near.ply', PLY.replace('6 0 0', '6.0004 0 0'))
         self.assertRaises(Unfit, self.bench.import_file, near)
         self.assertRaises(Unfit, self.bench.import_file, near, within=Fraction(3, 10_000))
         self.assertRaises(Unfit, self.bench.import_file, near, within=Fraction(1, 1000), scale=10)  # (where it lies ten times as far)
         self.assertEqual(self.bench.volume(self.bench.import_file(near, within=Fraction(1, 1000)).one()), 36)
-        self.assertEqual(self.bench.volume(self.bench.import_file(self.written('part.ply', ply()), within=0).one()), 36)
+        self.assertEqual(self.bench.volume(self.bench.import_file(self.written('part.ply', PLY), within=0).one()), 36)
         self.assertRaisesRegex(ValueError, '^within: -1 is below zero$', self.bench.import_file, near, within=-1)
         self.assertEqual(self.bench.volume(self.bench.import_file(near, within=0.001).one()), 36)
         self.assertRaisesRegex(TypeError, '^within: a length .* is wanted', self.bench.import_file, near, within=None)
@@ -137,8 +123,8 @@ class Imports(unittest.TestCase):
         before = self.bench.listing(), self.bench.script(), dict(self.bench.labels)
         for name, text, wanted in (('open.off', 'OFF\n3 1 0\n0 0 0\n1 0 0\n0 1 0\n3 0 1 2\n', 'Unfit'),
                                    ('part.off', 'no mesh', 'NotAMesh'), ('part.step', 'ISO-10303-21;\nDATA;\nENDSEC;\n', 'NotAMesh'),
-                                   ('half.ply', ply().replace('6 0 0', '6.5 0 0'), 'Unfit'),
-                                   ('far.ply', ply().replace('6 0 0', '6e9 0 0'), 'Unfit')):
+                                   ('half.ply', PLY.replace('6 0 0', '6.5 0 0'), 'Unfit'),
+                                   ('far.ply', PLY.replace('6 0 0', '6e9 0 0'), 'Unfit')):
             with self.subTest(name):
                 with self.assertRaises(CompanionError) as caught:
                     self.bench.import_file(self.written(name, text))
@@ -150,7 +136,7 @@ class Imports(unittest.TestCase):
         self.assertEqual((self.bench.listing(), self.bench.script(), dict(self.bench.labels)), before)
 
     def test_in_a_draft_and_in_a_group(self):
-        path, before = self.written('part.ply', ply()), self.bench.listing()
+        path, before = self.written('part.ply', PLY), self.bench.listing()
         with self.bench.draft():
             made = self.bench.import_file(path).one()
             self.bench.move(made, (0, 0, 7))

@@ -412,23 +412,7 @@ def copied_in(bench):
 
 
 class Features(unittest.TestCase):
-    """A feature or a group that an exception leaves."""
-
-    def setUp(self):
-        self.bench = Workbench(library(), step=STEP)
-        self.addCleanup(self.bench.close)
-        self.bench.block((0, 0, 0), (20, 20, 20))
-        self.bench.block((50, 0, 0), (1, 1, 1))
-        self.both = self.bench.listing()
-        self.bench.undo()
-        self.held, self.script = self.bench.listing(), self.bench.script()
-
-    def nothing_has_changed(self):
-        self.assertEqual((self.bench.listing(), self.bench.script()), (self.held, self.script))
-        self.bench.redo()
-        self.assertEqual(self.bench.listing(), self.both)
-        with self.assertRaises(Complaint):
-            self.bench.redo()
+    """A feature that an exception leaves, and what a group doesn't take."""
 
     def test_a_feature_that_is_left_by_a_keyboard_interrupt(self):
         with Workbench(library(), step=STEP) as bench:
@@ -451,55 +435,16 @@ class Features(unittest.TestCase):
             bench.redo()
             self.assertEqual(len(bench.face(top).rings), 400)
 
-    def test_a_group_is_one_step(self):
-        bench = self.bench
-        with bench.group():
-            block = bench.block((30, 0, 0), (9, 9, 9))
-            with bench.group():
-                bench.pocket(block.top, [(31, 1, 9), (33, 1, 9), (33, 3, 9)], 2)
-                drafted(bench)
-            bench.ask('mvfs 77 77 77 77 1 2 3')
-        made = bench.listing()
-        bench.undo()
-        self.assertEqual((bench.listing(), bench.script()), (self.held, self.script))
-        bench.redo()
-        self.assertEqual(bench.listing(), made)
-
-    def test_a_group_that_an_error_leaves(self):
-        with self.assertRaises(ZeroDivisionError), self.bench.group():
-            self.bench.block((30, 0, 0), (9, 9, 9))
-            with self.bench.group():
-                self.bench.pocket(1, SQUARE, 2)
-            1 / 0
-        self.nothing_has_changed()
-
-    def test_an_inner_group_that_an_error_leaves(self):
-        bench = self.bench
-        with bench.group():
-            bench.block((30, 0, 0), (9, 9, 9))
-            made = bench.listing()
-            with self.assertRaises(ZeroDivisionError), bench.group():
-                bench.pocket(1, SQUARE, 2)
-                1 / 0
-            self.assertEqual(bench.listing(), made)
-            bench.block((60, 0, 0), (9, 9, 9))
-        bench.undo()
-        self.assertEqual((bench.listing(), bench.script()), (self.held, self.script))
-
-    def test_an_empty_group(self):
-        with self.bench.group():
-            pass
-        self.nothing_has_changed()
-
     def test_what_a_group_does_not_take(self):
-        with self.bench.group():
-            self.bench.block((30, 0, 0), (9, 9, 9))
-            for call in (self.bench.undo, self.bench.redo, lambda: self.bench.undo(command=True), lambda: self.bench.ask('undo')):
-                with self.assertRaises(InGroup):
-                    call()
-            with self.bench.draft(), self.bench.group(), self.assertRaises(InDraft):
-                self.bench.undo()
-        self.assertEqual(len(self.bench.solids()), 2)
+        with Workbench(library(), step=STEP) as bench:
+            with bench.group():
+                bench.block((30, 0, 0), (9, 9, 9))
+                for call in (bench.undo, bench.redo, lambda: bench.undo(command=True), lambda: bench.ask('undo')):
+                    with self.assertRaises(InGroup):
+                        call()
+                with bench.draft(), bench.group(), self.assertRaises(InDraft):
+                    bench.undo()
+            self.assertEqual(len(bench.solids()), 1)
 
 
 class Threads(unittest.TestCase):

@@ -4,7 +4,7 @@ import os
 import unittest
 from random import Random
 
-from support import STEP, as_listed, library, step_of
+from support import STEP, as_listed, library
 
 from gwb import Complaint, Lone, Workbench
 from gwb.geometry.free_numbers import KINDS
@@ -154,26 +154,11 @@ class Numbers(unittest.TestCase):
 
 
 class Steps(unittest.TestCase):
-    """Undo and redo by features and by commands."""
+    """Undo and redo by groups and by commands."""
 
     def setUp(self):
-        self.bench = Workbench(library(), step=step_of(self, 'test_a_feature_given_up_leaves_nothing_to_redo', 'test_a_feature_is_one_step'))
+        self.bench = Workbench(library(), step=STEP)
         self.addCleanup(self.bench.close)
-
-    def test_a_feature_is_one_step(self):
-        bench = self.bench
-        block = bench.block((0, 0, 0), (9, 9, 9))
-        held = bench.listing()
-        bench.pocket(block.top, [(1, 1, 9), (4, 1, 9), (1, 4, 9)], 2)
-        made, script = bench.listing(), bench.script()
-        bench.undo()
-        self.assertEqual((bench.listing(), bench.script()), (held, 'block 1 0 0 0 9 9 9\n'))
-        bench.redo()
-        self.assertEqual((bench.listing(), bench.script()), (made, script))
-        bench.undo(command=True)
-        self.assertEqual(bench.listing(), held)
-        bench.redo(command=True)
-        self.assertEqual(bench.listing(), made)
 
     def test_a_group_is_one_step_of_commands(self):
         bench = self.bench
@@ -190,18 +175,6 @@ class Steps(unittest.TestCase):
         self.assertEqual(bench.listing(), made)
         bench.undo(command=True)
         bench.undo()
-        self.assertEqual(bench.listing(), held)
-
-    def test_a_feature_given_up_leaves_nothing_to_redo(self):
-        bench = self.bench
-        block = bench.block((0, 0, 0), (9, 9, 10 ** 9))
-        held = bench.listing()
-        with self.assertRaises(Complaint):
-            bench.boss(block.top, [(1, 1, 10 ** 9), (4, 1, 10 ** 9), (1, 4, 10 ** 9)], 2)
-        self.assertEqual(bench.listing(), held)
-        with self.assertRaises(Complaint):
-            bench.redo()
-        self.assertEqual(bench.ask('redo').lines, ('refused 26 0',))
         self.assertEqual(bench.listing(), held)
 
 

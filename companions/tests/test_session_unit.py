@@ -117,19 +117,6 @@ class Unit(unittest.TestCase):
         self.bench.cut(step.solid, (0, 3, 2, -38), refine=True)
         self.assertEqual(self.bench.step, Fraction(1, 3))
 
-    def test_in_a_draft_it_is_a_part_of_it(self):
-        before = self.bench.listing()
-        with self.bench.draft():
-            self.bench.cut(self.block, PLANE, refine=True)
-            self.assertEqual(self.bench.step, Fraction(1, 6))
-        self.assertEqual(self.bench.step, Fraction(1, 6))
-        self.bench.undo()
-        self.assertEqual((self.bench.listing(), self.bench.step), (before, 1))
-        with self.assertRaises(KeyError), self.bench.draft():
-            self.bench.cut(self.block, PLANE, refine=True)
-            raise KeyError
-        self.assertEqual((self.bench.listing(), self.bench.step), (before, 1))
-
     def test_a_group_that_fails_takes_the_unit_back(self):
         with self.assertRaises(KeyError), self.bench.group():
             self.bench.cut(self.block, PLANE, refine=True)
