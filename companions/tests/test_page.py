@@ -45,10 +45,10 @@ from gwb.protocol.listing import read_model
 
 STAND = (2, -3, 2)
 LIFT = math.atan2(2, math.sqrt(13))
-NAMES = ('block_with_hole', 'glued_blocks', 'u_profile', 'block_cut_diagonally', 'blocks_glued', 'cut_along_drawn_edges',
-         'face_cut_at_four_places', 'split_block', 'split_through_a_hole', 'two_blocks_one_cut')
+NAMES = ('block_with_hole', 'glued_blocks', 'u_profile', 'block_cut_diagonally', 'cut_along_drawn_edges', 'face_cut_at_four_places', 'split_block',
+         'two_blocks_one_cut')
 # How the pages of these models are drawn: the first one by WebGL, which costs a software renderer much, some in perspective.
-DRAWN = ('numbers=none', 'flat&perspective', 'flat', 'flat&perspective', *['flat'] * 6)
+DRAWN = ('numbers=none', 'flat&perspective', 'flat', 'flat&perspective', *['flat'] * 4)
 DESK, MIDDLE, SMALL, PHONE = (1280, 800), (800, 600), (620, 470), (360, 640)
 
 
