@@ -1,5 +1,5 @@
 #!/usr/bin/env python3
-"""Compares what docs/PROOFS.md and docs/CONTRIBUTING.md quote with the sources that it stands in.
+"""Compares what docs/PROOFS.md and docs/KERNEL.md quote with the sources that it stands in.
 
     tests/quotes.py [--write]        --write puts what the sources say into the pages
 
@@ -16,7 +16,7 @@ from typing import Iterator, List, Tuple
 
 from counts import TOP, command_line, told
 
-PAGES = (TOP / 'docs' / 'PROOFS.md', TOP / 'docs' / 'CONTRIBUTING.md')
+PAGES = (TOP / 'docs' / 'PROOFS.md', TOP / 'docs' / 'KERNEL.md')
 BLOCK = re.compile(r'^```([^\n]*)\n(.*?)^```$', re.MULTILINE | re.DOTALL)
 
 
