@@ -1,9 +1,9 @@
 """Drafts: their steps are one command, or leave no trace; over the program as over the library."""
 
+import ctypes
 import os
 import tempfile
 import unittest
-from contextlib import suppress
 from random import Random
 
 from support import STEP, as_listed, library
@@ -205,29 +205,6 @@ class Drafts(unittest.TestCase):
             inner.__exit__(None, None, None)
         self.assertEqual(self.bench.listing(), made)
 
-    def test_memory_is_refused_in_it(self):
-        lines = self.bench._kernel.lines
-        command = lines.command
-
-        def refusing(*_):
-            lines.command = command
-            raise MemoryRefused('memory was refused')
-
-        for is_caught in (True, False):
-            with self.subTest(is_caught=is_caught), suppress(MemoryRefused), self.bench.draft():
-                cut(self.bench)
-                made, lines.command = self.bench.listing(), refusing
-                with suppress(*([MemoryRefused] if is_caught else [])):
-                    self.bench.mvfs((30, 0, 0))
-                self.assertEqual((is_caught, self.bench.listing()), (True, made))
-            if is_caught:
-                self.assertEqual(self.bench.listing(), made)
-                self.bench.undo()
-                self.bench.block((20, 0, 0), (1, 1, 1))
-                self.both = self.bench.listing()
-                self.bench.undo()
-        self.nothing_has_changed()
-
     def test_numbers_after_one_that_was_given_up(self):
         with self.assertRaises(GivenUp), self.bench.draft():
             made = self.bench.mvfs((30, 30, 30))
@@ -310,6 +287,73 @@ class Drafts(unittest.TestCase):
             self.bench.pocket(self.block.bottom, [(1, 1, 0), (1, 4, 0), (4, 1, 0)], 2)
         self.assertEqual(caught.exception.name, 'NumbersSpent')
         self.half_has_left_no_trace()
+
+
+class Heap(ctypes.Structure):
+    """A heap of libgwb.so: that of the C library, of which one request is refused, counted from 0 on."""
+
+    TAKEN = ctypes.PYFUNCTYPE(ctypes.c_void_p, ctypes.c_void_p, ctypes.c_size_t)
+    CHANGED = ctypes.PYFUNCTYPE(ctypes.c_void_p, ctypes.c_void_p, ctypes.c_void_p, ctypes.c_size_t)
+    RELEASED = ctypes.PYFUNCTYPE(None, ctypes.c_void_p, ctypes.c_void_p)
+    _fields_ = [('allocate', TAKEN), ('reallocate', CHANGED), ('release', RELEASED), ('user', ctypes.c_void_p)]
+
+    def __init__(self):
+        system = ctypes.CDLL(None)
+        for name, words in (('malloc', [ctypes.c_size_t]), ('realloc', [ctypes.c_void_p, ctypes.c_size_t]), ('free', [ctypes.c_void_p])):
+            getattr(system, name).argtypes, getattr(system, name).restype = words, None if name == 'free' else ctypes.c_void_p
+        self.requests, self.refused = 0, None
+        super().__init__(self.TAKEN(lambda _, size: self.taken(system.malloc, size)),
+                         self.CHANGED(lambda _, block, size: self.taken(system.realloc, block, size)),
+                         self.RELEASED(lambda _, block: system.free(block)), None)
+
+    def taken(self, take, *words):
+        self.requests += 1
+        return None if self.requests - 1 == self.refused else take(*words)
+
+
+class OutOfMemory(unittest.TestCase):
+    """Each request for memory in a draft is refused in turn: what was refused leaves no trace, and is given again, or the draft is given up by it."""
+
+    CALLS = (lambda bench: bench.mvfs((30, 0, 0)), lambda bench: bench.block((20, 0, 0), (4, 4, 4)), lambda bench: bench.pocket(1, TRIANGLE, 2),
+             lambda bench: bench.split(1, (0, 0, 1, -4)), lambda bench: bench.copy(1, move=(0, 30, 0)), lambda bench: bench.delete(1))
+
+    def setUp(self):
+        use_heap, self.heap = ctypes.PyDLL(library()).gwb_use_heap, Heap()
+        use_heap.argtypes, use_heap.restype = [ctypes.c_void_p], ctypes.c_void_p
+        self.addCleanup(use_heap, use_heap(ctypes.addressof(self.heap)))
+
+    def test_each_request_is_refused_in_turn(self):
+        for is_caught in (True, False):
+            request = told = 0
+            while self.heap.requests >= request:
+                told, request = told + self.is_told(request, is_caught), request + 1
+            self.assertGreater(told, 5, is_caught)
+
+    def is_told(self, request, is_caught):
+        """Whether a call was refused memory by a request that is refused."""
+        refusals = 0
+        with Workbench(library(), step=STEP) as bench:
+            bench.block((0, 0, 0), (9, 9, 9))
+            held, script = bench.listing(), bench.script()
+            self.heap.requests, self.heap.refused = 0, request
+            try:
+                with bench.draft():
+                    for call in self.CALLS:
+                        before = bench.listing()
+                        try:
+                            call(bench)
+                        except MemoryRefused:
+                            refusals += 1
+                            self.assertEqual((bench.listing(), as_listed(bench)), (before, before))
+                            if not is_caught:
+                                raise
+                            call(bench)
+            except MemoryRefused:
+                self.assertEqual((bench.listing(), bench.script()), (held, script))
+            else:
+                self.assertEqual(len(bench.solids()), 4)
+            self.heap.refused = None
+        return refusals > 0
 
 
 class RandomDrafts(unittest.TestCase):
