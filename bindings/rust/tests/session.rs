@@ -260,33 +260,6 @@ fn a_draft_that_is_dropped_leaves_no_trace() {
 }
 
 #[test]
-fn every_operator_is_a_step() {
-    let mut session = Session::new().unwrap();
-    let mut draft = session.draft().unwrap();
-    draft.mvfs(Solid(1), Face(1), Loop(1), Vertex(1), [0, 0, 0]).unwrap();
-    draft.mev(lone(Loop(1)), lone(Loop(1)), Edge(1), Vertex(2), [3, 0, 0]).unwrap();
-    draft.mev(minus(Edge(1)), minus(Edge(1)), Edge(2), Vertex(3), [0, 3, 0]).unwrap();
-    draft.mef(plus(Edge(1)), minus(Edge(2)), Edge(3), Face(2), Loop(2)).unwrap();
-    draft.mev(plus(Edge(1)), plus(Edge(1)), Edge(4), Vertex(4), [1, 1, 0]).unwrap();
-    draft.kemr(plus(Edge(4)), Loop(3)).unwrap();
-    draft.ring_in(Loop(3), Face(1)).unwrap();
-    draft.ring_out(Loop(3), Face(1)).unwrap();
-    draft.outer(Loop(1), Face(1)).unwrap();
-    draft.mfkrh(Loop(3), Face(9)).unwrap();
-    draft.kfmrh(Face(1), Face(9)).unwrap();
-    draft.mekr(plus(Edge(3)), lone(Loop(3)), Edge(4)).unwrap();
-    draft.kev(plus(Edge(4))).unwrap();
-    draft.mvfs(Solid(2), Face(3), Loop(3), Vertex(4), [9, 9, 9]).unwrap();
-    draft.merge(Solid(1), Solid(2)).unwrap();
-    draft.part(&[Face(3)], Solid(5)).unwrap();
-    draft.kvfs(Solid(5)).unwrap();
-    draft.kef(plus(Edge(3))).unwrap();
-    assert_eq!(draft.count(Solid(1)).map(|counts| (counts.vertices, counts.edges, counts.faces)), Ok((3, 2, 1)));
-    draft.commit().unwrap();
-    assert_eq!(session.depth(), 1);
-}
-
-#[test]
 fn a_draft_that_is_forgotten_stays_open() {
     let mut session = block();
     std::mem::forget(session.draft().unwrap());
