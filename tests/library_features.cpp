@@ -136,6 +136,10 @@ static Solid lone_ring(Workbench &bench)
     return block;
 }
 
+using Make = Solid (*)(Workbench &);
+static const std::pair<const char *, Make> makers[] = {{"a pocket", pocket}, {"a hole", hole},     {"two holes", two_holes},
+                                                       {"a wire", wire},     {"two parts", parts}, {"a lone ring", lone_ring}};
+
 static const Motion motions[] = {Motion(),
                                  Motion::move({20, -3, 5}),
                                  Motion::quarter_turns(0),
@@ -212,7 +216,7 @@ static void try_once()
     check(are_many && once > 0 && asked == once, "the faces of a solid are cut once");
 }
 
-static void try_loading(const std::string &name, Solid (*make)(Workbench &))
+static void try_loading(const std::string &name, Make make)
 {
     Workbench bench, other;
     make(bench);
@@ -333,7 +337,7 @@ static void try_no_triangles()
     }
 }
 
-static void try_solid(const std::string &name, Solid (*make)(Workbench &))
+static void try_solid(const std::string &name, Make make)
 {
     for (const Motion &motion : motions) {
         Workbench bench;
@@ -570,10 +574,10 @@ static void try_cuts()
     try_cut("a lamina", lamina);
     make_plate(plate, 3);
     try_cut("a plate", plate);
-    for (Solid (*make)(Workbench &) : {pocket, hole, two_holes, wire, parts, lone_ring}) {
+    for (const auto &[name, make] : makers) {
         Workbench bench;
         make(bench);
-        try_cut("what is loaded", bench);
+        try_cut(name, bench);
     }
     time_of_cuts(4);
     check(time_of_cuts(20) < 10 * time_of_cuts(10), "four times the rings take more than their number");
@@ -585,20 +589,12 @@ int main()
         try_stops();
         try_names();
         try_refused_memory();
-        try_solid("a pocket", pocket);
-        try_solid("a hole", hole);
-        try_solid("two holes", two_holes);
-        try_solid("a wire", wire);
-        try_solid("two parts", parts);
-        try_solid("a lone ring", lone_ring);
+        for (const auto &[name, make] : makers) {
+            try_solid(name, make);
+            try_loading(name, make);
+        }
         try_all_triangles();
         try_once();
-        try_loading("a pocket", pocket);
-        try_loading("a hole", hole);
-        try_loading("two holes", two_holes);
-        try_loading("a wire", wire);
-        try_loading("two parts", parts);
-        try_loading("a lone ring", lone_ring);
         try_scripts();
         try_last_numbers();
         try_renumber();
