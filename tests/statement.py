@@ -26,6 +26,7 @@ from definitions import CRATES, Definition, Module, Outside, RustType, Thing, fi
 from quotes import head_of
 
 PAGE = TOP / 'docs' / 'STATEMENTS.md'
+PROOFS = TOP / 'docs' / 'PROOFS.md'
 LAWS = 'script_laws/src/lib.rt'
 HANDLES = 'handles/src/lib.rt'
 # What a law over bytes speaks of by its name alone: the page of a run has it.
@@ -50,8 +51,8 @@ SHARED_PAGE = 'larger_commands.md'
 # What a call may be told, and what is whole: on the page of lists of calls, and taken by name where exports of a handle are such a list.
 HEADLINE = frozenset({'Rattle.commands.specs.Telling.Tells', 'Rattle.commands.specs.Telling.IsWhole', 'Rattle.undo_journal.specs.Journal.new_journal'})
 HEADLINE_PAGE = 'make_all.md'
-# The definitions in which stands what a long theorem says: they are quoted too.
-KEY = {'make_all': ('MakesAll', 'Tells', 'TellsSession', 'Settled', 'IsWhole'),
+# The definitions in which stands what a long theorem says: they are quoted too. docs/PROOFS.md quotes those of `make_all`.
+KEY = {'make_all': ('IsWhole',),
        'run': ('Served', 'BreaksOff', 'IsTooLong', 'WriteFails', 'Moves', 'HandsOn', 'Outs', 'Judges', 'Answers', 'Obeys', 'Gives'),
        'HandlesBeginNew': ('HandleGoes', 'Opened', 'HandleHeeds', 'Heeds', 'Leaves'), 'HandlesStayWhole': ('IsWholeHandle', 'HandleGoesOn'),
        'HandlesMakeCalls': ('Each', 'StaysOpen', 'calls_in', 'AreAnswered'), 'ListedIsHeld': ('HandleJudgesText', 'JudgesText'),
@@ -115,9 +116,9 @@ Here are `make_all` and `run`, which say what gwb does, all laws of handles and 
 One limit first: the theorems about scripts speak of bytes in memory: if a run reads a file or a pipe, or writes to one, *nothing* is proved of
 its bytes ([run](#run)). PROOFS says [what else is not proved](PROOFS.md#what-is-not-proved).
 
-If you have one hour, read [AnswersStay](#answersstay), [OthersCanBeLeftOut](#otherscanbeleftout) and [RepliesTell](#repliestell), which are short; then the
-formulas in [make_all](#make_all) and [run](#run); then `Sound` in [PROOFS](PROOFS.md#sound-models), and a law whose subject you know, such as
-[BlocksMeasure](#blocksmeasure).
+If you have one hour, read [AnswersStay](#answersstay), [OthersCanBeLeftOut](#otherscanbeleftout) and [RepliesTell](#repliestell), which are short; then in
+PROOFS [the formulas](PROOFS.md#the-headline) of `make_all` and [Sound](PROOFS.md#sound-models); then those in [run](#run), and a law whose subject you know,
+such as [BlocksMeasure](#blocksmeasure).
 
 The page is made from the sources by `tests/statement.py --write`: edit nothing here.
 
@@ -179,9 +180,9 @@ error (an `AllocError`), since there is no memory for the answers, nothing has c
 session is sound, and accepted operators make it from the one before; the model of a draft is sound too, and accepted operators make it from the session's.
 
 In the contract `calls.entry` is the list of calls as it was given, `told.old` and `told.new` are the answers before and after, `items` the items of a list,
-and `result.0` and `result.1` the two parts of what the function returns. The definitions quoted here are the core of the theorem: with the list below them
-you can read what it promises. Most of the others say when a model is sound (`Sound`), and what each operator does: `conditions`, when it is refused;
-`effect`, the model that it makes; `inverse`, the operator that takes it back.''',
+and `result.0` and `result.1` the two parts of what the function returns. [PROOFS](PROOFS.md#the-headline)
+quotes the definitions that are the core of the theorem, such as `Tells`, and explains their words. Most of the others say when a model is sound (`Sound`), and
+what each operator does: `conditions`, when it is refused; `effect`, the model that it makes; `inverse`, the operator that takes it back.''',
     'run': '''If a run ends well (`Served`), each line has got its answer in turn, or with `stop` (the flag `--stop`) each up to the first complaint, a reply
 that begins with `refused`, `fault` or `memory`. `Outs` says which answers: those that are possible for the session to which the lines before have led. A line
 that spells a command is answered as `Tells` of [make_all](#make_all) allows (`Gives`; the law `LinesAreTold` of [PROOFS](PROOFS.md#runs-of-a-script) says
@@ -521,6 +522,7 @@ def listed_before() -> Dict[str, Theorem]:
     return found
 
 
+@lru_cache(maxsize=None)
 def shared_things() -> List[Thing]:
     """What the larger commands lead to, without what both theorems that take them by name have."""
     first = [resolve(base, name) for base, _, name in (f'Rattle.{path}'.rpartition('.') for path in LARGER)]
@@ -610,7 +612,8 @@ def links(things: List[Thing], by_name: FrozenSet[str], page: str, earlier: Opti
     types = [same] * is_more + [f'`{kind.name}`' for kind in kinds if not (is_more and kind in there)]
     count = sum(bool(line.strip()) and not line.strip().startswith('--') for it in definitions for line in it.lines)
     shared = f'[{SHARED_TITLE}]({SHARED_ANCHOR})'
-    by_names = {SHARED: f'the {len(names)} of {shared}', BY_NAME: f'{", ".join(names)} of [run](#run)',
+    in_all = len({*definitions, *(it for it in shared_things() if isinstance(it, Definition))})
+    by_names = {SHARED: f'the {len(names)} of {shared}; with all that these lead to, there are {in_all} definitions', BY_NAME: f'{", ".join(names)} of [run](#run)',
                 known(): f'{several(len(names), "definition")} of [make_all](#make_all) and {shared}'}
     where = listed_in(earlier, definitions) if earlier else also
     found = [f'To read: {several(len(definitions), "definition")}, {several(count, "line")}{where}.' if definitions else '',
@@ -876,6 +879,12 @@ def unused(text: str) -> Iterator[str]:
         yield '' if f' {head}: ' in page else f'{WORDS.name}: nothing uses {name}'
 
 
+def counted(text: str) -> str:
+    """What is wrong with how many definitions docs/PROOFS.md says that `make_all` leads to, or nothing."""
+    said = re.findall(r'there are (\d+ definitions)', ' '.join(text.split()))[0]
+    return '' if f'leads to {said}' in ' '.join(PROOFS.read_text().split()) else f'docs/PROOFS.md: make_all leads to {said}'
+
+
 def main() -> int:
     given = arguments()
     pages = {theorem.page: page_of(theorem) for theorem in theorems()}
@@ -888,7 +897,7 @@ def main() -> int:
     if given.write:
         PAGE.write_text(text)
     skipped = [] if kit() else [without('rt', 'what the standard library says of bytes')]
-    return told([*differing(PAGE.read_text() if PAGE.is_file() else '', text), *unused(text)], skipped)
+    return told([*differing(PAGE.read_text() if PAGE.is_file() else '', text), *unused(text), counted(text)], skipped)
 
 
 if __name__ == '__main__':
