@@ -1,5 +1,6 @@
 /* What is touched, and what it was (gwb_watch): a watched and recorded session beside one that isn't, by random calls and lines, over a heap that fills
- * its blocks and refuses requests. The watch decides no answer, and tells each face and edge that is made or gone, or that it lost what was. The last line counts.
+ * its blocks and refuses requests. The watch decides no answer, and tells each face and edge that is made or gone, or that it lost what was. The last
+ * line counts.
  *
  *     library_watch [ROUNDS]     so many sessions: 200 where none is said */
 #include "checks.h"

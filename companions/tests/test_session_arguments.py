@@ -153,8 +153,8 @@ class Things(unittest.TestCase):
              'faces': {'solid': 'solid'}, 'edges': {'solid': 'solid'}, 'vertices': {'solid': 'solid'}, 'ring': {'face': 'face'}, 'sketch': {'face': 'face'},
              'pocket': {'face': 'face'}, 'boss': {'face': 'face'}, 'hole': {'face': 'face'}, 'drill': {'face': 'face'},
              'crossings': {'solid': 'solid', 'other': 'solid'}, 'shoulder': {'face': 'face', 'edge': 'edge'}, 'chamfer': {'edge': 'edge'},
-             **dict.fromkeys(('delete', 'copy', 'move', 'turn', 'mirror', 'pattern', 'pattern_around', 'cut', 'trim', 'separate', 'join_faces'), {'solid': 'solid'}),
-             **dict.fromkeys(('notch', 'pad', 'slot', 'groove'), {'face': 'face'}),
+             **dict.fromkeys(('notch', 'pad', 'slot', 'groove'), {'face': 'face'}), **dict.fromkeys((
+                 'delete', 'copy', 'move', 'turn', 'mirror', 'pattern', 'pattern_around', 'cut', 'trim', 'separate', 'join_faces'), {'solid': 'solid'}),
              **dict.fromkeys(('bounding_box', 'centroid', 'surface_area', 'inertia', 'section', 'off_lattice'), {'solid': 'solid'}),
              **dict.fromkeys(('area', 'square_area'), {'face': 'face'}), **dict.fromkeys(('length', 'square_length'), {'edge': 'edge'}),
              **dict.fromkeys(('distance', 'square_distance'), {'face': 'face', 'other': 'face'})}
