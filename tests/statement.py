@@ -53,7 +53,7 @@ HEADLINE = frozenset({'Rattle.commands.specs.Telling.Tells', 'Rattle.commands.sp
 HEADLINE_PAGE = 'make_all.md'
 # The definitions in which stands what a long theorem says: they are quoted too. docs/PROOFS.md quotes those of `make_all`.
 KEY = {'make_all': ('IsWhole',),
-       'run': ('Served', 'BreaksOff', 'IsTooLong', 'WriteFails', 'Moves', 'HandsOn', 'Outs', 'Judges', 'Answers', 'Obeys', 'Gives'),
+       'run': ('Served', 'BreaksOff', 'IsTooLong', 'WriteFails', 'Moves', 'HandsOn', 'Outs', 'Judges', 'Answers', 'Obeys'),
        'HandlesBeginNew': ('HandleGoes', 'Opened', 'HandleHeeds', 'Heeds', 'Leaves'), 'HandlesStayWhole': ('IsWholeHandle', 'HandleGoesOn'),
        'HandlesMakeCalls': ('Each', 'StaysOpen', 'calls_in', 'AreAnswered'), 'ListedIsHeld': ('HandleJudgesText', 'JudgesText'),
        'BlocksAreConvex': ('IsStrictlyConvex', 'IsConvex', 'LiesBelow', 'BendsAway', 'IsBlock'), 'SplitsKeepStrictlyConvex': ('IsSplit',),
@@ -185,8 +185,8 @@ quotes the definitions that are the core of the theorem, such as `Tells`, and ex
 what each operator does: `conditions`, when it is refused; `effect`, the model that it makes; `inverse`, the operator that takes it back.''',
     'run': '''If a run ends well (`Served`), each line has got its answer in turn, or with `stop` (the flag `--stop`) each up to the first complaint, a reply
 that begins with `refused`, `fault` or `memory`. `Outs` says which answers: those that are possible for the session to which the lines before have led. A line
-that spells a command is answered as `Tells` of [make_all](#make_all) allows (`Gives`; the law `LinesAreTold` of [PROOFS](PROOFS.md#runs-of-a-script) says
-that these two allow the same), a faulty line by its fault, `list` by the listing, a comment by nothing. After a failed read, or if the script is too long
+that spells a command is answered as `Tells` of [make_all](#make_all) allows (the law `LinesAreTold` of [PROOFS](PROOFS.md#runs-of-a-script) says so), a
+faulty line by its fault, `list` by the listing, a comment by nothing. After a failed read, or if the script is too long
 (`BreaksOff`), the lines that came with their newlines have got their answers; after a failed write (`WriteFails`), a prefix of the answers was written; if
 the run is answered `Memory`, nothing was read or written. Unless a write failed or the run is answered `Memory`, all was handed on (`HandsOn`).
 
@@ -248,7 +248,7 @@ decimal digits, after a `-` where they are negative, with one blank between word
 nothing.''',
     'UndosLeadBack': '''If a script has no undo and no redo, as many undos as it has replies `ok` lead back to the start. All of them are answered `ok`,
 `list` is then answered `empty`, and whatever follows, except redo, is answered as if it were the whole script.''',
-    'SomeUndosLeadBack': 'For each script, some number of undos leads back to the start.',
+    'SomeUndosLeadBack': 'For each script, some number of undos, which are all answered `ok`, leads to the empty model.',
     'SweepsMeasure': '''After a sweep by d that was answered `ok`, the answer to `volume` has grown for one solid by three times the dot product of d and the
 first three numbers that `plane` answers for the face before the sweep. Every other volume is answered as before. The theorem says that there is such a
 solid, but not that it is the one to which the face belongs.''',
@@ -256,9 +256,9 @@ solid, but not that it is the one to which the face belongs.''',
 is gone, and every other volume is answered as before. To which solids the faces belong is read in the listing before the glue.''',
     'WrittenVolumesArePositive': '''Even if memory is refused, a text that answers all lines of a script whose only changes are blocks and splits, or the
 first ones, has only volumes above 0.''',
-    'RepliesTell': '''Of replies whose numbers fit (`Fits`), none is the beginning of another one, so a text of such replies alone, without listings, can be
-cut into them in only one way. [Reply](../crates/solid_listing/src/reply.rt) has its numbers as `u32`, `i128` and `i64`: all of these fit but the least `i128`
-and the least `i64`. That no run answers these two is not part of the law.''',
+    'RepliesTell': '''Of replies of one line whose numbers fit (`Fits`), none is the beginning of another one, so a text of such replies alone, without
+listings, can be cut into them in only one way. [Told](../crates/solid_listing/src/told.rt) has its numbers as `u32`, `i128` and `i64`: all of these fit but
+the least `i128` and the least `i64`. That no run answers these two is not part of the law.''',
     'RefusalsTell': 'The number of a refusal tells why the command was refused.',
     'FaultsTell': 'The number of a fault tells what is wrong with the line.',
     'HandlesBeginNew': '''A handle that was opened holds a new session, which has answered nothing.

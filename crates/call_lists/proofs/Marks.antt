@@ -2,7 +2,7 @@
 use Rattle.call_lists.proofs.Prelude.{◌≡◌, ◌≢◌, ℕ, ◌+◌, ◌-◌, ◌≤◌, List, [], ◌∷◌, ◌++◌, length, take, drop, refl, sym, ap, subst, ◌∙◌, inl, inr, take-append-drop, arith, take-append-add, AreAccepted, effects, AreAccepted-front, effects-append, Back, Call, Change, Command, Done, DraftJournal, Drafting, Give, Mark, MayLack, NoDraft, Open, OpenDraft, Session, Stage, TakesSteps, Tells, TellsDraft, Told, held, made, refusal_of, IsFurther, IsMark, back_at, each_inverse, new_draft, each-length, each-take, further_none, further_same, further_on, back_at_mark, ended, MakesAll, Each, GoesOnFrom, StepsAreMarks, MarksLeadBack}
 use Rattle.euler_operators.specs.Common.{Model}
 use Rattle.euler_operators.specs.declared.Op.{Op}
-use Rattle.commands.specs.declared.told.Told.TheVariants as told
+use Rattle.solid_listing.specs.declared.told.Told.TheVariants as told
 
 -- the steps of a draft that is what they make of a new one are a mark
 mark_of : (d : DraftJournal) → IsFurther (new_draft d.session) d → IsMark d (length d.forward)

@@ -2,7 +2,7 @@
 use Rattle.call_lists.proofs.Prelude.{◌≡◌, inl, inr, Bool, true, false, Option, List, [], ◌∷◌, refl, sym, ap, subst, ◌∙◌, true≢false, ◌≢◌, cond, Abandon, Ask, Back, Call, Change, Command, Commit, Done, DraftJournal, Drafting, Give, Journal, Machine, Mark, Memory, Model, Open, Redo, Refusal, Refused, Session, Settled, Stage, Tells, TellsDraft, TellsSession, Told, Undo, accepted, asked, held, made, redo, redo_refusal, refusal_of, undo, undo_refusal, same_machine, ended, MakesAll, OnlyDoneChanges, IdleListsStay, is_memory, heard, told_else, MemoryCanBeLeftOut, view_of, IsUnmarked, ListsHaveOneAnswer, ListsHaveOneOutcome}
 use Rattle.undo_journal.specs.Journal.{recorded, record_of}
 use Rattle.commands.specs.Changes.{operators_of}
-use Rattle.commands.specs.declared.told.Told.TheVariants as told
+use Rattle.solid_listing.specs.declared.told.Told.TheVariants as told
 use Rattle.commands.proofs.Kept as kept
 use Rattle.call_lists.proofs.Histories.{session_stays}
 

@@ -6,8 +6,8 @@ pub use Rattle.call_types.specs.declared.command.Call.TheVariants.{Abandon, Back
 pub use Rattle.call_types.specs.declared.command.Call.{Call}
 pub use Rattle.call_types.specs.declared.command.Command.TheVariants.{Ask, Change, Redo, Undo}
 pub use Rattle.call_types.specs.declared.command.Command.{Command}
-pub use Rattle.commands.specs.declared.told.Told.TheVariants.{Done, Memory, NoDraft, Refused}
-pub use Rattle.commands.specs.declared.told.Told.{Told}
+pub use Rattle.solid_listing.specs.declared.told.Told.TheVariants.{Done, Memory, NoDraft, Refused}
+pub use Rattle.solid_listing.specs.declared.told.Told.{Told}
 pub use Rattle.commands.specs.declared.stage.OpenDraft.{OpenDraft}
 pub use Rattle.commands.specs.declared.stage.Stage.TheVariants.{Drafting, Session}
 pub use Rattle.commands.specs.declared.stage.Stage.{Stage}

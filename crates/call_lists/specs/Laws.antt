@@ -2,7 +2,7 @@
 use Rattle.std.specs.Prelude.{◌≡◌, ◌≢◌, ℕ, ◌+◌, ◌-◌, ◌≤◌, Bool, true, false, cond, List, [], ◌∷◌, ◌++◌, length, take, replicate}
 use Rattle.call_lists.specs.Common.{Abandon, Ask, Back, Call, Change, Command, Commit, Done, Drafting, Give, IsWhole, Journal, Machine, Mark, Memory, Model, Open, OpenDraft, Record, Redo, Session, Stage, Tells, Told, Undo, after_calls, ahead, depth, empty_model, held, model_at, redos, shown, steps_in, undos}
 use Rattle.undo_journal.specs.Histories as histories
-use Rattle.commands.specs.declared.told.Told.TheVariants as told
+use Rattle.solid_listing.specs.declared.told.Told.TheVariants as told
 use Rattle.call_lists.specs.Making.{MakesAll}
 
 -- the machine of a session; for a draft the machine of the session in which it was opened

@@ -9,8 +9,8 @@ pub use Rattle.call_types.specs.declared.command.Change.{Change}
 pub use Rattle.call_types.specs.declared.command.Question.{Question}
 pub use Rattle.call_types.specs.declared.command.Command.{Command}
 pub use Rattle.call_types.specs.declared.command.Call.{Call}
-pub use Rattle.commands.specs.declared.told.Told.{Told}
-pub use Rattle.commands.specs.declared.told.Told.TheVariants.{Done, InDraft, Memory, NoDraft, Refused}
+pub use Rattle.solid_listing.specs.declared.told.Told.{Told}
+pub use Rattle.solid_listing.specs.declared.told.Told.TheVariants.{Done, InDraft, Memory, NoDraft, Refused}
 pub use Rattle.commands.specs.declared.stage.OpenDraft.{OpenDraft}
 pub use Rattle.commands.specs.declared.stage.Stage.{Stage}
 pub use Rattle.commands.specs.declared.stage.Stage.TheVariants.{Drafting, Session}

@@ -6,7 +6,7 @@ use Rattle.call_types.specs.declared.command.Call.TheVariants as call
 use Rattle.call_types.specs.declared.command.Command.TheVariants as command
 use Rattle.undo_journal.specs.declared.session.Failure.TheVariants as failure
 use Rattle.call_types.specs.declared.command.Question.TheVariants as question
-use Rattle.commands.specs.declared.told.Told.TheVariants as told
+use Rattle.solid_listing.specs.declared.told.Told.TheVariants as told
 use Rattle.commands.specs.Changes.{refusal_of, made, operators_of, MayLack}
 
 -- the answer to a change that ended with this result

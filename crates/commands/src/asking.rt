@@ -3,9 +3,9 @@ ghost use Rattle.std.specs.Prelude.{◌≡◌};
 ghost use Rattle.euler_conditions.specs.Ready.{IsReady};
 ghost use Rattle.commands.specs.Telling.{asked};
 
-use crate::told::Told;
 use call_types::Question;
 use euler_conditions::Arena;
+use solid_listing::Told;
 use solid_measure::{counts, is_flat, plane, six_volume};
 
 // Each measure is matched where it is answered, instead of passed on by `?`, so that it is moved only once.

@@ -1,7 +1,7 @@
 #![tactic(auto)]
 //! Commands: the one way in which an operator, a larger command, a question, undo, redo and a draft reach a session.
 //!
-//! Commands and calls are defined in `call_types`, and their answers in `told`. `known` holds a session and what it knows of one of its solids, and
+//! Commands and calls are defined in `call_types`, and their answers in `solid_listing`. `known` holds a session and what it knows of one of its solids, and
 //! makes a change one command of it, with what `changing` has; `drafting` makes it steps of a draft; `asking` answers a question. `stage` holds such a
 //! session or a draft of its next command, and `making` makes calls of any kind on it.
 //!
@@ -23,7 +23,6 @@ mod known;
 mod laws;
 mod making;
 mod stage;
-mod told;
 
 pub use asking::ask;
 pub use call_types::{Call, Change, Command, Points, Question};
@@ -31,5 +30,5 @@ pub use drafting::change_in;
 pub use known::KnownSession;
 pub use laws::{commands_are_calls, larger_commands_take_steps};
 pub use making::{act, make};
+pub use solid_listing::Told;
 pub use stage::{OpenDraft, Stage};
-pub use told::Told;

@@ -6,11 +6,22 @@ use crate::asking::ask;
 use crate::drafting::{act_on_draft, change_in};
 use crate::known::KnownSession;
 use crate::stage::{OpenDraft, Stage};
-use crate::told::{Told, outcome};
 use call_types::{Call, Change, Command};
 use euler_operators::{Op, Refusal};
+use solid_listing::Told;
 use std::alloc::Global;
 use undo_journal::{Draft, Failure};
+
+/// The answer to a change that ended with this result.
+fn outcome(ended: Result<(), Failure>) -> Told
+    ensures { result ≡ told_of ended }
+{
+    match ended {
+        Ok(()) => Told::Done,
+        Err(Failure::Refused(refusal)) => Told::Refused(refusal),
+        Err(Failure::Memory(_)) => Told::Memory,
+    }
+}
 
 /// The answer to an undo or redo that ended with this result.
 fn moved(ended: Result<(), Refusal>) -> Told

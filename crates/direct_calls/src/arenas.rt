@@ -1,6 +1,6 @@
 //! A copy of an arena.
 use euler_operators::{Corner, HalfEdge, Op, Point};
-use solid_listing::write_listing;
+use solid_listing::{Told, write_told};
 use std::alloc::Global;
 use undo_journal::{Failure, Session};
 
@@ -20,7 +20,7 @@ fn list_copy(rt: &HostRuntime, session: &Session) {
     session.stays_consistent();
     let told = match session.arena().copy(rt.alloc()) {
         Ok(copy) => {
-            let written = write_listing(&copy, &mut rt.stdout());
+            let written = write_told(&copy, &Told::Listing, &mut rt.stdout());
             drop(copy);
             written.is_ok()
         }

@@ -1,7 +1,7 @@
 //! The operators of a glue as the steps of a draft. Memory may be refused for each of them.
 use euler_operators::{Op, Point};
 use gluing::glue;
-use solid_listing::write_listing;
+use solid_listing::{Told, write_told};
 use std::alloc::{AllocError, Global};
 use sweeps::block;
 use undo_journal::{Draft, Failure, Session};
@@ -90,7 +90,7 @@ fn list(rt: &HostRuntime, session: &Session, was_refused: bool) {
     if was_refused {
         let _ = println!(rt; "{}", crate::MEMORY);
     }
-    let _ = write_listing(session.arena(), &mut rt.stdout());
+    let _ = write_told(session.arena(), &Told::Listing, &mut rt.stdout());
 }
 
 /// The glue of two blocks as the steps of a draft. If they are `kept`, a step for which memory is refused is given again, and the steps are

@@ -1,6 +1,6 @@
 -- What an export does to the session or draft behind a handle, and which numbers in use it keeps for `gwb_lent_fresh`.
 use Rattle.std.specs.Prelude.{◌≡◌, ℕ, List, Option, Some, None}
-use Rattle.session_slots.specs.Common.{Asked, Op, Change, Question, Command, Call, Answer, Counts_in, Notes, calls, gives, part_asked, spoken}
+use Rattle.session_slots.specs.Common.{Asked, Op, Change, Question, Command, Call, Told, Counts_in, Notes, calls, gives, part_asked, spoken}
 use Rattle.handles.specs.Uses.{HandleGoes, asks, lack_asked}
 use Rattle.session_slots.specs.Opening.{stage_in}
 use Rattle.session_slots.specs.declared.slot.Slot.{Slot}
@@ -44,5 +44,5 @@ abbrev pub Lacks : Option Slot → Option Slot → ℕ → Type 0
 Lacks old new kind = HandleGoes old (asks lack_asked) new kind × Within (λ x y. Counts_in x y.before) old new
 
 -- what the reader of the last answer writes is written
-abbrev pub Tells : {X : Type 0} → (Answer → X → X → ℕ → Type 0) → Option Slot → X → X → Type 0
+abbrev pub Tells : {X : Type 0} → (Told → X → X → ℕ → Type 0) → Option Slot → X → X → Type 0
 Tells G slot old new = (told : ℕ) × Recalls G slot old new told

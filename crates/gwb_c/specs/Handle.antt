@@ -1,6 +1,6 @@
 -- What C's calls do to the session behind a handle.
 use Rattle.std.specs.Prelude.{◌≡◌, ◌⊎◌, ◌-◌, ◌^◌, ℕ, List, length, Option, Some, None}
-use Rattle.session_slots.specs.Common.{Model, Answer, taken_in, taken_of, Question, asked, status_of, refusal_in, counts_in, volume_in, plane_in, joined, joined_plane, answer_after, shown, text_in, laid_over, WritesOne, Stage}
+use Rattle.session_slots.specs.Common.{Model, Told, taken_in, taken_of, Question, asked, status_of, refusal_in, counts_in, volume_in, plane_in, joined, joined_plane, shown, told_text, laid_over, WritesOne, Stage}
 use Rattle.session_slots.specs.declared.{answers.Refused.Refused, answers.Counts.Counts, answers.Wide.Wide, answers.PlaneRow.PlaneRow, slot.Slot.Slot}
 use Rattle.gwb_c.specs.FreshNumbers.{fresh_in}
 use Rattle.gwb_c.specs.declared.fresh.Range.{Range}
@@ -15,16 +15,16 @@ abbrev pub Writes : List ℕ → List ℕ → List ℕ → ℕ → Type 0
 Writes text old new n = ((n ≡ length text) × (new ≡ laid_over text old)) ⊎ ((n ≡ 2 ^ 64 - 1) × (new ≡ old))
 
 -- the text of an answer; a closed handle has none
-abbrev pub Says : (Slot → Answer) → Option Slot → List ℕ → List ℕ → ℕ → Type 0
+abbrev pub Says : (Slot → Told) → Option Slot → List ℕ → List ℕ → ℕ → Type 0
 Says f None old new n = (n ≡ 2 ^ 64 - 1) × (new ≡ old)
-Says f (Some x) old new n = (g : Stage) → x.console.stage ≡ Some g → Writes (text_in (shown g) (f x)) old new n
+Says f (Some x) old new n = (g : Stage) → x.console.stage ≡ Some g → Writes (told_text (shown g) (f x)) old new n
 
 -- the text of the last answer, and the listing of the model shown
 abbrev pub Replies : Option Slot → List ℕ → List ℕ → ℕ → Type 0
 Replies o old new n = Says (λ x. x.console.answer) o old new n
 
 abbrev pub Lists_model : Option Slot → List ℕ → List ℕ → ℕ → Type 0
-Lists_model o old new n = Says (λ x. Answer.Listing) o old new n
+Lists_model o old new n = Says (λ x. Told.Listing) o old new n
 
 -- a value is written if it is there; else nothing is written
 abbrev pub Gives : {X : Type 0} → Option X → X → X → ℕ → Type 0
@@ -37,20 +37,20 @@ GivesBy f None old new told = (told ≡ 0) × (new ≡ old)
 GivesBy f (Some x) old new told = (told ≡ 1) × (f new ≡ x)
 
 -- what an answer gives: what it refuses, what it counts, a volume and a plane
-abbrev pub gives_refusal : Answer → Refused → Refused → ℕ → Type 0
+abbrev pub gives_refusal : Told → Refused → Refused → ℕ → Type 0
 gives_refusal a = Gives (refusal_in a)
 
-abbrev pub gives_counts : Answer → Counts → Counts → ℕ → Type 0
+abbrev pub gives_counts : Told → Counts → Counts → ℕ → Type 0
 gives_counts a = Gives (counts_in a)
 
-abbrev pub gives_volume : Answer → Wide → Wide → ℕ → Type 0
+abbrev pub gives_volume : Told → Wide → Wide → ℕ → Type 0
 gives_volume a = GivesBy joined (volume_in a)
 
-abbrev pub gives_plane : Answer → PlaneRow → PlaneRow → ℕ → Type 0
+abbrev pub gives_plane : Told → PlaneRow → PlaneRow → ℕ → Type 0
 gives_plane a = GivesBy joined_plane (plane_in a)
 
 -- what the last answer gives; a closed handle has none
-abbrev pub Recalls : {X : Type 0} → (Answer → X → X → ℕ → Type 0) → Option Slot → X → X → ℕ → Type 0
+abbrev pub Recalls : {X : Type 0} → (Told → X → X → ℕ → Type 0) → Option Slot → X → X → ℕ → Type 0
 Recalls G None old new told = (told ≡ 9) × (new ≡ old)
 Recalls G (Some y) old new told = G y.console.answer old new told
 
@@ -75,10 +75,10 @@ Lists R None old new n = (n ≡ 2 ^ 64 - 1) × (new ≡ old)
 Lists R (Some y) old new n = (g : Stage) → y.console.stage ≡ Some g → WritesOne (R (shown g)) old new n
 
 -- an answer in numbers: its kind, what it gives, and what it refuses; of these only what the answer has is written
-abbrev pub Reports : {X : Type 0} → (Answer → X → X → ℕ → Type 0) → Answer → X → X → Refused → Refused → ℕ → Type 0
+abbrev pub Reports : {X : Type 0} → (Told → X → X → ℕ → Type 0) → Told → X → X → Refused → Refused → ℕ → Type 0
 Reports G a old new was is kind = (kind ≡ status_of a) × (told : ℕ) × G a old new told × (refused : ℕ) × gives_refusal a was is refused
 
 -- the answer to a question about the model shown; a closed handle has none
-abbrev pub Measures : {X : Type 0} → (Answer → X → X → ℕ → Type 0) → Question → Option Slot → X → X → Refused → Refused → ℕ → Type 0
+abbrev pub Measures : {X : Type 0} → (Told → X → X → ℕ → Type 0) → Question → Option Slot → X → X → Refused → Refused → ℕ → Type 0
 Measures G q None old new was is kind = (kind ≡ 9) × (new ≡ old) × (is ≡ was)
-Measures G q (Some x) old new was is kind = (g : Stage) → x.console.stage ≡ Some g → Reports G (answer_after Answer.Silent (asked (shown g) q)) old new was is kind
+Measures G q (Some x) old new was is kind = (g : Stage) → x.console.stage ≡ Some g → Reports G (asked (shown g) q) old new was is kind

@@ -7,10 +7,10 @@ ghost use Rattle.gwb_c.specs.Calls.{Hears, Lacks};
 ghost use Rattle.gwb_c.specs.Handle.{Numbers, Says, Replies, Lists_model};
 
 use crate::told::{ABSENT, CLOSED, FOUND, LACKS_MEMORY, told_of};
-use script_running::Answer;
 use session_slots::{
     Gwb, GwbLent, Slot, begin, copy_front, hear, lack, put, staged, take, text_of,
 };
+use solid_listing::Told;
 use std::alloc::Global;
 
 /// Opens a session that holds the empty model. False if memory is refused, or if there is a session; then nothing has changed.
@@ -62,7 +62,7 @@ pub extern "C" fn gwb_lack(alloc: Global, gwb: &mut Gwb) -> u32
     kind
 }
 
-fn write_text(alloc: Global, slot: &Slot, answer: &Answer, buf: &mut [u8]) -> usize
+fn write_text(alloc: Global, slot: &Slot, answer: &Told, buf: &mut [u8]) -> usize
     requires { is_staged slot.now.console.stage ≡ true }
     ensures { Says (λ _. answer.now) (Some slot.now) buf.old buf.new result }
 {
@@ -89,14 +89,14 @@ pub extern "C" fn gwb_lent_listing(alloc: Global, gwb: &mut GwbLent, buf: &mut [
     ensures state { gwb.new.lent.loan ≡ gwb.old.lent.loan }
     ensures text { Lists_model (slot_in gwb.old.lent.loan) buf.old buf.new result }
 {
-    told_of!(gwb, usize::MAX, slot => write_text(alloc, slot, &Answer::Listing, buf))
+    told_of!(gwb, usize::MAX, slot => write_text(alloc, slot, &Told::Listing, buf))
 }
 
 fn judge_text(alloc: Global, slot: &Slot, text: &[u8]) -> u32
     requires { is_staged slot.now.console.stage ≡ true }
     ensures { HandleJudgesText (Some slot.now) text.now result }
 {
-    match text_of(alloc, staged(slot).arena(), &Answer::Listing) {
+    match text_of(alloc, staged(slot).arena(), &Told::Listing) {
         Some(listing) if listing.as_slice() == text => FOUND,
         Some(_) => ABSENT,
         None => LACKS_MEMORY,

@@ -1,9 +1,9 @@
 -- Exports of a handle are a list of calls.
 use Rattle.std.proofs.Common.{◌≡◌, ◌∙◌, ℕ, suc, zero, Bool, true, false, ap, arith, cond, inl, inr, sym, refl, subst, List, [], ◌∷◌, Option, Some, None, replicate}
-use Rattle.call_lists.specs.Common.{Call, Done, Drafting, Give, IsWhole, Session, Stage, Tells, Told, Undo, new_journal}
+use Rattle.call_lists.specs.Common.{Call, Done, Drafting, Give, IsWhole, Session, Stage, Tells, Undo, new_journal}
 use Rattle.call_lists.specs.Making.{MakesAll}
 use Rattle.call_lists.specs.Laws.{CommandsAreTakenBack, Each, ListsKeepWhole}
-use Rattle.session_slots.specs.Common.{Answer, Asked, Model, Opened, calls, keeps, kind_told, shown, slot_in}
+use Rattle.session_slots.specs.Common.{Told, Asked, Model, Opened, calls, keeps, shown, slot_in}
 use Rattle.handles.specs.Uses.{HandleGoes, HandleHeeds, Use, asks, closes, opens, reads, skips}
 use Rattle.euler_operators.specs.Common.{Sound}
 use Rattle.handles.specs.Listed.{JudgesText, ListedIsHeld}
@@ -66,13 +66,13 @@ make_calls x g (asks (calls c) ∷ uses) (n ∷ kinds) new at stays v =
       rest.3,
       rest.4,
       (d.1, told, rest.5),
-      (d.6.3 ∙ ap (λ (b : Answer). kind_told b d.6.0) d.6.2, subst (λ (b : Answer). AreAnswered b uses rest.2 kinds rest.0.console.answer) d.6.2 rest.6),
+      (d.6.3, subst (λ (b : Told). AreAnswered b uses rest.2 kinds rest.0.console.answer) d.6.2 rest.6),
     )
 make_calls x g (asks (keeps a) ∷ uses) (n ∷ kinds) new at stays v =
     let d = v.1 in
     let there : d.2.console.stage ≡ Some g = d.5 ∙ ap (λ (k : Stage). Some k) (d.6.0 ∙ one_stage x.console.stage d.0 g d.3 at) in
     let rest = make_calls d.2 g uses kinds new there stays.1 (subst (λ (o : Option Slot). HandleGoesOn o uses kinds new) d.4 v.2) in
-    (rest.0, rest.1, rest.2, rest.3, rest.4, rest.5, (d.6.2, subst (λ (b : Answer). AreAnswered b uses rest.2 kinds rest.0.console.answer) d.6.1 rest.6))
+    (rest.0, rest.1, rest.2, rest.3, rest.4, rest.5, (d.6.2, subst (λ (b : Told). AreAnswered b uses rest.2 kinds rest.0.console.answer) d.6.1 rest.6))
 make_calls x g (opens ∷ uses) (n ∷ kinds) new at stays v =
     let rest = make_calls x g uses kinds new at stays.1 (subst (λ (o : Option Slot). HandleGoesOn o uses kinds new) v.1.2.1 v.2) in
     (rest.0, rest.1, rest.2, rest.3, rest.4, rest.5, (v.1.1 ∙ ap (λ (b : Bool). cond b 1 0) v.1.2.0, rest.6))
@@ -98,7 +98,7 @@ undos_stay : (n : ℕ) → Each StaysOpen (replicate n (asks (calls (Give Undo))
 undos_stay zero = tt
 undos_stay (suc n) = (tt, undos_stay n)
 
-all_ok : (n : ℕ) (b k : Answer) (kinds : List ℕ) → AreAnswered b (replicate n (asks (calls (Give Undo)))) (replicate n Done) kinds k → kinds ≡ replicate n 1
+all_ok : (n : ℕ) (b k : Told) (kinds : List ℕ) → AreAnswered b (replicate n (asks (calls (Give Undo)))) (replicate n Done) kinds k → kinds ≡ replicate n 1
 all_ok zero b k kinds x = x.0
 all_ok (suc n) b k [] x = absurd x
 all_ok (suc n) b k (m ∷ kinds) x = let rest = all_ok n _ k kinds x.1 in (λ i. x.0 i ∷ rest i)

@@ -1,9 +1,9 @@
 -- What a handle of C holds after any list of exports.
 use Rattle.std.specs.Prelude.{◌≡◌, ℕ, ◌+◌, Option, Some, None, List, [], ◌∷◌, replicate}
-use Rattle.call_lists.specs.Common.{Call, Give, IsWhole, Journal, Session, Stage, Told, Undo, depth, held, new_journal}
+use Rattle.call_lists.specs.Common.{Call, Give, IsWhole, Journal, Session, Stage, Undo, depth, held, new_journal}
 use Rattle.call_lists.specs.Laws.{Each, IsOnward}
 use Rattle.call_lists.specs.Making.{MakesAll}
-use Rattle.session_slots.specs.Common.{Answer, Loan, answer_after, calls, keeps, kind_told, slot_in, status_of}
+use Rattle.session_slots.specs.Common.{Told, Loan, answer_after, calls, keeps, slot_in, status_of}
 use Rattle.handles.specs.Uses.{HandleGoes, Use, asks, closes, opens, reads, skips}
 use Rattle.session_slots.specs.declared.slot.Slot.{Slot}
 
@@ -35,11 +35,11 @@ calls_in (asks (calls c) ∷ uses) = c ∷ calls_in uses
 calls_in (u ∷ uses) = calls_in uses
 
 -- b and k are the last answers before and after exports whose calls are told so, and C is told these kinds
-abbrev pub AreAnswered : Answer → List Use → List Told → List ℕ → Answer → Type 0
+abbrev pub AreAnswered : Told → List Use → List Told → List ℕ → Told → Type 0
 AreAnswered b [] told kinds k = (kinds ≡ []) × (k ≡ b)
 AreAnswered b (u ∷ uses) told [] k = ⊥
 AreAnswered b (asks (calls c) ∷ uses) [] (n ∷ kinds) k = ⊥
-AreAnswered b (asks (calls c) ∷ uses) (a ∷ told) (n ∷ kinds) k = (n ≡ kind_told (answer_after b a) a) × AreAnswered (answer_after b a) uses told kinds k
+AreAnswered b (asks (calls c) ∷ uses) (a ∷ told) (n ∷ kinds) k = (n ≡ status_of a) × AreAnswered (answer_after b a) uses told kinds k
 AreAnswered b (asks (keeps a) ∷ uses) told (n ∷ kinds) k = (n ≡ status_of a) × AreAnswered a uses told kinds k
 AreAnswered b (opens ∷ uses) told (n ∷ kinds) k = (n ≡ 0) × AreAnswered b uses told kinds k
 AreAnswered b (skips ∷ uses) told (n ∷ kinds) k = (n ≡ 10) × AreAnswered b uses told kinds k
@@ -53,7 +53,7 @@ HandlesMakeCalls = (x : Slot) (g : Stage) (uses : List Use) (kinds : List ℕ) (
 
 -- a handle that was opened holds a new session, which has answered nothing
 abbrev pub HandlesBeginNew : Type 0
-HandlesBeginNew = (new : Option Slot) → HandleGoes None opens new 1 → (x : Slot) × (new ≡ Some x) × (x.console.stage ≡ Some (Session new_journal)) × (x.console.answer ≡ Answer.Silent)
+HandlesBeginNew = (new : Option Slot) → HandleGoes None opens new 1 → (x : Slot) × (new ≡ Some x) × (x.console.stage ≡ Some (Session new_journal)) × (x.console.answer ≡ Told.Silent)
 
 -- if a session's exports ask for neither undo nor redo and did n commands, then n undos are each told `ok`, and the model is the one before
 abbrev pub HandlesAreTakenBack : Type 0

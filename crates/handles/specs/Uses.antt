@@ -1,12 +1,11 @@
 -- What the exports of the library for C do to what a handle holds: each is a case of `HandleGoes`.
 use Rattle.std.specs.Prelude.{◌≡◌, ℕ, Bool, cond, Option, Some, None}
-use Rattle.session_slots.specs.Common.{Answer, Asked, Heeds, Opened, Stage, keeps}
+use Rattle.session_slots.specs.Common.{Told, Asked, Heeds, Opened, Stage, keeps}
 use Rattle.session_slots.specs.declared.slot.Slot.{Slot}
-use Rattle.solid_listing.specs.declared.reply.Reply.{Reply}
 
 -- it is answered that memory was refused
 abbrev pub lack_asked : Asked
-lack_asked = keeps (Answer.Reply Reply.Memory)
+lack_asked = keeps Told.Memory
 
 -- an open handle has a session or draft, which heeds what is asked; a closed one stays closed, and C is told so
 abbrev pub HandleHeeds : Option Slot → Asked → Option Slot → ℕ → Type 0

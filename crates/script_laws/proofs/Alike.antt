@@ -1,9 +1,9 @@
 -- Machines from which lines are answered alike.
-use Rattle.script_laws.proofs.Prelude.{◌≡◌, ◌≢◌, inr, ℕ, Bool, true, false, cond, List, [], ◌∷◌, ◌++◌, codes, Option, Some, None, Result, Ok, Err, refl, sym, ap, subst, ◌∙◌, arith, true≢false, Refusal, Model, Machine, held, undo_refusal, undo, request_of, lines_of, words, Request, Fault, listing, done, answer_text, moved, obeyed, answered, answer_of, machine_after, output_from, Answer, Reply as Told, Listing, EndsLine, ended, oks, Adds, UndoAndRedoCanBeLeftOut, UndoneLinesCanBeLeftOut}
+use Rattle.script_laws.proofs.Prelude.{◌≡◌, ◌≢◌, inr, ℕ, Bool, true, false, cond, List, [], ◌∷◌, ◌++◌, codes, Option, Some, None, Result, Ok, Err, refl, sym, ap, subst, ◌∙◌, arith, true≢false, Refusal, Model, Machine, held, undo_refusal, undo, request_of, lines_of, words, Request, Fault, listing, answer_text, moved, obeyed, answered, answer_of, machine_after, output_from, Told, Listing, EndsLine, ended, oks, Adds, UndoAndRedoCanBeLeftOut, UndoneLinesCanBeLeftOut, Done}
 use Rattle.script_reader.specs.Newline as newline
 use Rattle.call_types.specs.declared.command.Command.TheVariants as command
 use Rattle.script_reader.specs.declared.command.Request.TheVariants as request
-use Rattle.solid_listing.specs.declared.reply.Reply.TheVariants as reply
+use Rattle.solid_listing.specs.declared.told.Told.TheVariants as told
 use Rattle.script_laws.proofs.Behind.{after, reached, reached_append, adds_from, from_adds, alike, lines_append, ends_append, ends_line}
 use Rattle.script_laws.proofs.Kept.{done_text, one_line, one_answer}
 use Rattle.script_laws.proofs.Spelled.{undoing, redoing, no_undo, no_redo}
@@ -15,7 +15,7 @@ pub record Alike (back : Bool) (s t : Machine) : Type 0 where
   pub present : s.present ≡ t.present
   pub behind : back ≡ true → s.past ≡ t.past
 
-record SameTurn (back : Bool) (x y : Answer × Machine) : Type 0 where
+record SameTurn (back : Bool) (x y : Told × Machine) : Type 0 where
   answer : x.0 ≡ y.0
   machines : Alike back x.1 y.1
 
@@ -38,7 +38,7 @@ module _ (back : Bool) (M : Model) (p f q g : List Model) (h : back ≡ true →
   same : Alike back (machine p M f) (machine q M g)
   same = record { present = refl; behind = h }
 
-  stay : (a : Answer) → SameTurn back (a, machine p M f) (a, machine q M g)
+  stay : (a : Told) → SameTurn back (a, machine p M f) (a, machine q M g)
   stay a = record { answer = refl; machines = same }
 
   acted : (o : Option Refusal) (N : Model) → SameTurn back (moved o (machine p M f) (machine (M ∷ p) N [])) (moved o (machine q M g) (machine (M ∷ q) N []))
@@ -64,7 +64,7 @@ line_alike : (back : Bool) (s t : Machine) (line : List ℕ) → Alike back s t 
 unfolding answer_of machine_after
 line_alike back s t line h k u = let turn = all_alike back s t (request_of line) h (no_redo line k) (λ b. no_undo line (u b)) in (turn.answer, turn.machines)
 
-text_alike : (s t : Machine) (a : Answer) → s.present ≡ t.present → answer_text s a ≡ answer_text t a
+text_alike : (s t : Machine) (a : Told) → s.present ≡ t.present → answer_text s a ≡ answer_text t a
 text_alike s t Listing e = ap listing e
 text_alike s t a e = refl
 
@@ -84,11 +84,11 @@ told_ok : (b : Bool) → 1 ≡ cond {A = ℕ} b 1 0 → b ≡ true
 told_ok true e = refl
 told_ok false e = absurd (omega (arith, e))
 
-is_done : (a : Answer) → is_ok a ≡ true → a ≡ done
-is_done (Told reply.Done) e = refl
+is_done : (a : Told) → is_ok a ≡ true → a ≡ Done
+is_done told.Done e = refl
 is_done a e = absurd (true≢false (sym e))
 
-pub answered_ok : (script line : List ℕ) → EndsLine script → newline.Lacks line → Adds script (ended line) (codes "ok\n") → answer_of (reached script) line ≡ done
+pub answered_ok : (script line : List ℕ) → EndsLine script → newline.Lacks line → Adds script (ended line) (codes "ok\n") → answer_of (reached script) line ≡ Done
 answered_ok script line h k added =
     let s = reached script in
     let text : codes "ok\n" ≡ answer_text (machine_after s line) (answer_of s line) = sym (from_adds script (ended line) (codes "ok\n") h added) ∙ one_answer s line k in
@@ -96,14 +96,14 @@ answered_ok script line h k added =
 
 -- ---- a model more behind
 
-record Forward (s : Machine) (turn : Answer × Machine) : Type 0 where
-  step : turn.0 ≡ done → turn.1.past ≡ s.present ∷ s.past
+record Forward (s : Machine) (turn : Told × Machine) : Type 0 where
+  step : turn.0 ≡ Done → turn.1.past ≡ s.present ∷ s.past
 
 moved_forward : (o : Option Refusal) (s next : Machine) → next.past ≡ s.present ∷ s.past → Forward s (moved o s next)
 moved_forward None s next e = record { step = λ _. e }
 moved_forward (Some r) s next e = record { step = λ x. absurd (cc x) }
 
-other_forward : (s : Machine) (a : Answer) → is_ok a ≡ false → Forward s (a, s)
+other_forward : (s : Machine) (a : Told) → is_ok a ≡ false → Forward s (a, s)
 other_forward s a e = record { step = λ x. absurd (true≢false (sym (ap is_ok x) ∙ e)) }
 
 redo_forward : (p : List Model) (M : Model) (f : List Model) → Forward (machine p M f) (obeyed (machine p M f) redoing)
@@ -122,18 +122,18 @@ answered_forward : (s : Machine) (r : Result Request Fault) → r ≢ Ok undoing
 answered_forward s (Ok c) u = obeyed_forward s c (λ e. u (ap (λ (d : Request). Ok d) e))
 answered_forward s (Err k) u = other_forward s _ refl
 
-line_forward : (s : Machine) (line : List ℕ) → words line ≢ codes "undo" ∷ [] → answer_of s line ≡ done → (machine_after s line).past ≡ s.present ∷ s.past
+line_forward : (s : Machine) (line : List ℕ) → words line ≢ codes "undo" ∷ [] → answer_of s line ≡ Done → (machine_after s line).past ≡ s.present ∷ s.past
 unfolding answer_of machine_after
 line_forward s line u e = (answered_forward s (request_of line) (no_undo line u)).step e
 
 -- ---- taken back
 
-taken_back : (s t : Machine) → t.past ≡ s.present ∷ s.past → (answer_of t (codes "undo") ≡ done) × Alike true (machine_after t (codes "undo")) s
-taken_back s t e = subst (λ (ps : List Model). (answer_of (machine ps t.present t.future) (codes "undo") ≡ done) × Alike true (machine_after (machine ps t.present t.future) (codes "undo")) s) (sym e)
+taken_back : (s t : Machine) → t.past ≡ s.present ∷ s.past → (answer_of t (codes "undo") ≡ Done) × Alike true (machine_after t (codes "undo")) s
+taken_back s t e = subst (λ (ps : List Model). (answer_of (machine ps t.present t.future) (codes "undo") ≡ Done) × Alike true (machine_after (machine ps t.present t.future) (codes "undo")) s) (sym e)
     (let u = undo_done s.present s.past t.present t.future in (u.0, subst (λ (v : Machine). Alike true v s) (sym u.1) (record { present = refl; behind = λ _. refl })))
 
-two_done : (a b : Answer) (s t : Machine) → a ≡ done → b ≡ done → answer_text s a ++ (answer_text t b ++ []) ≡ codes "ok\nok\n"
-two_done a b s t e f = ap (λ (x : Answer). answer_text s x ++ (answer_text t b ++ [])) e ∙ ap (λ (x : Answer). answer_text s done ++ (answer_text t x ++ [])) f ∙ ap (λ (x : List ℕ). x ++ (x ++ [])) done_text
+two_done : (a b : Told) (s t : Machine) → a ≡ Done → b ≡ Done → answer_text s a ++ (answer_text t b ++ []) ≡ codes "ok\nok\n"
+two_done a b s t e f = ap (λ (x : Told). answer_text s x ++ (answer_text t b ++ [])) e ∙ ap (λ (x : Told). answer_text s Done ++ (answer_text t x ++ [])) f ∙ ap (λ (x : List ℕ). x ++ (x ++ [])) done_text
 
 pub undone_lines_can_be_left_out : UndoneLinesCanBeLeftOut
 undone_lines_can_be_left_out script line h k other added =
@@ -151,7 +151,7 @@ undone_lines_can_be_left_out script line h k other added =
 
 -- ---- undone and done again
 
-undo_redo : (p : List Model) (M : Model) (f : List Model) → answer_of (machine p M f) (codes "undo") ≡ done
+undo_redo : (p : List Model) (M : Model) (f : List Model) → answer_of (machine p M f) (codes "undo") ≡ Done
     → (output_from false (machine p M f) (lines_of (codes "undo\nredo\n")) ≡ codes "ok\nok\n") × (after (machine p M f) (lines_of (codes "undo\nredo\n")) ≡ machine p M f)
 undo_redo [] M f e = absurd (cc (sym (answer_is (machine [] M f) (codes "undo") undoing undo_spelled) ∙ e))
 undo_redo (N ∷ p) M f e =
@@ -159,7 +159,7 @@ undo_redo (N ∷ p) M f e =
     let u = undo_done N p M f in
     let r = redo_done p N M f in
     let t = machine_after s (codes "undo") in
-    let again : answer_of t (codes "redo") ≡ done = ap (λ (v : Machine). answer_of v (codes "redo")) u.1 ∙ r.0 in (
+    let again : answer_of t (codes "redo") ≡ Done = ap (λ (v : Machine). answer_of v (codes "redo")) u.1 ∙ r.0 in (
       two_done (answer_of s (codes "undo")) (answer_of t (codes "redo")) t (machine_after t (codes "redo")) u.0 again,
       ap (λ (v : Machine). machine_after v (codes "redo")) u.1 ∙ r.1,
     )

@@ -1,20 +1,18 @@
 -- What blocks, splits, undos and redos of a script make.
-use Rattle.script_laws.proofs.Prelude.{◌≡◌, ◌⊎◌, inl, inr, ℕ, Bool, true, false, List, [], ◌∷◌, Option, Some, None, Result, Ok, Err, ℤ, pos, int_lt, refl, sym, ap, subst, ◌∙◌, AllByRecursion, Model, Has, is_number, Refusal, Why, NumberRange, NoSolid, Machine, start, held, undo, undo_refusal, redo, redo_refusal, block, block_refusal, plane_with, split, split_refusal, block_made, BuiltHaveVolume, IsBuilt, redone, solid_split, started, undone, answer, face_refusal, solid_refusal, plane_of, is_flat, six_volume, counts, Change, Question, value_or_refusal, request_of, lines_of, over, Request, Fault, reply_text, AsksFor, asked_for, answer_when, answer_text, moved, given, obeyed, answered, answer_of, machine_after, Answer, Reply as Says, IsBlockOrSplit, OnlyBlocksAndSplits, BlocksAndSplitsHaveVolume}
+use Rattle.script_laws.proofs.Prelude.{◌≡◌, ◌⊎◌, inl, inr, ℕ, Bool, true, false, List, [], ◌∷◌, Option, Some, None, Result, Ok, Err, ℤ, pos, int_lt, refl, sym, ap, subst, ◌∙◌, AllByRecursion, Model, Has, is_number, Refusal, Why, NumberRange, NoSolid, Machine, start, held, undo, undo_refusal, redo, redo_refusal, block, block_refusal, plane_with, split, split_refusal, block_made, BuiltHaveVolume, IsBuilt, redone, solid_split, started, undone, answer, face_refusal, solid_refusal, plane_of, is_flat, six_volume, counts, Change, Question, value_or_refusal, request_of, lines_of, over, Request, Fault, reply_text, AsksFor, asked_for, answer_text, moved, given, obeyed, answered, answer_of, machine_after, Told, IsBlockOrSplit, OnlyBlocksAndSplits, BlocksAndSplitsHaveVolume}
 use Rattle.euler_operators.specs.Table as table
-use Rattle.euler_operators.specs.Refusal as why
 use Rattle.call_types.specs.declared.command.Change.TheVariants as change
 use Rattle.call_types.specs.declared.command.Question.TheVariants as question
 use Rattle.call_types.specs.declared.command.Command.TheVariants as command
-use Rattle.commands.specs.declared.told.Told.TheVariants as told
+use Rattle.solid_listing.specs.declared.told.Told.TheVariants as told
 use Rattle.script_reader.specs.declared.command.Request.TheVariants as request
-use Rattle.solid_listing.specs.declared.reply.Reply.TheVariants as reply
 use Rattle.script_laws.proofs.Behind.{after, reached}
 use Rattle.script_laws.proofs.Measured.{asks, volume_adds}
 
 -- ---- machines
 
 -- a turn leads to a machine that is built
-record LeadsToBuilt (turn : Answer × Machine) : Type 0 where
+record LeadsToBuilt (turn : Told × Machine) : Type 0 where
   built : IsBuilt turn.1
 
 moved_built : (o : Option Refusal) (s next : Machine) → IsBuilt s → (o ≡ None → IsBuilt next) → LeadsToBuilt (moved o s next)
@@ -76,30 +74,30 @@ have_volume volume script ask n h only spells =
       | inl there ↦ inl (six_volume (held s) n, volume s (script_built script only) n there.1, volume_adds script ask n (six_volume (held s) n) h spells there.0 refl)
       | inr is ↦ inr (
         is.0,
-        asks script ask (question.Volume n) (reply_text (reply.Refused (why.code_of is.0) n)) h spells
-            (ap (λ (o : Option Refusal). answer_text s (answer_when (value_or_refusal (answer o (told.Volume (six_volume (held s) n)))))) is.1),
+        asks script ask (question.Volume n) (reply_text (told.Refused (record { why = is.0; number = n }))) h spells
+            (ap (λ (o : Option Refusal). answer_text s (value_or_refusal (answer o (told.Volume (six_volume (held s) n))))) is.1),
       )
     ]
 
 -- ---- volumes among the answers
 
 -- a volume that is answered is greater than 0
-record AnswersPositive (turn : Answer × Machine) : Type 0 where
-  positive : (z : ℤ) → turn.0 ≡ Says (reply.Volume z) → int_lt (pos 0) z ≡ true
+record AnswersPositive (turn : Told × Machine) : Type 0 where
+  positive : (z : ℤ) → turn.0 ≡ told.Volume z → int_lt (pos 0) z ≡ true
 
 moved_positive : (o : Option Refusal) (s next : Machine) → AnswersPositive (moved o s next)
 moved_positive None s next = record { positive = λ z e. absurd (cc e) }
 moved_positive (Some r) s next = record { positive = λ z e. absurd (cc e) }
 
-volume_positive : (o : Option Refusal) (v z : ℤ) → (o ≡ None → int_lt (pos 0) v ≡ true) → answer_when (value_or_refusal (answer o (told.Volume v))) ≡ Says (reply.Volume z) → int_lt (pos 0) z ≡ true
+volume_positive : (o : Option Refusal) (v z : ℤ) → (o ≡ None → int_lt (pos 0) v ≡ true) → value_or_refusal (answer o (told.Volume v)) ≡ told.Volume z → int_lt (pos 0) z ≡ true
 volume_positive None v z h e = let same : v ≡ z = cc e in subst (λ (u : ℤ). int_lt (pos 0) u ≡ true) same (h refl)
 volume_positive (Some r) v z h e = absurd (cc e)
 
-plane_other : (o : Option Refusal) (M : Model) (f : ℕ) (z : ℤ) → answer_when (value_or_refusal (answer o (told.Plane (plane_of M f) (is_flat M f)))) ≡ Says (reply.Volume z) → ⊥
+plane_other : (o : Option Refusal) (M : Model) (f : ℕ) (z : ℤ) → value_or_refusal (answer o (told.Plane (plane_of M f) (is_flat M f))) ≡ told.Volume z → ⊥
 plane_other None M f z e = absurd (cc e)
 plane_other (Some r) M f z e = absurd (cc e)
 
-counts_other : (o : Option Refusal) (M : Model) (n : ℕ) (z : ℤ) → answer_when (value_or_refusal (answer o (told.Counts (counts M n)))) ≡ Says (reply.Volume z) → ⊥
+counts_other : (o : Option Refusal) (M : Model) (n : ℕ) (z : ℤ) → value_or_refusal (answer o (told.Counts (counts M n))) ≡ told.Volume z → ⊥
 counts_other None M n z e = absurd (cc e)
 counts_other (Some r) M n z e = absurd (cc e)
 
@@ -124,6 +122,6 @@ module _ (volume : BuiltHaveVolume) (s : Machine) (b : IsBuilt s) where
   answered_positive (Ok q) = obeyed_positive q
   answered_positive (Err f) = record { positive = λ z e. absurd (cc e) }
 
-  pub line_positive : (line : List ℕ) (z : ℤ) → answer_of s line ≡ Says (reply.Volume z) → int_lt (pos 0) z ≡ true
+  pub line_positive : (line : List ℕ) (z : ℤ) → answer_of s line ≡ told.Volume z → int_lt (pos 0) z ≡ true
   unfolding answer_of
   line_positive line = (answered_positive (request_of line)).positive

@@ -1,13 +1,13 @@
 -- What isn't answered `ok` leaves the machine as it was.
-use Rattle.script_laws.proofs.Prelude.{◌≡◌, ◌⊎◌, inl, inr, ℕ, false, List, [], ◌∷◌, ◌++◌, codes, Option, Some, None, Result, Ok, Err, refl, sym, ap, ◌∙◌, append-nil, Refusal, Machine, request_of, lines_of, Command, Request, Fault, first_line, reply_text, done, answer_text, moved, given, obeyed, answered, answer_of, machine_after, output_from, Answer, EndsLine, ended, AnswersStay, OthersCanBeLeftOut}
+use Rattle.script_laws.proofs.Prelude.{◌≡◌, ◌⊎◌, inl, inr, ℕ, false, List, [], ◌∷◌, ◌++◌, codes, Option, Some, None, Result, Ok, Err, refl, sym, ap, ◌∙◌, append-nil, Refusal, Machine, request_of, lines_of, Command, Request, Fault, first_line, reply_text, answer_text, moved, given, obeyed, answered, answer_of, machine_after, output_from, Told, EndsLine, ended, AnswersStay, OthersCanBeLeftOut, Done}
 use Rattle.script_reader.specs.Newline as newline
 use Rattle.call_types.specs.declared.command.Command.TheVariants as command
 use Rattle.script_reader.specs.declared.command.Request.TheVariants as request
-use Rattle.solid_listing.specs.declared.reply.Reply.TheVariants as reply
+use Rattle.solid_listing.specs.declared.told.Told.TheVariants as told
 use Rattle.script_laws.proofs.Behind.{after, ends_append, ends_line, reached, reached_append, from_adds, adds_from, alike}
 
-abbrev Stays : Machine → Answer × Machine → Type 0
-Stays s turn = (turn.0 ≡ done) ⊎ (turn.1 ≡ s)
+abbrev Stays : Machine → Told × Machine → Type 0
+Stays s turn = (turn.0 ≡ Done) ⊎ (turn.1 ≡ s)
 
 moved_stays : (o : Option Refusal) (s next : Machine) → Stays s (moved o s next)
 moved_stays None s next = inl refl
@@ -26,11 +26,11 @@ answered_stays : (s : Machine) (r : Result Request Fault) → Stays s (answered 
 answered_stays s (Ok r) = obeyed_stays s r
 answered_stays s (Err f) = inr refl
 
-line_stays : (s : Machine) (line : List ℕ) → (answer_of s line ≡ done) ⊎ (machine_after s line ≡ s)
+line_stays : (s : Machine) (line : List ℕ) → (answer_of s line ≡ Done) ⊎ (machine_after s line ≡ s)
 unfolding answer_of machine_after
 line_stays s line = answered_stays s (request_of line)
 
-pub done_text : reply_text reply.Done ≡ codes "ok\n"
+pub done_text : reply_text told.Done ≡ codes "ok\n"
 unfolding reply_text
 done_text = refl
 
@@ -42,7 +42,7 @@ one_line line h = first_line line [] h
 pub one_answer : (s : Machine) (line : List ℕ) → newline.Lacks line → output_from false s (lines_of (ended line)) ≡ answer_text (machine_after s line) (answer_of s line)
 one_answer s line h = ap (output_from false s) (one_line line h) ∙ append-nil (answer_text (machine_after s line) (answer_of s line))
 
-pub done_answer : (s : Machine) (line : List ℕ) → newline.Lacks line → answer_of s line ≡ done → output_from false s (lines_of (ended line)) ≡ codes "ok\n"
+pub done_answer : (s : Machine) (line : List ℕ) → newline.Lacks line → answer_of s line ≡ Done → output_from false s (lines_of (ended line)) ≡ codes "ok\n"
 done_answer s line h e = one_answer s line h ∙ ap (answer_text (machine_after s line)) e ∙ done_text
 
 pub reached_line : (script line : List ℕ) → EndsLine script → newline.Lacks line → reached (script ++ ended line) ≡ machine_after (reached script) line

@@ -1,7 +1,6 @@
 -- What volumes are answered behind larger commands.
-use Rattle.script_laws.proofs.Prelude.{◌≡◌, ◌≢◌, ℕ, List, [], ◌∷◌, ◌++◌, codes, Option, Some, None, is_some, ℤ, pos, ◌+ℤ◌, ◌*ℤ◌, true, false, arith, refl, subst, sym, ap, ◌∙◌, signed_decimal, Plane, Point, Model, Sound, Has, direction, dot, is_number, lamina_model, solid_of, Refusal, NoSolid, normal, Machine, held, block, block_refusal, sweep, sweep_refusal, plane_with, split, split_refusal, answer, face_refusal, solid_refusal, six_volume, Question, Command, Told, asked, value_or_refusal, Request, spaced, listing, reply_text, LinesLeadOn, HistoriesMakeConsistent, asked_for, done, refused, answer_when, answer_text, moved, obeyed, given, answer_of, machine_after, Reply as Says, Answer, EndsLine, ended, Adds, volume_answer, BlocksMeasure, PartsShareVolumes, SweepsMeasure, GluesMeasure}
+use Rattle.script_laws.proofs.Prelude.{◌≡◌, ◌≢◌, ℕ, List, [], ◌∷◌, ◌++◌, codes, Option, Some, None, is_some, ℤ, pos, ◌+ℤ◌, ◌*ℤ◌, true, false, arith, refl, subst, sym, ap, ◌∙◌, signed_decimal, Plane, Point, Model, Sound, Has, direction, dot, is_number, lamina_model, solid_of, Refusal, NoSolid, normal, Machine, held, block, block_refusal, sweep, sweep_refusal, plane_with, split, split_refusal, answer, face_refusal, solid_refusal, six_volume, Question, Command, Told, asked, value_or_refusal, Request, spaced, listing, reply_text, LinesLeadOn, HistoriesMakeConsistent, asked_for, answer_text, moved, obeyed, given, answer_of, machine_after, EndsLine, ended, Adds, volume_answer, BlocksMeasure, PartsShareVolumes, SweepsMeasure, GluesMeasure, Done, counts}
 use Rattle.euler_operators.specs.Table as table
-use Rattle.euler_operators.specs.Refusal as why
 use Rattle.euler_operators.proofs.Common.{get-put_other, get-remove_other}
 use Rattle.euler_operators.specs.Common.{part}
 use Rattle.shapes.specs.Common.{base_of, block_model, faces_above, glue_model, is_flat, lamina_face, plane_of, split_model, vector, with_drawings}
@@ -21,9 +20,8 @@ use Rattle.command_laws.specs.Solids.{BlocksAreThere, GluesJoinSolids, SweepsKee
 use Rattle.call_types.specs.declared.command.Change.TheVariants as change
 use Rattle.call_types.specs.declared.command.Question.TheVariants as question
 use Rattle.call_types.specs.declared.command.Command.TheVariants as command
-use Rattle.commands.specs.declared.told.Told.TheVariants as told
+use Rattle.solid_listing.specs.declared.told.Told.TheVariants as told
 use Rattle.script_reader.specs.declared.command.Request.TheVariants as request
-use Rattle.solid_listing.specs.declared.reply.Reply.TheVariants as reply
 use Rattle.script_laws.specs.Laws.{ListsFace, Spells}
 use Rattle.script_laws.proofs.Behind.{reached, from_adds, adds_from, ends_append, ends_line}
 use Rattle.script_laws.proofs.Kept.{one_answer, reached_line}
@@ -32,17 +30,17 @@ use Rattle.script_laws.proofs.Undone.{answer_is, goes, list_text, machine_is}
 use Rattle.script_laws.proofs.Alike.{answered_ok}
 use Rattle.script_laws.proofs.Listed.{holds_sound}
 
-not_refused : (o : Option Refusal) (s next : Machine) → (moved o s next).0 ≡ done → o ≡ None
+not_refused : (o : Option Refusal) (s next : Machine) → (moved o s next).0 ≡ Done → o ≡ None
 not_refused None s next e = refl
 not_refused (Some r) s next e = absurd (cc e)
 
 solid_told : (M : Model) (n : ℕ) → Sound M → Has M.solids n → solid_refusal M n ≡ None
 solid_told M n sound there = rw (sound.solids_fit n there, there) refl
 
-volume_told : (s : Machine) (n : ℕ) → solid_refusal (held s) n ≡ None → answer_when (value_or_refusal (answer (solid_refusal (held s) n) (told.Volume (six_volume (held s) n)))) ≡ Says (reply.Volume (six_volume (held s) n))
-volume_told s n e = ap (λ (o : Option Refusal). answer_when (value_or_refusal (answer o (told.Volume (six_volume (held s) n))))) e
+volume_told : (s : Machine) (n : ℕ) → solid_refusal (held s) n ≡ None → value_or_refusal (answer (solid_refusal (held s) n) (told.Volume (six_volume (held s) n))) ≡ told.Volume (six_volume (held s) n)
+volume_told s n e = ap (λ (o : Option Refusal). value_or_refusal (answer o (told.Volume (six_volume (held s) n)))) e
 
-volume_text : (z : ℤ) → reply_text (reply.Volume z) ≡ ended (codes "volume" ++ spaced (signed_decimal z ∷ []))
+volume_text : (z : ℤ) → reply_text (told.Volume z) ≡ ended (codes "volume" ++ spaced (signed_decimal z ∷ []))
 unfolding reply_text
 volume_text z = refl
 
@@ -50,12 +48,12 @@ head : List ℕ → ℕ
 head [] = 0
 head (b ∷ bs) = b
 
-refused_head : (s : Machine) (r : Refusal) (z : ℤ) → answer_text s (refused r) ≡ volume_answer z → ⊥
+refused_head : (s : Machine) (r : Refusal) (z : ℤ) → answer_text s (told.Refused r) ≡ volume_answer z → ⊥
 unfolding reply_text head
 refused_head s r z e = absurd (omega (arith, ap head e))
 
 -- where a volume was answered, the solid is there
-was_told : (s : Machine) (o : Option Refusal) (w z : ℤ) → answer_text s (answer_when (value_or_refusal (answer o (told.Volume w)))) ≡ volume_answer z → o ≡ None
+was_told : (s : Machine) (o : Option Refusal) (w z : ℤ) → answer_text s (value_or_refusal (answer o (told.Volume w))) ≡ volume_answer z → o ≡ None
 was_told s None w z e = refl
 was_told s (Some r) w z e = absurd (refused_head s r z e)
 
@@ -75,47 +73,47 @@ obeys s (request.Give d) c e = ap (λ (o : Option Command). given s (some_comman
 -- what a line that spells a command is answered, and the machine after it
 module _ (line : List ℕ) (c : Command) (spells : Spells line c) (s : Machine) where
   answered_so : answer_of s line ≡ (given s c).0
-  answered_so = let a = spells.1 in answer_is s line a.0 a.1 ∙ ap (λ (x : Answer × Machine). x.0) (obeys s a.0 c a.2)
+  answered_so = let a = spells.1 in answer_is s line a.0 a.1 ∙ ap (λ (x : Told × Machine). x.0) (obeys s a.0 c a.2)
 
   leads_so : machine_after s line ≡ (given s c).1
-  leads_so = let a = spells.1 in machine_is s line a.0 a.1 ∙ ap (λ (x : Answer × Machine). x.1) (obeys s a.0 c a.2)
+  leads_so = let a = spells.1 in machine_is s line a.0 a.1 ∙ ap (λ (x : Told × Machine). x.1) (obeys s a.0 c a.2)
 
 -- ---- questions
 
--- the text of an answer that is no listing is that of the reply
-same_text : (s t : Machine) (a : Told) → answer_text s (answer_when a) ≡ answer_text t (answer_when a)
-same_text s t told.Done = refl
-same_text s t (told.Refused r) = refl
-same_text s t told.Memory = refl
-same_text s t (told.Plane p flat) = refl
-same_text s t (told.Volume n) = refl
-same_text s t (told.Counts n) = refl
-same_text s t a = refl
+-- the text of an answer to a question is the same behind any machine
+same_value : (s t : Machine) (o : Option Refusal) (v : Told) → answer_text s v ≡ answer_text t v → answer_text s (value_or_refusal (answer o v)) ≡ answer_text t (value_or_refusal (answer o v))
+same_value s t None v e = e
+same_value s t (Some r) v e = refl
+
+same_text : (s t : Machine) (M : Model) (q : Question) → answer_text s (asked M q) ≡ answer_text t (asked M q)
+same_text s t M (question.Plane f) = same_value s t (face_refusal M f) (told.Plane (plane_of M f) (is_flat M f)) refl
+same_text s t M (question.Volume n) = same_value s t (solid_refusal M n) (told.Volume (six_volume M n)) refl
+same_text s t M (question.Count n) = same_value s t (solid_refusal M n) (told.Counts (counts M n)) refl
 
 -- a question about a model that is held is answered so
-pub asks : (script ask : List ℕ) (q : Question) (text : List ℕ) → EndsLine script → Spells ask (command.Ask q) → answer_text (reached script) (answer_when (asked (held (reached script)) q)) ≡ text → Adds script (ended ask) text
+pub asks : (script ask : List ℕ) (q : Question) (text : List ℕ) → EndsLine script → Spells ask (command.Ask q) → answer_text (reached script) (asked (held (reached script)) q) ≡ text → Adds script (ended ask) text
 asks script ask q text h spells is =
     let s = reached script in
-    adds_from script (ended ask) text h (one_answer s ask spells.0 ∙ ap (answer_text (machine_after s ask)) (answered_so ask (command.Ask q) spells s) ∙ same_text (machine_after s ask) s (asked (held s) q) ∙ is)
+    adds_from script (ended ask) text h (one_answer s ask spells.0 ∙ ap (answer_text (machine_after s ask)) (answered_so ask (command.Ask q) spells s) ∙ same_text (machine_after s ask) s (held s) q ∙ is)
 
-was_asked : (script ask : List ℕ) (q : Question) (text : List ℕ) → EndsLine script → Spells ask (command.Ask q) → Adds script (ended ask) text → answer_text (reached script) (answer_when (asked (held (reached script)) q)) ≡ text
+was_asked : (script ask : List ℕ) (q : Question) (text : List ℕ) → EndsLine script → Spells ask (command.Ask q) → Adds script (ended ask) text → answer_text (reached script) (asked (held (reached script)) q) ≡ text
 was_asked script ask q text h spells before =
     let s = reached script in
-    same_text s (machine_after s ask) (asked (held s) q) ∙ ap (answer_text (machine_after s ask)) (sym (answered_so ask (command.Ask q) spells s)) ∙ sym (one_answer s ask spells.0) ∙ from_adds script (ended ask) text h before
+    same_text s (machine_after s ask) (held s) q ∙ ap (answer_text (machine_after s ask)) (sym (answered_so ask (command.Ask q) spells s)) ∙ sym (one_answer s ask spells.0) ∙ from_adds script (ended ask) text h before
 
 -- what the volume of a solid that is there is answered
 pub volume_adds : (script ask : List ℕ) (n : ℕ) (z : ℤ) → EndsLine script → Spells ask (command.Ask (question.Volume n)) → solid_refusal (held (reached script)) n ≡ None → six_volume (held (reached script)) n ≡ z → Adds script (ended ask) (volume_answer z)
 volume_adds script ask n z h spells there is =
-    asks script ask (question.Volume n) (volume_answer z) h spells (ap (answer_text (reached script)) (volume_told (reached script) n there) ∙ ap (λ (v : ℤ). reply_text (reply.Volume v)) is ∙ volume_text z)
+    asks script ask (question.Volume n) (volume_answer z) h spells (ap (answer_text (reached script)) (volume_told (reached script) n there) ∙ ap (λ (v : ℤ). reply_text (told.Volume v)) is ∙ volume_text z)
 
 -- the machine behind a line that was answered `ok`
 module _ (script line : List ℕ) (c : Command) (o : Option Refusal) (next : Machine) (h : EndsLine script) (spells : Spells line c)
     (is : given (reached script) c ≡ moved o (reached script) next) (added : Adds script (ended line) (codes "ok\n")) where
   none_refused : o ≡ None
-  none_refused = not_refused o (reached script) next (ap (λ (x : Answer × Machine). x.0) (sym is) ∙ sym (answered_so line c spells (reached script)) ∙ answered_ok script line h spells.0 added)
+  none_refused = not_refused o (reached script) next (ap (λ (x : Told × Machine). x.0) (sym is) ∙ sym (answered_so line c spells (reached script)) ∙ answered_ok script line h spells.0 added)
 
   made : reached (script ++ ended line) ≡ next
-  made = reached_line script line h spells.0 ∙ leads_so line c spells (reached script) ∙ ap (λ (x : Answer × Machine). x.1) is ∙ (goes o (reached script) next none_refused).1
+  made = reached_line script line h spells.0 ∙ leads_so line c spells (reached script) ∙ ap (λ (x : Told × Machine). x.1) is ∙ (goes o (reached script) next none_refused).1
 
 -- ---- a solid that stays
 
@@ -134,7 +132,7 @@ as_before script line ask text n h asks_so before there volume =
     let s = reached script in
     let t = reached (script ++ ended line) in
     asks (script ++ ended line) ask (question.Volume n) text (ends_append script (ended line) h (ends_line line)) asks_so
-    (ap (λ (a : Told). answer_text t (answer_when a)) (same_volume (held s) (held t) n there volume) ∙ same_text t s (asked (held s) (question.Volume n)) ∙ was_asked script ask (question.Volume n) text h asks_so before)
+    (ap (answer_text t) (same_volume (held s) (held t) n there volume) ∙ same_text t s (held s) (question.Volume n) ∙ was_asked script ask (question.Volume n) text h asks_so before)
 
 -- a block, a glue and a split leave the solids other than their own
 lamina_leaves : (M : Model) (n : ℕ) (ps : List Point) (u : ℕ) → u ≢ n → table.has (lamina_model M n ps).solids u ≡ table.has M.solids u
@@ -230,8 +228,8 @@ module _ (lead : LinesLeadOn) (consistent : HistoriesMakeConsistent) where
         solid = n;
         plane = plane_of (held s) f;
         flat = is_flat (held s) f;
-        faced = λ ask asks_so. asks script ask (question.Plane f) (reply_text (reply.Plane (plane_of (held s) f) (is_flat (held s) f))) h asks_so
-            (ap (λ (o : Option Refusal). answer_text s (answer_when (value_or_refusal (answer o (told.Plane (plane_of (held s) f) (is_flat (held s) f)))))) (face_told (held s) f sound face));
+        faced = λ ask asks_so. asks script ask (question.Plane f) (reply_text (told.Plane (plane_of (held s) f) (is_flat (held s) f))) h asks_so
+            (ap (λ (o : Option Refusal). answer_text s (value_or_refusal (answer o (told.Plane (plane_of (held s) f) (is_flat (held s) f))))) (face_told (held s) f sound face));
         grown = λ ask asks_so. (
           u,
           volume_adds script ask n u h asks_so (solid_told (held s) n sound (sound.faces_of_solids f face)) refl,
@@ -269,8 +267,8 @@ module _ (lead : LinesLeadOn) (consistent : HistoriesMakeConsistent) where
           volume_adds script other second v h asks_other (solid_told (held s) second sound (sound.faces_of_solids g faces.g_there)) refl,
           volume_adds (script ++ ended line) one first (u +ℤ v) ends asks_one (solid_told (held t) first sound_then there.0) (measure s t f g sound none made),
         );
-        gone = λ other asks_other. asks (script ++ ended line) other (question.Volume second) (reply_text (reply.Refused (why.code_of NoSolid) second)) ends asks_other
-            (ap (λ (o : Option Refusal). answer_text t (answer_when (value_or_refusal (answer o (told.Volume (six_volume (held t) second)))))) (gone_told (held t) second (sound.solids_fit second (sound.faces_of_solids g faces.g_there)) there.1));
+        gone = λ other asks_other. asks (script ++ ended line) other (question.Volume second) (reply_text (told.Refused (record { why = NoSolid; number = second }))) ends asks_other
+            (ap (λ (o : Option Refusal). answer_text t (value_or_refusal (answer o (told.Volume (six_volume (held t) second))))) (gone_told (held t) second (sound.solids_fit second (sound.faces_of_solids g faces.g_there)) there.1));
         others = λ ask text u others asks_so before. as_before script line ask text u h asks_so before
             (ap (λ m. table.has (held m).solids u) made ∙ glue_leaves (held s) f g u others.1) (stay s t f g u sound none made others.0 others.1);
       }

@@ -1,5 +1,5 @@
 -- The number of a refusal tells why, and the number of a fault what it is.
-use Rattle.script_laws.proofs.Prelude.{◌≡◌, ℕ, refl, sym, ap, ◌∙◌, cond, ◌==◌, Why, Fault, RefusalsTell, FaultsTell}
+use Rattle.script_laws.proofs.Prelude.{◌≡◌, ◌<◌, ℕ, arith, refl, sym, ap, ◌∙◌, cond, ◌==◌, Why, Fault, RefusalsTell, FaultsTell}
 use Rattle.euler_operators.specs.Refusal as why
 use Rattle.euler_operators.specs.declared.Why.TheVariants as whys
 use Rattle.script_reader.specs.Fault as fault
@@ -12,6 +12,10 @@ reason_back : (a : Why) → reason (why.code_of a) ≡ a
 unfolding reason
 reason_back whys.NumberRange = refl
 reason_back a = refl
+
+pub reason_small : (a : Why) → why.code_of a < 45
+reason_small whys.NumberRange = omega arith
+reason_small a = omega arith
 
 fault_of : ℕ → Fault
 fault_of n = cond (n == 1) faults.BadWord (cond (n == 2) faults.BadNumber (cond (n == 3) faults.MissingWord (cond (n == 4) faults.ExtraWord (cond (n == 5) faults.NotAscii (faults.LongLine)))))

@@ -1,11 +1,10 @@
 -- The volumes in a text of answers.
-use Rattle.script_laws.proofs.Prelude.{◌≡◌, inl, inr, ℕ, zero, suc, ◌+◌, ◌/◌, ◌%◌, ◌≤◌, Bool, true, false, cond, nat_lt, List, [], ◌∷◌, ◌++◌, codes, length, ℤ, pos, negsuc, int_lt, refl, sym, ap, subst, ◌∙◌, arith, append_assoc, decimal, ◌==◌, nat_tests, digits, digits_onto, digit_glyph, signed_decimal, AllByRecursion, Kind, Solid, Face, Loop, Edge, Vertex, Model, Machine, held, BuiltHaveVolume, IsBuilt, started, lines_of, Lacks, line_text, text_of, line, lines, listing, or_empty, reply_words, reply_text, answer_text, answer_of, machine_after, Answer, Silent, Reply as Says, Listing, EndsLine, ended, Tells, volume_answer, WrittenVolumesArePositive, VolumesArePositive}
+use Rattle.script_laws.proofs.Prelude.{◌≡◌, inl, inr, ℕ, zero, suc, ◌+◌, ◌/◌, ◌%◌, ◌≤◌, Bool, true, false, cond, nat_lt, List, [], ◌∷◌, ◌++◌, codes, length, ℤ, pos, negsuc, int_lt, refl, sym, ap, subst, ◌∙◌, arith, append_assoc, decimal, ◌==◌, nat_tests, digits, digits_onto, digit_glyph, signed_decimal, AllByRecursion, Kind, Solid, Face, Loop, Edge, Vertex, Model, Machine, held, BuiltHaveVolume, IsBuilt, started, lines_of, Lacks, line_text, text_of, line, lines, listing, or_empty, reply_words, reply_text, answer_text, answer_of, machine_after, Told, Listing, EndsLine, ended, Tells, volume_answer, WrittenVolumesArePositive, VolumesArePositive, line_if_any}
 use Rattle.std.proofs.lemmas.Int.{ints}
-use Rattle.solid_listing.specs.declared.reply.Reply.{Reply}
-use Rattle.solid_listing.specs.declared.reply.Reply.TheVariants as reply
+use Rattle.solid_listing.specs.declared.told.Told.TheVariants as told
 use Rattle.script_laws.proofs.Behind.{reached, ends_append, ends_line, from_adds}
 use Rattle.script_laws.proofs.Kept.{one_answer, reached_line}
-use Rattle.script_laws.proofs.Texts.{decimal_digits, IsOther, all_listed, is_line, listing_others, reply_line}
+use Rattle.script_laws.proofs.Texts.{decimal_digits, IsOther, all_listed, is_line, line_of_words, listing_others, none_or_some, reply_line}
 use Rattle.script_laws.proofs.Replies.{first_byte, no_minus, words_told}
 use Rattle.script_laws.proofs.Told.{all_front, AllLack, lines_lack, memory_text}
 use Rattle.script_laws.proofs.Built.{line_built, line_positive, MayStand}
@@ -50,12 +49,12 @@ same_sign (negsuc m) z h e = absurd (cc h)
 
 -- ---- a reply
 
-volume_line : (z : ℤ) → line_text (reply_words (reply.Volume z)) ≡ volume_answer z
+volume_line : (z : ℤ) → line_text (reply_words (told.Volume z)) ≡ volume_answer z
 volume_line z = refl
 
-reply_positive : (r : Reply) (z : ℤ) → ((w : ℤ) → r ≡ reply.Volume w → int_lt (pos 0) w ≡ true) → reply_words r ≡ reply_words (reply.Volume z) → int_lt (pos 0) z ≡ true
+reply_positive : (r : Told) (z : ℤ) → ((w : ℤ) → r ≡ told.Volume w → int_lt (pos 0) w ≡ true) → reply_words r ≡ reply_words (told.Volume z) → int_lt (pos 0) z ≡ true
 unfolding first_byte
-reply_positive (reply.Volume w) z h e = same_sign w z (h w refl) (cc e)
+reply_positive (told.Volume w) z h e = same_sign w z (h w refl) (cc e)
 reply_positive r z h e = absurd (omega (arith, ap first_byte e))
 
 -- ---- a listing
@@ -96,16 +95,19 @@ listing_positive : (M : Model) (rest : List ℕ) → VolumesArePositive rest →
 unfolding listing
 listing_positive M rest h = lines_positive (or_empty (lines M)) rest (listing_others M) (all_listed IsNoVolume line_other empty_other M) h
 
-reply_then : (r : Reply) (rest : List ℕ) → ((w : ℤ) → r ≡ reply.Volume w → int_lt (pos 0) w ≡ true) → VolumesArePositive rest → VolumesArePositive (reply_text r ++ rest)
+reply_then : (r : Told) (rest : List ℕ) → ((w : ℤ) → r ≡ told.Volume w → int_lt (pos 0) w ≡ true) → VolumesArePositive rest → VolumesArePositive (reply_text r ++ rest)
 unfolding reply_text
-reply_then r rest k h =
-    let one = reply_line r in
-    subst (AllByRecursion IsPositive) (sym (one.first rest)) (λ z e. reply_positive r z k (words_told r (reply.Volume z) (one.whole ∙ e ∙ sym (volume_line z))), h)
+reply_then r rest k h = elim (none_or_some (reply_words r)) [
+  | inl none ↦ subst (λ (l : List (List ℕ)). VolumesArePositive (line_if_any l ++ rest)) (sym none) h
+  | inr some ↦
+      let one = reply_line r some in
+      subst (λ (t : List ℕ). VolumesArePositive (t ++ rest)) (sym (line_of_words (reply_words r) some))
+      (subst (AllByRecursion IsPositive) (sym (one.first rest)) (λ z e. reply_positive r z k (words_told r (told.Volume z) some (λ n. absurd (cc n)) (one.whole ∙ e ∙ sym (volume_line z))), h))
+]
 
-answer_then : (s : Machine) (a : Answer) (rest : List ℕ) → ((z : ℤ) → a ≡ Says (reply.Volume z) → int_lt (pos 0) z ≡ true) → VolumesArePositive rest → VolumesArePositive (answer_text s a ++ rest)
-answer_then s Silent rest k h = h
-answer_then s (Says r) rest k h = reply_then r rest (λ w e. k w (ap (λ (q : Reply). Says q) e)) h
+answer_then : (s : Machine) (a : Told) (rest : List ℕ) → ((z : ℤ) → a ≡ told.Volume z → int_lt (pos 0) z ≡ true) → VolumesArePositive rest → VolumesArePositive (answer_text s a ++ rest)
 answer_then s Listing rest k h = listing_positive (held s) rest h
+answer_then s a rest k h = reply_then a rest k h
 
 -- ---- scripts
 
@@ -114,7 +116,7 @@ module _ (volume : BuiltHaveVolume) where
   tells_positive script [] text h b lack only none = subst VolumesArePositive (sym none) tt
   tells_positive script (l ∷ ls) text h b lack only (inl (change, (rest, is, more))) =
       subst VolumesArePositive (sym (is ∙ ap (λ (t : List ℕ). t ++ rest) (sym memory_text)))
-      (reply_then reply.Memory rest (λ w e. absurd (cc e)) (tells_positive script ls rest h b lack.1 only.1 more))
+      (reply_then told.Memory rest (λ w e. absurd (cc e)) (tells_positive script ls rest h b lack.1 only.1 more))
   tells_positive script (l ∷ ls) text h b lack only (inr (said, rest, adds, is, more)) =
       let s = reached script in
       let t = machine_after s l in

@@ -3,7 +3,7 @@ pub use Rattle.commands.specs.Telling.{TellsSession, asked, value_or_refusal}
 pub use Rattle.call_types.specs.declared.command.Change.{Change}
 pub use Rattle.call_types.specs.declared.command.Command.{Command}
 pub use Rattle.call_types.specs.declared.command.Question.{Question}
-pub use Rattle.commands.specs.declared.told.Told.{Told}
+pub use Rattle.solid_listing.specs.declared.told.Told.{Told}
 pub use Rattle.convex_laws.specs.Convex.{BuiltHaveVolume, IsBuilt, block_made, redone, solid_split, started, undone}
 pub use Rattle.euler_operators.specs.Common.{Edge, Face, Has, Kind, Loop, LoopContent, Model, Plane, Point, Solid, Sound, Vertex, cycle, direction, dot, is_number, lone, rings_of}
 unfoldable pub use Rattle.euler_operators.specs.Common.{after, arc, canonical, code, conditions, content, edge_of, effect, empty_model, face_of, first_false, half, has_rings, holds, is_first, loop_of, mate, mev_at, mev_lone, mvfs, outer, point_of, rest, rotate_to, solid_of, tail}
@@ -32,15 +32,14 @@ pub use Rattle.script_running.specs.Histories.{HasHistory, HistoriesMakeConsiste
 pub use Rattle.script_running.specs.Laws.{AsksFor, asked_for}
 pub use Rattle.script_running.specs.Output.{answered, given, moved, obeyed, output_from, output_of}
 unfoldable pub use Rattle.script_running.specs.Output.{answer_of, machine_after}
-pub use Rattle.script_running.specs.declared.script_judging.judging.Answer.{Answer}
-pub use Rattle.script_running.specs.declared.script_judging.judging.Answer.TheVariants.{Listing, Reply, Silent}
+pub use Rattle.solid_listing.specs.declared.told.Told.TheVariants.{Done, Listing}
 pub use Rattle.script_running.specs.declared.script_judging.judging.Summary.{Summary}
-pub use Rattle.script_running.specs.script_judging.Judging.{Answers, Gives, Judges, Obeys, answer_text, answer_when, done, one_line, refused}
+pub use Rattle.script_running.specs.script_judging.Judging.{Answers, Judges, Obeys, answer_text, one_line}
 unfoldable pub use Rattle.shapes.specs.Common.{boundary, corners, lamina_conditions, lamina_model, loops_of, normal, prism_conditions, prism_model, raised, taken_in, with_side}
 pub use Rattle.solid_listing.specs.Lines.{line_text, spaced, text_of}
 pub use Rattle.solid_listing.specs.Listing.{content_words, half_word, kind_lines, kinds, line, numbers_of, or_empty}
 unfoldable pub use Rattle.solid_listing.specs.Listing.{lines, listing}
-pub use Rattle.solid_listing.specs.Replies.{reply_words}
+pub use Rattle.solid_listing.specs.Replies.{line_if_any, reply_words, tally_words}
 unfoldable pub use Rattle.solid_listing.specs.Replies.{reply_text}
 pub use Rattle.solid_measure.specs.Measure.{answer, counts, face_refusal, solid_refusal}
 unfoldable pub use Rattle.solid_measure.specs.Measure.{is_flat, plane_of, six_volume}

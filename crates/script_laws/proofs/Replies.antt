@@ -1,10 +1,12 @@
 -- A text begins with one reply at most.
-use Rattle.script_laws.proofs.Prelude.{◌≡◌, ℕ, suc, ◌^◌, ◌<◌, Bool, true, false, cond, nat_lt, List, [], ◌∷◌, ◌++◌, map, codes, ℤ, pos, negsuc, refl, sym, ap, ◌∙◌, arith, decimal, append_cancel_left, nat_tests, and_from, decimal_is_IsNumeral_wide, signed_decimal, AllByRecursion, digits_value, lines_of, line_text, reply_words, reply_text, Fits, RepliesTell}
+use Rattle.script_laws.proofs.Prelude.{◌≡◌, ℕ, suc, ◌^◌, ◌<◌, Bool, true, false, cond, nat_lt, List, [], ◌∷◌, ◌++◌, map, codes, ℤ, pos, negsuc, refl, sym, ap, ◌∙◌, arith, decimal, append_cancel_left, nat_tests, and_from, decimal_is_IsNumeral_wide, signed_decimal, AllByRecursion, digits_value, lines_of, line_text, reply_words, reply_text, Fits, RepliesTell, ◌≢◌, Told, tally_words}
 use Rattle.std.specs.Int.Signed.{mag}
-use Rattle.solid_listing.specs.declared.reply.Reply.{Reply}
-use Rattle.solid_listing.specs.declared.reply.Reply.TheVariants as reply
+use Rattle.euler_operators.specs.Refusal as why
+use Rattle.solid_measure.specs.declared.solid_counts.Tally.{Tally}
+use Rattle.solid_listing.specs.declared.told.Told.TheVariants as told
 use Rattle.solid_listing.proofs.Parsing.{is_clean, are_clean, is_good, parsed, parsed_text, parsed_one}
-use Rattle.script_laws.proofs.Texts.{AreDigits, decimal_digits, reply_line}
+use Rattle.script_laws.proofs.Numbers.{reason_small, refusals_tell}
+use Rattle.script_laws.proofs.Texts.{AreDigits, decimal_digits, line_of_words, reply_line}
 
 -- ---- digits
 
@@ -50,22 +52,19 @@ flat_clean false = refl
 one_good : (l : List (List ℕ)) → is_good l ≡ true → parsed (line_text l ++ []) ≡ l ∷ []
 one_good l g = parsed_text (l ∷ []) (and_from (is_good l) true g refl)
 
-counts_parsed : (ns : List ℤ) → parsed (line_text (codes "count" ∷ map signed_decimal ns) ++ []) ≡ (codes "count" ∷ map signed_decimal ns) ∷ []
-counts_parsed [] = parsed_one (codes "count") refl
-counts_parsed (n ∷ ns) = one_good (codes "count" ∷ map signed_decimal (n ∷ ns)) (clean_map (n ∷ ns))
-
-words_parsed : (r : Reply) → parsed (line_text (reply_words r) ++ []) ≡ reply_words r ∷ []
-words_parsed reply.Done = parsed_one (codes "ok") refl
-words_parsed (reply.Refused w x) = one_good _ (and_from (is_clean (decimal w)) _ (clean_decimal w) (and_from (is_clean (decimal x)) true (clean_decimal x) refl))
-words_parsed (reply.Fault n) = one_good _ (and_from (is_clean (decimal n)) true (clean_decimal n) refl)
-words_parsed reply.Memory = parsed_one (codes "memory") refl
-words_parsed (reply.Plane p flat) = one_good _ (and_from (is_clean (signed_decimal p.a)) _ (clean_signed p.a) (and_from (is_clean (signed_decimal p.b)) _ (clean_signed p.b)
+words_parsed : (r : Told) → reply_words r ≢ [] → parsed (line_text (reply_words r) ++ []) ≡ reply_words r ∷ []
+words_parsed told.Done some = parsed_one (codes "ok") refl
+words_parsed (told.Refused r) some = one_good _ (and_from (is_clean (decimal (why.code_of r.why))) _ (clean_decimal (why.code_of r.why)) (and_from (is_clean (decimal r.number)) true (clean_decimal r.number) refl))
+words_parsed (told.Fault n) some = one_good _ (and_from (is_clean (decimal n)) true (clean_decimal n) refl)
+words_parsed told.Memory some = parsed_one (codes "memory") refl
+words_parsed (told.Plane p flat) some = one_good _ (and_from (is_clean (signed_decimal p.a)) _ (clean_signed p.a) (and_from (is_clean (signed_decimal p.b)) _ (clean_signed p.b)
     (and_from (is_clean (signed_decimal p.c)) _ (clean_signed p.c) (and_from (is_clean (signed_decimal p.d)) _ (clean_signed p.d) (flat_clean flat)))))
-words_parsed (reply.Volume n) = one_good _ (and_from (is_clean (signed_decimal n)) true (clean_signed n) refl)
-words_parsed (reply.Count ns) = counts_parsed ns
+words_parsed (told.Volume n) some = one_good _ (and_from (is_clean (signed_decimal n)) true (clean_signed n) refl)
+words_parsed (told.Counts n) some = one_good (codes "count" ∷ map signed_decimal (tally_words n)) (clean_map (tally_words n))
+words_parsed r some = absurd (some refl)
 
-pub words_told : (r q : Reply) → line_text (reply_words r) ≡ line_text (reply_words q) → reply_words r ≡ reply_words q
-words_told r q e = cc (sym (words_parsed r) ∙ ap (λ (t : List ℕ). parsed (t ++ [])) e ∙ words_parsed q)
+pub words_told : (r q : Told) → reply_words r ≢ [] → reply_words q ≢ [] → line_text (reply_words r) ≡ line_text (reply_words q) → reply_words r ≡ reply_words q
+words_told r q one other e = cc (sym (words_parsed r one) ∙ ap (λ (t : List ℕ). parsed (t ++ [])) e ∙ words_parsed q other)
 
 -- ---- a reply from its words
 
@@ -90,30 +89,54 @@ counts_told (n ∷ ns) (m ∷ ms) h k e =
     ap (λ (z : ℤ). z ∷ ns) (signed_tell n m (omega (arith, small)) (omega (arith, small_too)) (cc e)) ∙ ap (λ (zs : List ℤ). m ∷ zs) (counts_told ns ms h.1 k.1 (cc e))
 counts_told ns ms h k e = absurd (cc e)
 
-reply_told : (r q : Reply) → Fits r → Fits q → reply_words r ≡ reply_words q → r ≡ q
+tallies_tell : (n m : Tally) → tally_words n ≡ tally_words m → n ≡ m
+tallies_tell n m same =
+    let v : n.v ≡ m.v = cc same in
+    let e : n.e ≡ m.e = cc same in
+    let f : n.f ≡ m.f = cc same in
+    let r : n.r ≡ m.r = cc same in
+    let sum : n.sum ≡ m.sum = cc same in
+    λ i. record { v = v i; e = e i; f = f i; r = r i; sum = sum i }
+
+reply_told : (r q : Told) → Fits r → Fits q → reply_words r ≡ reply_words q → r ≡ q
 unfolding first_byte
-reply_told reply.Done reply.Done h k e = refl
-reply_told (reply.Refused w1 x1) (reply.Refused w2 x2) h k e = let a = h.0 in let b = h.1 in let c = k.0 in let d = k.1 in ap (λ (n : ℕ). reply.Refused n x1) (decimals_tell w1 w2 (omega (arith, a)) (omega (arith, c)) (cc e)) ∙ ap (λ (n : ℕ). reply.Refused w2 n) (decimals_tell x1 x2 (omega (arith, b)) (omega (arith, d)) (cc e))
-reply_told (reply.Fault n1) (reply.Fault n2) h k e = ap (λ (n : ℕ). reply.Fault n) (decimals_tell n1 n2 (omega (arith, h)) (omega (arith, k)) (cc e))
-reply_told reply.Memory reply.Memory h k e = refl
-reply_told (reply.Plane p1 f1) (reply.Plane p2 f2) h k e =
+reply_told told.Done told.Done h k e = refl
+reply_told (told.Refused r) (told.Refused q) h k e =
+    let small = reason_small r.why in
+    let small_too = reason_small q.why in
+    let reasons = refusals_tell r.why q.why (decimals_tell (why.code_of r.why) (why.code_of q.why) (omega (arith, small)) (omega (arith, small_too)) (cc e)) in
+    let numbers = decimals_tell r.number q.number (omega (arith, h)) (omega (arith, k)) (cc e) in
+    λ i. told.Refused (record { why = reasons i; number = numbers i })
+reply_told (told.Fault n1) (told.Fault n2) h k e = ap (λ (n : ℕ). told.Fault n) (decimals_tell n1 n2 (omega (arith, h)) (omega (arith, k)) (cc e))
+reply_told told.Memory told.Memory h k e = refl
+reply_told (told.Plane p1 f1) (told.Plane p2 f2) h k e =
     let a = signed_tell p1.a p2.a h.0 k.0 (cc e) in
     let b = signed_tell p1.b p2.b h.1 k.1 (cc e) in
     let c = signed_tell p1.c p2.c h.2 k.2 (cc e) in
     let d = signed_tell p1.d p2.d h.3 k.3 (cc e) in
     let f = flat_told f1 f2 (cc e) in
-    λ i. reply.Plane (record { a = a i; b = b i; c = c i; d = d i }) (f i)
-reply_told (reply.Volume n1) (reply.Volume n2) h k e = ap (λ (n : ℤ). reply.Volume n) (signed_tell n1 n2 h k (cc e))
-reply_told (reply.Count ns1) (reply.Count ns2) h k e = ap (λ (ns : List ℤ). reply.Count ns) (counts_told ns1 ns2 h k (cc e))
+    λ i. told.Plane (record { a = a i; b = b i; c = c i; d = d i }) (f i)
+reply_told (told.Volume n1) (told.Volume n2) h k e = ap (λ (n : ℤ). told.Volume n) (signed_tell n1 n2 h k (cc e))
+reply_told (told.Counts n1) (told.Counts n2) h k e = ap (λ (n : Tally). told.Counts n) (tallies_tell n1 n2 (counts_told (tally_words n1) (tally_words n2) h k (cc e)))
 reply_told r q h k e = absurd (omega (arith, ap first_byte e))
+
+fits_some : (r : Told) → Fits r → reply_words r ≢ []
+fits_some told.Done h e = absurd (cc e)
+fits_some (told.Refused r) h e = absurd (cc e)
+fits_some (told.Fault n) h e = absurd (cc e)
+fits_some told.Memory h e = absurd (cc e)
+fits_some (told.Plane p flat) h e = absurd (cc e)
+fits_some (told.Volume n) h e = absurd (cc e)
+fits_some (told.Counts n) h e = absurd (cc e)
+fits_some r h e = absurd h
 
 -- ---- the front of a text
 
 -- a reply is one line
-front_told : (r q : Reply) (x y : List ℕ) → line_text (reply_words r) ++ x ≡ line_text (reply_words q) ++ y → line_text (reply_words r) ≡ line_text (reply_words q)
-front_told r q x y e =
-    let a = reply_line r in
-    let b = reply_line q in
+front_told : (r q : Told) (x y : List ℕ) → reply_words r ≢ [] → reply_words q ≢ [] → line_text (reply_words r) ++ x ≡ line_text (reply_words q) ++ y → line_text (reply_words r) ≡ line_text (reply_words q)
+front_told r q x y one other e =
+    let a = reply_line r one in
+    let b = reply_line q other in
     let lines : a.line ∷ lines_of x ≡ b.line ∷ lines_of y = sym (a.first x) ∙ ap lines_of e ∙ b.first y in
     let same : a.line ≡ b.line = cc lines in
     a.whole ∙ ap (λ (t : List ℕ). t ++ 10 ∷ []) same ∙ sym b.whole
@@ -121,5 +144,9 @@ front_told r q x y e =
 pub replies_tell : RepliesTell
 unfolding reply_text
 replies_tell r q x y h k e =
-    let front = front_told r q x y e in
-    (reply_told r q h k (words_told r q front), append_cancel_left (line_text (reply_words q)) x y (ap (λ (t : List ℕ). t ++ x) (sym front) ∙ e))
+    let one = fits_some r h in
+    let other = fits_some q k in
+    let lines : line_text (reply_words r) ++ x ≡ line_text (reply_words q) ++ y =
+    ap (λ (t : List ℕ). t ++ x) (sym (line_of_words (reply_words r) one)) ∙ e ∙ ap (λ (t : List ℕ). t ++ y) (line_of_words (reply_words q) other) in
+    let front = front_told r q x y one other lines in
+    (reply_told r q h k (words_told r q one other front), append_cancel_left (line_text (reply_words q)) x y (ap (λ (t : List ℕ). t ++ x) (sym front) ∙ lines))

@@ -1,7 +1,8 @@
 -- The lines of an answer's text, and how many of them are `ok`.
-use Rattle.script_laws.proofs.Prelude.{◌≡◌, ◌≢◌, inl, inr, ℕ, zero, suc, ◌+◌, ◌/◌, ◌%◌, ◌≤◌, Bool, true, false, cond, ◌&&◌, nat_eq, nat_lt, List, [], ◌∷◌, ◌++◌, map, codes, flat_map, bytes_eq, ℤ, pos, negsuc, refl, sym, ap, ◌∙◌, arith, append-nil, append_assoc, true≢false, decimal, ◌==◌, nat_tests, cases_Bool, signed_decimal, digits, digits_onto, digit_glyph, AllByRecursion, Kind, Solid, Face, Loop, Edge, Vertex, is_first, edge_of, Model, LoopContent, lone, cycle, content, rings_of, Machine, held, Lacks, has_newline, lines_of, first_line, Lacks-append, spaced, line_text, text_of, half_word, content_words, line, numbers_of, kind_lines, kinds, lines, or_empty, listing, reply_words, reply_text, answer_text, Answer, Silent, Reply as Told, Listing, EndsLine, count_lines, oks}
-use Rattle.solid_listing.specs.declared.reply.Reply.{Reply}
-use Rattle.solid_listing.specs.declared.reply.Reply.TheVariants as reply
+use Rattle.script_laws.proofs.Prelude.{◌≡◌, ◌≢◌, inl, inr, ℕ, zero, suc, ◌+◌, ◌/◌, ◌%◌, ◌≤◌, Bool, true, false, cond, ◌&&◌, nat_eq, nat_lt, List, [], ◌∷◌, ◌++◌, map, codes, flat_map, bytes_eq, ℤ, pos, negsuc, refl, sym, ap, ◌∙◌, arith, append-nil, append_assoc, true≢false, decimal, ◌==◌, nat_tests, cases_Bool, signed_decimal, digits, digits_onto, digit_glyph, AllByRecursion, Kind, Solid, Face, Loop, Edge, Vertex, is_first, edge_of, Model, LoopContent, lone, cycle, content, rings_of, Machine, held, Lacks, has_newline, lines_of, first_line, Lacks-append, spaced, line_text, text_of, half_word, content_words, line, numbers_of, kind_lines, kinds, lines, or_empty, listing, reply_words, reply_text, answer_text, Told, Listing, EndsLine, count_lines, oks, ◌⊎◌, line_if_any, tally_words, subst}
+use Rattle.solid_listing.specs.declared.told.Told.{Told}
+use Rattle.euler_operators.specs.Refusal.{code_of}
+use Rattle.solid_listing.specs.declared.told.Told.TheVariants as told
 use Rattle.script_laws.proofs.Behind.{lines_append, ends_append}
 
 -- ---- words without newlines
@@ -156,54 +157,67 @@ flat_lacks true = lacks_if (codes "flat") refl
 flat_lacks false = lacks_if (codes "bent") refl
 
 -- whether a command was done
-abbrev pub is_ok : Answer → Bool
-is_ok (Told reply.Done) = true
+abbrev pub is_ok : Told → Bool
+is_ok told.Done = true
 is_ok a = false
 
-reply_other : (r : Reply) → is_ok (Told r) ≡ false → IsOther (reply_words r)
-reply_other reply.Done e = absurd (true≢false e)
-reply_other (reply.Refused w x) e = (refl, lacks_if (codes "refused") refl, (lacks_decimal w, (lacks_decimal x, tt)))
-reply_other (reply.Fault n) e = (refl, lacks_if (codes "fault") refl, (lacks_decimal n, tt))
-reply_other reply.Memory e = (refl, lacks_if (codes "memory") refl, tt)
-reply_other (reply.Plane p flat) e = (refl, lacks_if (codes "plane") refl, (lacks_signed _, (lacks_signed _, (lacks_signed _, (lacks_signed _, (flat_lacks flat, tt))))))
-reply_other (reply.Volume n) e = (refl, lacks_if (codes "volume") refl, (lacks_signed n, tt))
-reply_other (reply.Count ns) e = (refl, lacks_if (codes "count") refl, are_words signed_decimal lacks_signed ns)
+pub none_or_some : (l : List (List ℕ)) → (l ≡ []) ⊎ (l ≢ [])
+none_or_some [] = inl refl
+none_or_some (w ∷ ws) = inr (λ e. absurd (cc e))
 
-other_reply_oks : (r : Reply) → is_ok (Told r) ≡ false → oks (reply_text r) ≡ 0
+pub line_of_words : (l : List (List ℕ)) → l ≢ [] → line_if_any l ≡ line_text l
+line_of_words [] some = absurd (some refl)
+line_of_words (w ∷ ws) some = refl
+
+reply_other : (r : Told) → is_ok r ≡ false → reply_words r ≢ [] → IsOther (reply_words r)
+reply_other told.Done e some = absurd (true≢false e)
+reply_other (told.Refused r) e some = (refl, lacks_if (codes "refused") refl, (lacks_decimal (code_of r.why), (lacks_decimal r.number, tt)))
+reply_other (told.Fault n) e some = (refl, lacks_if (codes "fault") refl, (lacks_decimal n, tt))
+reply_other told.Memory e some = (refl, lacks_if (codes "memory") refl, tt)
+reply_other (told.Plane p flat) e some = (refl, lacks_if (codes "plane") refl, (lacks_signed _, (lacks_signed _, (lacks_signed _, (lacks_signed _, (flat_lacks flat, tt))))))
+reply_other (told.Volume n) e some = (refl, lacks_if (codes "volume") refl, (lacks_signed n, tt))
+reply_other (told.Counts n) e some = (refl, lacks_if (codes "count") refl, are_words signed_decimal lacks_signed (tally_words n))
+reply_other r e some = absurd (some refl)
+
+other_reply_oks : (r : Told) → is_ok r ≡ false → oks (reply_text r) ≡ 0
 unfolding reply_text
-other_reply_oks r e = ap oks (sym (append-nil (line_text (reply_words r)))) ∙ other_oks (reply_words r) [] (reply_other r e)
+other_reply_oks r e = elim (none_or_some (reply_words r)) [
+  | inl none ↦ ap (λ (l : List (List ℕ)). oks (line_if_any l)) none
+  | inr some ↦ ap oks (line_of_words (reply_words r) some ∙ sym (append-nil (line_text (reply_words r)))) ∙ other_oks (reply_words r) [] (reply_other r e some)
+]
 
-other_reply_ends : (r : Reply) → is_ok (Told r) ≡ false → EndsLine (reply_text r)
+other_reply_ends : (r : Told) → is_ok r ≡ false → EndsLine (reply_text r)
 unfolding reply_text
-other_reply_ends r e = line_ends (reply_words r) (reply_other r e)
+other_reply_ends r e = elim (none_or_some (reply_words r)) [
+  | inl none ↦ inl (ap line_if_any none)
+  | inr some ↦ subst EndsLine (sym (line_of_words (reply_words r) some)) (line_ends (reply_words r) (reply_other r e some))
+]
 
-done_oks : oks (reply_text reply.Done) ≡ 1
+done_oks : oks (reply_text told.Done) ≡ 1
 unfolding reply_text
 done_oks = refl
 
-done_ends : EndsLine (reply_text reply.Done)
+done_ends : EndsLine (reply_text told.Done)
 unfolding reply_text
 done_ends = inr (codes "ok", refl)
 
-reply_oks : (r : Reply) (b : Bool) → is_ok (Told r) ≡ b → oks (reply_text r) ≡ cond b 1 0
-reply_oks reply.Done true e = done_oks
-reply_oks reply.Done false e = absurd (true≢false e)
+reply_oks : (r : Told) (b : Bool) → is_ok r ≡ b → oks (reply_text r) ≡ cond b 1 0
+reply_oks told.Done true e = done_oks
+reply_oks told.Done false e = absurd (true≢false e)
 reply_oks r false e = other_reply_oks r e
 reply_oks r true e = absurd (true≢false (sym e))
 
-pub answer_oks : (s : Machine) (a : Answer) → oks (answer_text s a) ≡ cond (is_ok a) 1 0
-answer_oks s Silent = refl
-answer_oks s (Told r) = reply_oks r (is_ok (Told r)) refl
+pub answer_oks : (s : Machine) (a : Told) → oks (answer_text s a) ≡ cond (is_ok a) 1 0
 answer_oks s Listing = listing_oks (held s)
+answer_oks s a = reply_oks a _ refl
 
-reply_ends : (r : Reply) (b : Bool) → is_ok (Told r) ≡ b → EndsLine (reply_text r)
-reply_ends reply.Done b e = done_ends
+reply_ends : (r : Told) (b : Bool) → is_ok r ≡ b → EndsLine (reply_text r)
+reply_ends told.Done b e = done_ends
 reply_ends r b e = other_reply_ends r refl
 
-pub answer_ends : (s : Machine) (a : Answer) → EndsLine (answer_text s a)
-answer_ends s Silent = inl refl
-answer_ends s (Told r) = reply_ends r _ refl
+pub answer_ends : (s : Machine) (a : Told) → EndsLine (answer_text s a)
 answer_ends s Listing = listing_ends (held s)
+answer_ends s a = reply_ends a _ refl
 
 -- a reply is one line
 pub record IsLine (text : List ℕ) : Type 0 where
@@ -215,9 +229,9 @@ pub is_line : (l : List (List ℕ)) → IsOther l → IsLine (line_text l)
 is_line ((b ∷ w) ∷ ws) h = record { line = (b ∷ w) ++ spaced ws; whole = sym (append-nil (line_text ((b ∷ w) ∷ ws))) ∙ text_is (b ∷ w) ws []; first = λ rest. other_lines b w ws rest h }
 is_line l h = absurd h
 
-pub reply_line : (r : Reply) → IsLine (line_text (reply_words r))
-reply_line reply.Done = record { line = codes "ok"; whole = refl; first = λ rest. refl }
-reply_line r = is_line (reply_words r) (reply_other r refl)
+pub reply_line : (r : Told) → reply_words r ≢ [] → IsLine (line_text (reply_words r))
+reply_line told.Done some = record { line = codes "ok"; whole = refl; first = λ rest. refl }
+reply_line r some = is_line (reply_words r) (reply_other r refl some)
 
 -- ---- the lines of two texts
 

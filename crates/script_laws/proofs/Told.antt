@@ -1,14 +1,13 @@
 -- What a run writes where memory may be refused.
-use Rattle.script_laws.proofs.Prelude.{◌≡◌, ◌≢◌, ◌⊎◌, inl, inr, ℕ, false, List, [], ◌∷◌, ◌++◌, codes, Option, Some, None, Result, Ok, Err, refl, sym, ap, subst, ◌∙◌, append-nil, false≢true, AllByRecursion, Model, Refusal, Machine, held, answer, face_refusal, solid_refusal, plane_of, is_flat, six_volume, counts, request_of, lines_of, within_limit, Lacks, Journal, new_journal, over, Command, Change, Question, Told, asked, value_or_refusal, TellsSession, Request, Fault, reply_text, answer_when, Gives, Obeys, Answers, Judges, answer_text, one_line, asked_for, answer_of, machine_after, Answer, Reply as Says, Summary, judges_so, AsksForChange, EndsLine, ended, Tells, RunsTell, BrokenRunsTell, FailedRunsTell}
+use Rattle.script_laws.proofs.Prelude.{◌≡◌, ◌≢◌, ◌⊎◌, inl, inr, ℕ, false, List, [], ◌∷◌, ◌++◌, codes, Option, Some, None, Result, Ok, Err, refl, sym, ap, subst, ◌∙◌, append-nil, false≢true, AllByRecursion, Model, Refusal, Machine, held, answer, face_refusal, solid_refusal, plane_of, is_flat, six_volume, counts, request_of, lines_of, within_limit, Lacks, Journal, new_journal, over, Command, Change, Question, Told, asked, value_or_refusal, TellsSession, Request, Fault, reply_text, Obeys, Answers, Judges, answer_text, one_line, asked_for, answer_of, machine_after, Summary, judges_so, AsksForChange, EndsLine, ended, Tells, RunsTell, BrokenRunsTell, FailedRunsTell}
 use Rattle.script_reader.specs.Lined.{IsLined}
 use Rattle.undo_journal.proofs.Journals.{same_machine}
 use Rattle.call_types.specs.declared.command.Command.TheVariants as command
 use Rattle.call_types.specs.declared.command.Question.TheVariants as question
-use Rattle.commands.specs.declared.told.Told.TheVariants as told
+use Rattle.solid_listing.specs.declared.told.Told.TheVariants as told
 use Rattle.commands.proofs.Kept.{session_kept}
 use Rattle.script_reader.specs.declared.command.Request.TheVariants as request
 use Rattle.script_reader.proofs.LinedLaws.{lines_are_lined}
-use Rattle.solid_listing.specs.declared.reply.Reply.TheVariants as reply
 use Rattle.script_running.specs.Outs.{Outs}
 use Rattle.script_laws.proofs.Behind.{reached, adds_from, ends_append, ends_line}
 use Rattle.script_laws.proofs.Kept.{one_answer, reached_line}
@@ -16,31 +15,22 @@ use Rattle.script_laws.proofs.Ran.{all_within}
 
 -- ---- what is answered `memory` leaves the session
 
-gives_stay : (s t : Journal) (c : Command) (a : Answer) → Gives s c a t → a ≡ Says reply.Memory → t ≡ s
-gives_stay s t c a (b, is, h) e = session_kept s t c b (λ done. absurd (cc (sym (is ∙ ap answer_when done) ∙ e))) h
+tells_stay : (s t : Journal) (c : Command) (a : Told) → TellsSession s c a t → a ≡ told.Memory → t ≡ s
+tells_stay s t c a p e = session_kept s t c a (λ done. absurd (cc (sym done ∙ e))) p
 
-obeys_stay : (s t : Journal) (r : Request) (a : Answer) → Obeys s r a t → a ≡ Says reply.Memory → t ≡ s
-obeys_stay s t (request.Over o ps) a p e = gives_stay s t (command.Change (over o ps)) a p e
-obeys_stay s t (request.Give c) a p e = gives_stay s t c a p e
+obeys_stay : (s t : Journal) (r : Request) (a : Told) → Obeys s r a t → a ≡ told.Memory → t ≡ s
+obeys_stay s t (request.Over o ps) a p e = tells_stay s t (command.Change (over o ps)) a p e
+obeys_stay s t (request.Give c) a p e = tells_stay s t c a p e
 obeys_stay s t r a p e = p.1
 
-answers_stay : (s t : Journal) (r : Result Request Fault) (a : Answer) → Answers s r a t → a ≡ Says reply.Memory → t ≡ s
+answers_stay : (s t : Journal) (r : Result Request Fault) (a : Told) → Answers s r a t → a ≡ told.Memory → t ≡ s
 answers_stay s t (Ok r) a p e = obeys_stay s t r a p e
 answers_stay s t (Err f) a p e = p.1
 
-judges_stay : (s t : Journal) (line : List ℕ) (a : Answer) → Judges s line a t → a ≡ Says reply.Memory → t ≡ s
+judges_stay : (s t : Journal) (line : List ℕ) (a : Told) → Judges s line a t → a ≡ told.Memory → t ≡ s
 judges_stay s t line a p e = answers_stay s t (request_of line) a p e
 
 -- and only a change is answered so
-is_memory : (b : Told) → answer_when b ≡ Says reply.Memory → b ≡ told.Memory
-is_memory told.Memory e = refl
-is_memory told.Done e = absurd (cc e)
-is_memory (told.Refused r) e = absurd (cc e)
-is_memory (told.Plane p flat) e = absurd (cc e)
-is_memory (told.Volume n) e = absurd (cc e)
-is_memory (told.Counts n) e = absurd (cc e)
-is_memory b e = absurd (cc e)
-
 value_told : (o : Option Refusal) (a : Told) → a ≢ told.Memory → value_or_refusal (answer o a) ≢ told.Memory
 value_told None a other = other
 value_told (Some r) a other = λ e. absurd (cc e)
@@ -56,23 +46,23 @@ change_of s t (command.Ask q) h = absurd (never_asked (held s.machine) q (sym h.
 change_of s t command.Undo h = absurd h.0
 change_of s t command.Redo h = absurd h.0
 
-answers_change : (s t : Journal) (r : Result Request Fault) (a : Answer) → Answers s r a t → a ≡ Says reply.Memory → (c : Change) × ((q : Request) × (r ≡ Ok q) × (asked_for q ≡ Some (command.Change c)))
+answers_change : (s t : Journal) (r : Result Request Fault) (a : Told) → Answers s r a t → a ≡ told.Memory → (c : Change) × ((q : Request) × (r ≡ Ok q) × (asked_for q ≡ Some (command.Change c)))
 answers_change s t (Ok (request.Over o ps)) a p e = (over o ps, (request.Over o ps, refl, refl))
 answers_change s t (Ok (request.Give c)) a p e =
-    let x = change_of s t c (subst (λ (b : Told). TellsSession s c b t) (is_memory p.0 (sym p.1 ∙ e)) p.2) in
+    let x = change_of s t c (subst (λ (b : Told). TellsSession s c b t) e p) in
     (x.0, (request.Give c, refl, ap (λ (d : Command). Some d) x.1))
 answers_change s t (Ok request.Nothing) a p e = absurd (cc (sym p.0 ∙ e))
 answers_change s t (Ok request.List) a p e = absurd (cc (sym p.0 ∙ e))
 answers_change s t (Err f) a p e = absurd (cc (sym p.0 ∙ e))
 
-judges_change : (s t : Journal) (line : List ℕ) (a : Answer) → Judges s line a t → a ≡ Says reply.Memory → AsksForChange line
+judges_change : (s t : Journal) (line : List ℕ) (a : Told) → Judges s line a t → a ≡ told.Memory → AsksForChange line
 judges_change s t line a p e = answers_change s t (request_of line) a p e
 
-memory_or : (a : Answer) → (a ≡ Says reply.Memory) ⊎ ((one_line a).memory ≡ 0)
-memory_or (Says reply.Memory) = inl refl
+memory_or : (a : Told) → (a ≡ told.Memory) ⊎ ((one_line a).memory ≡ 0)
+memory_or told.Memory = inl refl
 memory_or a = inr refl
 
-pub memory_text : reply_text reply.Memory ≡ codes "memory\n"
+pub memory_text : reply_text told.Memory ≡ codes "memory\n"
 unfolding reply_text
 memory_text = refl
 
@@ -109,7 +99,7 @@ outs_tell script s (line ∷ lines) out n h at lack (a, t, judged, inr (calm, (r
         judges_change s t line a judged e,
         (
           rest,
-          eo ∙ ap (λ (b : Answer). answer_text t.machine b ++ rest) e ∙ ap (λ (x : List ℕ). x ++ rest) memory_text,
+          eo ∙ ap (λ (b : Told). answer_text t.machine b ++ rest) e ∙ ap (λ (x : List ℕ). x ++ rest) memory_text,
           outs_tell script t lines rest k h (same_machine (judges_stay s t line a judged e) ∙ at) lack.1 o,
         ),
       )

@@ -1,8 +1,8 @@
 -- Undo and redo in a script.
-use Rattle.script_laws.proofs.Prelude.{◌≡◌, ◌≢◌, ℕ, zero, suc, ◌+◌, Bool, true, false, cond, nat_eq, List, [], ◌∷◌, ◌++◌, codes, length, Option, Some, None, Result, Ok, Err, refl, sym, ap, ◌∙◌, arith, append-nil, append_assoc, nat_tests, AllByRecursion, Refusal, Model, Machine, start, held, undo, undo_refusal, redo, redo_refusal, answer, face_refusal, solid_refusal, plane_of, is_flat, six_volume, counts, arguments, request_of, lines_of, words, Question, Told, asked, value_or_refusal, Request, Fault, listing, done, answer_when, answer_text, moved, obeyed, answered, answer_of, machine_after, output_from, Answer, answers, EndsLine, times, HasNo, oks, Adds}
+use Rattle.script_laws.proofs.Prelude.{◌≡◌, ◌≢◌, ℕ, zero, suc, ◌+◌, Bool, true, false, cond, nat_eq, List, [], ◌∷◌, ◌++◌, codes, length, Option, Some, None, Result, Ok, Err, refl, sym, ap, ◌∙◌, arith, append-nil, append_assoc, nat_tests, AllByRecursion, Refusal, Model, Machine, start, held, undo, undo_refusal, redo, redo_refusal, answer, face_refusal, solid_refusal, plane_of, is_flat, six_volume, counts, arguments, request_of, lines_of, words, Question, Told, asked, value_or_refusal, Request, Fault, listing, answer_text, moved, obeyed, answered, answer_of, machine_after, output_from, answers, EndsLine, times, HasNo, oks, Adds, Done}
 use Rattle.call_types.specs.declared.command.Question.TheVariants as question
 use Rattle.call_types.specs.declared.command.Command.TheVariants as command
-use Rattle.commands.specs.declared.told.Told.TheVariants as told
+use Rattle.solid_listing.specs.declared.told.Told.TheVariants as told
 use Rattle.script_reader.specs.declared.command.Request.TheVariants as request
 use Rattle.solid_listing.proofs.EmptyModels.{empty-listing}
 use Rattle.script_laws.proofs.Behind.{after, reached, adds_from}
@@ -50,19 +50,19 @@ undo_goes N p M f = rw (some_length N p) refl
 pub redo_goes : (p : List Model) (M N : Model) (f : List Model) → redo_refusal (machine p M (N ∷ f)) ≡ None
 redo_goes p M N f = rw (some_length N f) refl
 
-pub goes : (o : Option Refusal) (s next : Machine) → o ≡ None → ((moved o s next).0 ≡ done) × ((moved o s next).1 ≡ next)
+pub goes : (o : Option Refusal) (s next : Machine) → o ≡ None → ((moved o s next).0 ≡ Done) × ((moved o s next).1 ≡ next)
 goes None s next e = (refl, refl)
 goes (Some r) s next e = absurd (cc e)
 
 pub undo_done : (N : Model) (p : List Model) (M : Model) (f : List Model)
-    → (answer_of (machine (N ∷ p) M f) (codes "undo") ≡ done) × (machine_after (machine (N ∷ p) M f) (codes "undo") ≡ machine p N (M ∷ f))
+    → (answer_of (machine (N ∷ p) M f) (codes "undo") ≡ Done) × (machine_after (machine (N ∷ p) M f) (codes "undo") ≡ machine p N (M ∷ f))
 undo_done N p M f =
     let s = machine (N ∷ p) M f in
     let g = goes (undo_refusal s) s (undo s) (undo_goes N p M f) in
     (answer_is s (codes "undo") undoing undo_spelled ∙ g.0, machine_is s (codes "undo") undoing undo_spelled ∙ g.1)
 
 pub redo_done : (p : List Model) (M N : Model) (f : List Model)
-    → (answer_of (machine p M (N ∷ f)) (codes "redo") ≡ done) × (machine_after (machine p M (N ∷ f)) (codes "redo") ≡ machine (M ∷ p) N f)
+    → (answer_of (machine p M (N ∷ f)) (codes "redo") ≡ Done) × (machine_after (machine p M (N ∷ f)) (codes "redo") ≡ machine (M ∷ p) N f)
 redo_done p M N f =
     let s = machine p M (N ∷ f) in
     let g = goes (redo_refusal s) s (redo s) (redo_goes p M N f) in
@@ -70,7 +70,7 @@ redo_done p M N f =
 
 pub list_text : (s : Machine) → output_from false s (lines_of (codes "list\n")) ≡ listing (held s)
 list_text s =
-    ap (λ (a : Answer). answer_text (machine_after s (codes "list")) a ++ []) (answer_is s (codes "list") request.List list_spelled)
+    ap (λ (a : Told). answer_text (machine_after s (codes "list")) a ++ []) (answer_is s (codes "list") request.List list_spelled)
     ∙ ap (λ (t : Machine). listing (held t) ++ []) (machine_is s (codes "list") request.List list_spelled)
     ∙ append-nil (listing (held s))
 
@@ -92,7 +92,7 @@ redo_first p M [] = refl
 redo_first p M (N ∷ f) = refl
 
 -- the first model stays
-record KeepsFirst (s : Machine) (turn : Answer × Machine) : Type 0 where
+record KeepsFirst (s : Machine) (turn : Told × Machine) : Type 0 where
   same : first turn.1 ≡ first s
 
 moved_first : (o : Option Refusal) (s next : Machine) → first next ≡ first s → KeepsFirst s (moved o s next)
@@ -121,7 +121,7 @@ lines_first s (line ∷ lines) = lines_first (machine_after s line) lines ∙ li
 -- ---- how many models are behind
 
 -- one more where it was done, and as many where not
-abbrev Grows : Machine → Answer × Machine → Type 0
+abbrev Grows : Machine → Told × Machine → Type 0
 Grows s turn = length turn.1.past ≡ length s.past + cond (is_ok turn.0) 1 0
 
 stays_so : (n m : ℕ) (b : Bool) → m ≡ n → b ≡ false → m ≡ n + cond b 1 0
@@ -132,11 +132,11 @@ moved_grows : (o : Option Refusal) (s next : Machine) → length next.past ≡ l
 moved_grows None s next e = e
 moved_grows (Some r) s next e = omega arith
 
-value_other : (o : Option Refusal) (b : Told) → is_ok (answer_when b) ≡ false → is_ok (answer_when (value_or_refusal (answer o b))) ≡ false
+value_other : (o : Option Refusal) (b : Told) → is_ok b ≡ false → is_ok (value_or_refusal (answer o b)) ≡ false
 value_other None b e = e
 value_other (Some r) b e = refl
 
-pub asked_other : (M : Model) (q : Question) → is_ok (answer_when (asked M q)) ≡ false
+pub asked_other : (M : Model) (q : Question) → is_ok (asked M q) ≡ false
 asked_other M (question.Plane f) = value_other (face_refusal M f) (told.Plane (plane_of M f) (is_flat M f)) refl
 asked_other M (question.Volume n) = value_other (solid_refusal M n) (told.Volume (six_volume M n)) refl
 asked_other M (question.Count n) = value_other (solid_refusal M n) (told.Counts (counts M n)) refl
@@ -178,7 +178,7 @@ one_undone N p M f more =
     let s = machine (N ∷ p) M f in
     let u = undo_done N p M f in
     ap (λ (t : Machine). answer_text t (answer_of s (codes "undo")) ++ output_from false t (lines_of more)) u.1
-    ∙ ap (λ (a : Answer). answer_text (machine p N (M ∷ f)) a ++ output_from false (machine p N (M ∷ f)) (lines_of more)) u.0
+    ∙ ap (λ (a : Told). answer_text (machine p N (M ∷ f)) a ++ output_from false (machine p N (M ∷ f)) (lines_of more)) u.0
     ∙ ap (λ (t : List ℕ). t ++ output_from false (machine p N (M ∷ f)) (lines_of more)) done_text
 
 all_undone : (k : ℕ) (p : List Model) (M : Model) (f : List Model) → k ≡ length p

@@ -12,9 +12,9 @@ use Rattle.call_types.specs.declared.command.Question.TheVariants as question
 use Rattle.call_types.specs.declared.command.Command.{Command}
 use Rattle.call_types.specs.declared.command.Command.TheVariants.{Ask, Change}
 use Rattle.solid_listing.specs.Lines.{line_text, spaced}
-use Rattle.solid_listing.specs.Replies.{reply_text}
-use Rattle.solid_listing.specs.declared.reply.Reply.{Reply}
-use Rattle.solid_listing.specs.declared.reply.Reply.TheVariants as reply
+use Rattle.solid_listing.specs.Replies.{reply_text, tally_words}
+use Rattle.solid_listing.specs.declared.told.Told.{Told}
+use Rattle.solid_listing.specs.declared.told.Told.TheVariants as told
 use Rattle.script_reader.specs.Fault as fault
 use Rattle.script_reader.specs.declared.command.Fault.{Fault}
 use Rattle.script_reader.specs.Newline as newline
@@ -71,7 +71,7 @@ UndoneLinesCanBeLeftOut = (script line : List ℕ) → EndsLine script → newli
 abbrev pub UndosLeadBack : Type 0
 UndosLeadBack = (script : List ℕ) → EndsLine script → HasNo (codes "undo") script → HasNo (codes "redo") script → IsTakenBack script (oks (answers script))
 
--- whatever a script is, some number of undos leads back to the start
+-- whatever a script is, some number of undos, which are all answered `ok`, leads to the empty model
 abbrev pub SomeUndosLeadBack : Type 0
 SomeUndosLeadBack = (script : List ℕ) → EndsLine script → (n : ℕ) × IsTakenBack script n
 
@@ -130,7 +130,7 @@ pub record VolumesGrow (script line : List ℕ) (f : ℕ) (d : Point) : Type 0 w
   pub solid : ℕ
   pub plane : Plane
   pub flat : Bool
-  pub faced : (ask : List ℕ) → Spells ask (Ask (question.Plane f)) → Adds script (ended ask) (reply_text (reply.Plane plane flat))
+  pub faced : (ask : List ℕ) → Spells ask (Ask (question.Plane f)) → Adds script (ended ask) (reply_text (told.Plane plane flat))
   pub grown : (ask : List ℕ) → Spells ask (Ask (question.Volume solid))
       → (u : ℤ) × Adds script (ended ask) (volume_answer u) × Adds (script ++ ended line) (ended ask) (volume_answer (u +ℤ pos 3 *ℤ dot (direction plane) d))
   pub others : AnswersAsBefore (λ n. n ≢ solid) script line
@@ -150,7 +150,7 @@ pub record VolumesJoin (script line : List ℕ) (f g : ℕ) : Type 0 where
   pub listed : (text : List ℕ) → Adds script (codes "list\n") text → ListsFace f first text × ListsFace g second text
   pub joined : (one other : List ℕ) → Spells one (Ask (question.Volume first)) → Spells other (Ask (question.Volume second))
       → (u : ℤ) × (v : ℤ) × Adds script (ended one) (volume_answer u) × Adds script (ended other) (volume_answer v) × Adds (script ++ ended line) (ended one) (volume_answer (u +ℤ v))
-  pub gone : (other : List ℕ) → Spells other (Ask (question.Volume second)) → Adds (script ++ ended line) (ended other) (reply_text (reply.Refused (why.code_of NoSolid) second))
+  pub gone : (other : List ℕ) → Spells other (Ask (question.Volume second)) → Adds (script ++ ended line) (ended other) (reply_text (told.Refused (record { why = NoSolid; number = second })))
   pub others : AnswersAsBefore (λ n. (n ≢ first) × (n ≢ second)) script line
 
 abbrev pub GluesMeasure : Type 0
@@ -159,7 +159,7 @@ GluesMeasure = (script line : List ℕ) (f g : ℕ) → EndsLine script → Spel
 -- after a script of blocks and splits, a question for a volume is answered a number greater than 0, or it is refused
 abbrev pub BlocksAndSplitsHaveVolume : Type 0
 BlocksAndSplitsHaveVolume = (script ask : List ℕ) (n : ℕ) → EndsLine script → OnlyBlocksAndSplits script → Spells ask (Ask (question.Volume n))
-    → ((z : ℤ) × (int_lt (pos 0) z ≡ true) × Adds script (ended ask) (volume_answer z)) ⊎ ((w : Why) × Adds script (ended ask) (reply_text (reply.Refused (why.code_of w) n)))
+    → ((z : ℤ) × (int_lt (pos 0) z ≡ true) × Adds script (ended ask) (volume_answer z)) ⊎ ((w : Why) × Adds script (ended ask) (reply_text (told.Refused (record { why = w; number = n }))))
 
 -- other changes may make a solid whose volume is 0, or less: an example, computed
 abbrev pub OthersMayHaveNone : Type 0
@@ -176,19 +176,20 @@ WrittenVolumesArePositive = (script text : List ℕ) (lines others : List (List 
 
 -- ---- replies
 
--- the numbers of a reply are in the ranges of their types
-abbrev pub Fits : Reply → Type 0
-Fits reply.Done = Unit {0}
-Fits (reply.Refused n x) = (n < 2 ^ 32) × (x < 2 ^ 32)
-Fits (reply.Fault n) = n < 2 ^ 32
-Fits reply.Memory = Unit {0}
-Fits (reply.Plane p flat) = (mag p.a < 2 ^ 127) × (mag p.b < 2 ^ 127) × (mag p.c < 2 ^ 127) × (mag p.d < 2 ^ 127)
-Fits (reply.Volume n) = mag n < 2 ^ 127
-Fits (reply.Count ns) = AllByRecursion (λ n. mag n < 2 ^ 63) ns
+-- what is told in one line, with numbers below these powers of 2, whatever their signs
+abbrev pub Fits : Told → Type 0
+Fits told.Done = Unit {0}
+Fits (told.Refused r) = r.number < 2 ^ 32
+Fits (told.Fault n) = n < 2 ^ 32
+Fits told.Memory = Unit {0}
+Fits (told.Plane p flat) = (mag p.a < 2 ^ 127) × (mag p.b < 2 ^ 127) × (mag p.c < 2 ^ 127) × (mag p.d < 2 ^ 127)
+Fits (told.Volume n) = mag n < 2 ^ 127
+Fits (told.Counts n) = AllByRecursion (λ z. mag z < 2 ^ 63) (tally_words n)
+Fits a = ⊥
 
--- a text begins with at most one reply
+-- a text begins with at most one of these
 abbrev pub RepliesTell : Type 0
-RepliesTell = (r q : Reply) (x y : List ℕ) → Fits r → Fits q → reply_text r ++ x ≡ reply_text q ++ y → (r ≡ q) × (x ≡ y)
+RepliesTell = (r q : Told) (x y : List ℕ) → Fits r → Fits q → reply_text r ++ x ≡ reply_text q ++ y → (r ≡ q) × (x ≡ y)
 
 -- the number of a refusal tells why a command was refused, and that of a fault what is wrong with a line
 abbrev pub RefusalsTell : Type 0

@@ -1,7 +1,6 @@
 -- The counts of a run.
-use Rattle.script_running.proofs.Prelude.{◌≡◌, ◌+◌, ◌≤◌, ℕ, Bool, true, false, refl, ap, arith, ◌==◌, ◌&&◌, and_from, and_parts, both_ways, false_from_ne_true, false≢true, not-false, not-true, not_from_false, not_from_true, nat_tests, no_lines, one_line, counted, is_clean, stops, was_stopped, Answer, Summary}
-use Rattle.solid_listing.specs.declared.reply.Reply.TheVariants as reply
-use Rattle.script_running.specs.Common.{Says}
+use Rattle.script_running.proofs.Prelude.{◌≡◌, ◌+◌, ◌≤◌, ℕ, Bool, true, false, refl, ap, arith, ◌==◌, ◌&&◌, and_from, and_parts, both_ways, false_from_ne_true, false≢true, not-false, not-true, not_from_false, not_from_true, nat_tests, no_lines, one_line, counted, is_clean, stops, was_stopped, Told, Summary}
+use Rattle.solid_listing.specs.declared.told.Told.TheVariants as told
 
 -- no reply is counted twice, nor without its line
 pub record IsWithin (n : Summary) : Type 0 where
@@ -22,14 +21,14 @@ pub none_counted : (a : Summary) → counted no_lines a ≡ a
 none_counted a = same_counts (counted no_lines a) a (omega arith) (omega arith) (omega arith) (omega arith)
 
 -- a line is counted once, and its answer in one kind at most
-one_counted : (a : Answer) → ((one_line a).lines ≡ 1) × ((one_line a).refused ≤ 1) × ((one_line a).faults ≤ 1) × ((one_line a).memory ≤ 1)
-one_counted (Says reply.Done) = (refl, omega arith, omega arith, omega arith)
+one_counted : (a : Told) → ((one_line a).lines ≡ 1) × ((one_line a).refused ≤ 1) × ((one_line a).faults ≤ 1) × ((one_line a).memory ≤ 1)
+one_counted told.Done = (refl, omega arith, omega arith, omega arith)
 one_counted a = (refl, omega arith, omega arith, omega arith)
 
-pub one_more : (a : Answer) → (one_line a).lines ≡ 1
+pub one_more : (a : Told) → (one_line a).lines ≡ 1
 one_more a = (one_counted a).0
 
-pub counted_within : (n : Summary) (a : Answer) → IsWithin n → IsWithin (counted n (one_line a))
+pub counted_within : (n : Summary) (a : Told) → IsWithin n → IsWithin (counted n (one_line a))
 counted_within n a h = let o = one_counted a in record {
   refused = omega (arith, h.refused, o.0, o.1);
   faults = omega (arith, h.faults, o.0, o.2);
@@ -52,12 +51,12 @@ clean_at n e =
     and_from _ _ (and_from _ _ (zero n.refused (omega arith)) (zero n.faults (omega arith))) (zero n.memory (omega arith))
 
 -- the answer that stops a run is counted
-pub stop_counted : (stop : Bool) (n : Summary) (a : Answer) → stops stop a ≡ true → was_stopped stop (counted n (one_line a)) ≡ true
+pub stop_counted : (stop : Bool) (n : Summary) (a : Told) → stops stop a ≡ true → was_stopped stop (counted n (one_line a)) ≡ true
 stop_counted true n a e = not_from_false _ (false_from_ne_true _ (λ c. let none = none_raised (counted n (one_line a)) c in both_ways _ (not-true _ e) (clean_at (one_line a) (omega (arith, none)))))
 stop_counted false n a e = absurd (false≢true e)
 
 -- an answer that doesn't stop a run leaves it unstopped
-pub calm_counted : (stop : Bool) (n : Summary) (a : Answer) → was_stopped stop n ≡ false → stops stop a ≡ false → was_stopped stop (counted n (one_line a)) ≡ false
+pub calm_counted : (stop : Bool) (n : Summary) (a : Told) → was_stopped stop n ≡ false → stops stop a ≡ false → was_stopped stop (counted n (one_line a)) ≡ false
 calm_counted true n a u calm =
     let before = none_raised n (not-false _ u) in let one = none_raised (one_line a) (not-false _ calm) in not_from_true _ (clean_at (counted n (one_line a)) (omega (arith, before, one)))
 calm_counted false n a u calm = refl

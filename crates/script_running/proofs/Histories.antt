@@ -1,5 +1,5 @@
 -- A line is a call of a history, and a run tells one.
-use Rattle.script_running.proofs.Prelude.{◌≡◌, inl, inr, ℕ, suc, Bool, List, [], ◌∷◌, ◌++◌, length, Option, Ok, Err, refl, sym, ap, subst, ◌∙◌, arith, Result, IfOk, append-nil, Answer, Call, Change, Fault, IsCall, IsConsistent, Journal, Machine, Request, RunFault, Sound, Summary, after_call, after_calls, held, lines_of, new_journal, over, request_of, start, within_limit, same_machine, Obeys, Answers, Judges, answer_text, Outs, BreaksOff, Served, WriteFails}
+use Rattle.script_running.proofs.Prelude.{◌≡◌, inl, inr, ℕ, suc, Bool, List, [], ◌∷◌, ◌++◌, length, Option, Ok, Err, refl, sym, ap, subst, ◌∙◌, arith, Result, IfOk, append-nil, Told, Call, Change, Fault, IsCall, IsConsistent, Journal, Machine, Request, RunFault, Sound, Summary, after_call, after_calls, held, lines_of, new_journal, over, request_of, start, within_limit, same_machine, Obeys, Answers, Judges, answer_text, Outs, BreaksOff, Served, WriteFails}
 use Rattle.undo_journal.specs.Laws.{HistoriesAreConsistent}
 use Rattle.commands.specs.Calls.{CommandsAreCalls}
 use Rattle.commands.proofs.Calls.{stopped}
@@ -10,12 +10,12 @@ use Rattle.script_running.specs.declared.running.RunFault.TheVariants as fault
 use Rattle.script_running.proofs.Counting.{one_more}
 
 -- what a line asks for is one call
-obeys : CommandsAreCalls → (s t : Journal) (r : Request) (a : Answer) → Sound (held s.machine) → Obeys s r a t → IsCall s.machine t.machine
-obeys l s t (request.Over o ps) a k h = l s t (Change (over o ps)) h.0 k h.2
-obeys l s t (request.Give c) a k h = l s t c h.0 k h.2
+obeys : CommandsAreCalls → (s t : Journal) (r : Request) (a : Told) → Sound (held s.machine) → Obeys s r a t → IsCall s.machine t.machine
+obeys l s t (request.Over o ps) a k h = l s t (Change (over o ps)) a k h
+obeys l s t (request.Give c) a k h = l s t c a k h
 obeys l s t r a k h = stopped s.machine t.machine (same_machine h.1)
 
-answers : CommandsAreCalls → (s t : Journal) (r : Result Request Fault) (a : Answer) → Sound (held s.machine) → Answers s r a t → IsCall s.machine t.machine
+answers : CommandsAreCalls → (s t : Journal) (r : Result Request Fault) (a : Told) → Sound (held s.machine) → Answers s r a t → IsCall s.machine t.machine
 answers l s t (Ok r) a k h = obeys l s t r a k h
 answers l s t (Err f) a k h = stopped s.machine t.machine (same_machine h.1)
 
@@ -52,7 +52,7 @@ record Takes (s : Journal) (lines : List (List ℕ)) (out : List ℕ) (n : ℕ) 
   count : length turns ≡ n
 
 -- a turn is taken in a session to which a list of calls leads
-module _ (l : LinesLaws) (s t : Journal) (line : List ℕ) (a : Answer) (h : HasHistory s.machine) (judged : Judges s line a t) where
+module _ (l : LinesLaws) (s t : Journal) (line : List ℕ) (a : Told) (h : HasHistory s.machine) (judged : Judges s line a t) where
   call : IsCall s.machine t.machine
   call = l.calls s t line a (l.consistent s.machine h).held_sound judged
 

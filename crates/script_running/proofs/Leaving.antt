@@ -1,11 +1,11 @@
 -- The session that a run leaves, from what was heard and told.
-use Rattle.script_running.proofs.Prelude.{◌≡◌, ◌∙◌, ◌+◌, ℕ, List, [], ◌∷◌, ◌++◌, length, Option, Some, Ok, Err, IfOk, Result, ap, append-nil, append_assoc, arith, length-append, refl, subst, sym, Answer, Journal, Judges, RunFault, Session, Stage, Summary, answer_text, counted, lines_of, new_journal, one_line, within_limit}
+use Rattle.script_running.proofs.Prelude.{◌≡◌, ◌∙◌, ◌+◌, ℕ, List, [], ◌∷◌, ◌++◌, length, Option, Some, Ok, Err, IfOk, Result, ap, append-nil, append_assoc, arith, length-append, refl, subst, sym, Told, Journal, Judges, RunFault, Session, Stage, Summary, answer_text, counted, lines_of, new_journal, one_line, within_limit}
 use Rattle.script_running.proofs.Counting.{one_more}
 use Rattle.script_running.specs.Leaving.{LeadOn, Leaves}
 use Rattle.script_running.specs.declared.running.RunFault.TheVariants as faults
 
 -- one line more
-pub lead_more : (s t u : Journal) (heard : List (List ℕ)) (line out : List ℕ) (a : Answer) → LeadOn s heard out t → Judges t line a u → LeadOn s (heard ++ line ∷ []) (out ++ answer_text u.machine a) u
+pub lead_more : (s t u : Journal) (heard : List (List ℕ)) (line out : List ℕ) (a : Told) → LeadOn s heard out t → Judges t line a u → LeadOn s (heard ++ line ∷ []) (out ++ answer_text u.machine a) u
 lead_more s t u [] line out a h judged =
     (a, u, [], subst (λ (q : Journal). Judges q line a u) h.1 judged, ap (λ (xs : List ℕ). xs ++ answer_text u.machine a) h.0 ∙ sym (append-nil (answer_text u.machine a)), (refl, refl))
 lead_more s t u (l ∷ heard) line out a (b, next, rest, told, text, on) judged = (
@@ -17,7 +17,7 @@ lead_more s t u (l ∷ heard) line out a (b, next, rest, told, text, on) judged 
   lead_more next t u heard line rest a on judged,
 )
 
-pub one_heard : (n m : Summary) (a : Answer) (heard : List (List ℕ)) (line : List ℕ) → length heard ≡ n.lines → m ≡ counted n (one_line a) → length (heard ++ line ∷ []) ≡ m.lines
+pub one_heard : (n m : Summary) (a : Told) (heard : List (List ℕ)) (line : List ℕ) → length heard ≡ n.lines → m ≡ counted n (one_line a) → length (heard ++ line ∷ []) ≡ m.lines
 one_heard n m a heard line each is =
     let more : m.lines ≡ n.lines + (one_line a).lines = ap (λ (k : Summary). k.lines) is in omega (arith, length-append heard (line ∷ []), each, one_more a, more)
 

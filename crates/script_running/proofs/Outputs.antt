@@ -1,82 +1,77 @@
 -- Lines that are answered without `memory` are answered by their output.
-use Rattle.script_running.proofs.Prelude.{◌≡◌, inl, inr, ℕ, Bool, true, false, List, [], ◌∷◌, ◌++◌, refl, sym, ap, subst, ◌∙◌, arith, Option, Some, None, Ok, Err, ◌⊎◌, Result, if◌then◌else◌, append-nil, false≢true, Answer, Ask, Change, Command, Fault, Journal, LeavesRecord, Machine, Model, Question, Redo, Refusal, Request, Settled, Summary, TellsSession, Told, Undo, accepted, after_redo, after_undo, over, request_of, held, made, operators_of, record_of, recorded, value_or_refusal, same_machine, answer, face_refusal, solid_refusal, plane_of, is_flat, six_volume, counts, done, answer_when, Gives, Obeys, Answers, Judges, answer_text, one_line, counted, stops, Outs, moved, given, obeyed, answered, answer_of, machine_after, output_from, summary_from}
-use Rattle.script_running.specs.Common.{Says, asked}
+use Rattle.script_running.proofs.Prelude.{◌≡◌, inl, inr, ℕ, Bool, true, false, List, [], ◌∷◌, ◌++◌, refl, sym, ap, subst, ◌∙◌, arith, Option, Some, None, Ok, Err, ◌⊎◌, Result, if◌then◌else◌, append-nil, false≢true, Told, Ask, Change, Command, Fault, Journal, LeavesRecord, Machine, Model, Question, Redo, Refusal, Request, Settled, Summary, TellsSession, Undo, accepted, after_redo, after_undo, over, request_of, held, made, operators_of, record_of, recorded, value_or_refusal, same_machine, answer, face_refusal, solid_refusal, plane_of, is_flat, six_volume, counts, Obeys, Answers, Judges, answer_text, one_line, counted, stops, Outs, moved, given, obeyed, answered, answer_of, machine_after, output_from, summary_from}
+use Rattle.script_running.specs.Common.{asked}
 use Rattle.call_types.specs.declared.command.Question.TheVariants as question
-use Rattle.commands.specs.declared.told.Told.TheVariants as told
+use Rattle.solid_listing.specs.declared.told.Told.TheVariants as told
 use Rattle.script_reader.specs.declared.command.Request.TheVariants as request
-use Rattle.solid_listing.specs.declared.reply.Reply.TheVariants as reply
 
 -- memory isn't told
-abbrev IsQuiet : Answer → Type 0
+abbrev IsQuiet : Told → Type 0
 IsQuiet a = (one_line a).memory ≡ 0
 
 -- the answer and the machine after it are those of the function
-abbrev IsTurn : Answer → Journal → Answer × Machine → Type 0
+abbrev IsTurn : Told → Journal → Told × Machine → Type 0
 IsTurn a t turn = (a ≡ turn.0) × (t.machine ≡ turn.1)
 
-not_told : (a : Answer) → a ≡ Says reply.Memory → IsQuiet a → ⊥
-not_told a e quiet = omega (arith, subst (λ (b : Answer). (one_line b).memory ≡ 0) e quiet)
+not_told : (a : Told) → a ≡ told.Memory → IsQuiet a → ⊥
+not_told a e quiet = omega (arith, subst (λ (b : Told). (one_line b).memory ≡ 0) e quiet)
 
 -- ---- what may be answered without `memory` is the function's
 
-settled_so : (o : Option Refusal) (L G : Type 0) (s t : Journal) (next : Machine) (b : Told) → (G → t.machine ≡ next) → Settled o L (t ≡ s) G b → IsQuiet (answer_when b) → IsTurn (answer_when b) t (moved o s.machine next)
-settled_so o L G s t next told.Done goes h x = subst (λ (q : Option Refusal). IsTurn done t (moved q s.machine next)) (sym h.0) (refl, goes h.1)
-settled_so o L G s t next (told.Refused r) goes h x = subst (λ (q : Option Refusal). IsTurn (answer_when (told.Refused r)) t (moved q s.machine next)) (sym h.0) (refl, same_machine h.1)
-settled_so o L G s t next told.Memory goes h x = absurd (not_told (Says reply.Memory) refl x)
+settled_so : (o : Option Refusal) (L G : Type 0) (s t : Journal) (next : Machine) (b : Told) → (G → t.machine ≡ next) → Settled o L (t ≡ s) G b → IsQuiet b → IsTurn b t (moved o s.machine next)
+settled_so o L G s t next told.Done goes h x = subst (λ (q : Option Refusal). IsTurn told.Done t (moved q s.machine next)) (sym h.0) (refl, goes h.1)
+settled_so o L G s t next (told.Refused r) goes h x = subst (λ (q : Option Refusal). IsTurn (told.Refused r) t (moved q s.machine next)) (sym h.0) (refl, same_machine h.1)
+settled_so o L G s t next told.Memory goes h x = absurd (not_told told.Memory refl x)
 settled_so o L G s t next b goes h x = absurd h
 
-tells_so : (s t : Journal) (c : Command) (b : Told) → TellsSession s c b t → IsQuiet (answer_when b) → IsTurn (answer_when b) t (given s.machine c)
-tells_so s t (Change c) b h x = settled_so _ _ _ s t _ b (λ g. g.0) h x
-tells_so s t (Ask q) b h x = (ap answer_when h.0, same_machine h.1)
-tells_so s t c b h x = settled_so _ _ _ s t _ b same_machine h x
+tells_so : (s t : Journal) (c : Command) (a : Told) → TellsSession s c a t → IsQuiet a → IsTurn a t (given s.machine c)
+tells_so s t (Change c) a h x = settled_so _ _ _ s t _ a (λ g. g.0) h x
+tells_so s t (Ask q) a h x = (h.0, same_machine h.1)
+tells_so s t c a h x = settled_so _ _ _ s t _ a same_machine h x
 
-gives_so : (s t : Journal) (c : Command) (a : Answer) → Gives s c a t → IsQuiet a → IsTurn a t (given s.machine c)
-gives_so s t c a (b, is, h) x = subst (λ (z : Answer). IsTurn z t (given s.machine c)) (sym is) (tells_so s t c b h (subst (λ (z : Answer). IsQuiet z) is x))
-
-obeys_so : (s t : Journal) (r : Request) (a : Answer) → Obeys s r a t → IsQuiet a → IsTurn a t (obeyed s.machine r)
-obeys_so s t (request.Over o ps) a h x = gives_so s t (Change (over o ps)) a h x
-obeys_so s t (request.Give c) a h x = gives_so s t c a h x
+obeys_so : (s t : Journal) (r : Request) (a : Told) → Obeys s r a t → IsQuiet a → IsTurn a t (obeyed s.machine r)
+obeys_so s t (request.Over o ps) a h x = tells_so s t (Change (over o ps)) a h x
+obeys_so s t (request.Give c) a h x = tells_so s t c a h x
 obeys_so s t r a h x = (h.0, same_machine h.1)
 
-answers_so : (s t : Journal) (r : Result Request Fault) (a : Answer) → Answers s r a t → IsQuiet a → IsTurn a t (answered s.machine r)
+answers_so : (s t : Journal) (r : Result Request Fault) (a : Told) → Answers s r a t → IsQuiet a → IsTurn a t (answered s.machine r)
 answers_so s t (Ok r) a h x = obeys_so s t r a h x
 answers_so s t (Err f) a h x = (h.0, same_machine h.1)
 
-pub judges_so : (s t : Journal) (line : List ℕ) (a : Answer) → Judges s line a t → IsQuiet a → (a ≡ answer_of s.machine line) × (t.machine ≡ machine_after s.machine line)
+pub judges_so : (s t : Journal) (line : List ℕ) (a : Told) → Judges s line a t → IsQuiet a → (a ≡ answer_of s.machine line) × (t.machine ≡ machine_after s.machine line)
 unfolding answer_of machine_after
 judges_so s t line a h x = answers_so s t (request_of line) a h x
 
 -- ---- what the function gives may be answered, and isn't `memory`
 
-value_quiet : (o : Option Refusal) (b : Told) → IsQuiet (answer_when b) → IsQuiet (answer_when (value_or_refusal (answer o b)))
+value_quiet : (o : Option Refusal) (b : Told) → IsQuiet b → IsQuiet (value_or_refusal (answer o b))
 value_quiet None b x = x
 value_quiet (Some r) b x = refl
 
-asked_quiet : (M : Model) (q : Question) → IsQuiet (answer_when (asked M q))
+asked_quiet : (M : Model) (q : Question) → IsQuiet (asked M q)
 asked_quiet M (question.Plane f) = value_quiet (face_refusal M f) (told.Plane (plane_of M f) (is_flat M f)) refl
 asked_quiet M (question.Volume n) = value_quiet (solid_refusal M n) (told.Volume (six_volume M n)) refl
 asked_quiet M (question.Count n) = value_quiet (solid_refusal M n) (told.Counts (counts M n)) refl
 
 -- a session that may be gone on to with this answer, which isn't `memory`, on this machine
-abbrev LeadsOn : (Answer → Journal → Type 0) → Answer × Machine → Type 0
+abbrev LeadsOn : (Told → Journal → Type 0) → Told × Machine → Type 0
 LeadsOn R turn = (t : Journal) × R turn.0 t × (t.machine ≡ turn.1) × IsQuiet turn.0
 
-settled_to : (o : Option Refusal) (L : Type 0) (s u : Journal) (G : Journal → Type 0) → G u
-    → LeadsOn (λ a t. (b : Told) × (a ≡ answer_when b) × Settled o L (t ≡ s) (G t) b) (moved o s.machine u.machine)
-settled_to None L s u G g = (u, (told.Done, refl, (refl, g)), refl, refl)
-settled_to (Some r) L s u G g = (s, (told.Refused r, refl, (refl, refl)), refl, refl)
+settled_to : (o : Option Refusal) (L : Type 0) (s u : Journal) (G : Journal → Type 0) → G u → LeadsOn (λ a t. Settled o L (t ≡ s) (G t) a) (moved o s.machine u.machine)
+settled_to None L s u G g = (u, (refl, g), refl, refl)
+settled_to (Some r) L s u G g = (s, (refl, refl), refl, refl)
 
-gives_to : (s : Journal) (c : Command) → LeadsOn (Gives s c) (given s.machine c)
-gives_to s (Change c) =
+tells_to : (s : Journal) (c : Command) → LeadsOn (TellsSession s c) (given s.machine c)
+tells_to s (Change c) =
     let M = held s.machine in let next = accepted s.machine (made M c) in
     settled_to _ _ s (record { machine = next; records = recorded s (record_of M (operators_of M c)) }) (λ (t : Journal). (t.machine ≡ next) × LeavesRecord s c t) (refl, refl)
-gives_to s (Ask q) = (s, (asked (held s.machine) q, refl, (refl, refl)), refl, asked_quiet (held s.machine) q)
-gives_to s Undo = settled_to _ _ s (after_undo s) (λ (t : Journal). t ≡ after_undo s) refl
-gives_to s Redo = settled_to _ _ s (after_redo s) (λ (t : Journal). t ≡ after_redo s) refl
+tells_to s (Ask q) = (s, (refl, refl), refl, asked_quiet (held s.machine) q)
+tells_to s Undo = settled_to _ _ s (after_undo s) (λ (t : Journal). t ≡ after_undo s) refl
+tells_to s Redo = settled_to _ _ s (after_redo s) (λ (t : Journal). t ≡ after_redo s) refl
 
 obeys_to : (s : Journal) (r : Request) → LeadsOn (Obeys s r) (obeyed s.machine r)
-obeys_to s (request.Over o ps) = gives_to s (Change (over o ps))
-obeys_to s (request.Give c) = gives_to s c
+obeys_to s (request.Over o ps) = tells_to s (Change (over o ps))
+obeys_to s (request.Give c) = tells_to s c
 obeys_to s r = (s, (refl, refl), refl, refl)
 
 answers_to : (s : Journal) (r : Result Request Fault) → LeadsOn (Answers s r) (answered s.machine r)
@@ -94,32 +89,32 @@ answer_quiet s line = (answers_to (record { machine = s; records = [] }) (reques
 -- ---- over all lines
 
 -- what is written and counted from an answer on
-abbrev pub After : Bool → List (List ℕ) → Answer → Journal → List ℕ → Summary → Type 0
+abbrev pub After : Bool → List (List ℕ) → Told → Journal → List ℕ → Summary → Type 0
 After stop lines a t out n = ((stops stop a ≡ true) × (out ≡ answer_text t.machine a) × (n ≡ one_line a))
     ⊎ ((stops stop a ≡ false) × ((rest : List ℕ) × (k : Summary) × (out ≡ answer_text t.machine a ++ rest) × (n ≡ counted (one_line a) k) × Outs stop t lines rest k))
 
 -- the answer tells no memory where none is counted
-quiet : (stop : Bool) (lines : List (List ℕ)) (a : Answer) (t : Journal) (out : List ℕ) (n : Summary) → After stop lines a t out n → n.memory ≡ 0 → IsQuiet a
+quiet : (stop : Bool) (lines : List (List ℕ)) (a : Told) (t : Journal) (out : List ℕ) (n : Summary) → After stop lines a t out n → n.memory ≡ 0 → IsQuiet a
 quiet stop lines a t out n (inl (go, eo, en)) none = subst (λ (m : Summary). m.memory ≡ 0) en none
 quiet stop lines a t out n (inr (go, (rest, k, eo, en, p))) none = omega (arith, subst (λ (m : Summary). m.memory ≡ 0) en none)
 
 -- the text and the counts from an answer on, where a test says whether it stops the run
-abbrev pub text_at : Bool → Answer → Machine → List ℕ → List ℕ
+abbrev pub text_at : Bool → Told → Machine → List ℕ → List ℕ
 text_at b a t rest = answer_text t a ++ (if b then [] else rest)
 
-abbrev pub counts_at : Bool → Answer → Summary → Summary
+abbrev pub counts_at : Bool → Told → Summary → Summary
 counts_at b a k = if b then one_line a else counted (one_line a) k
 
-stops_so : (b : Bool) (a : Answer) (t : Machine) (rest : List ℕ) (k : Summary) → b ≡ true → (answer_text t a ≡ text_at b a t rest) × (one_line a ≡ counts_at b a k)
+stops_so : (b : Bool) (a : Told) (t : Machine) (rest : List ℕ) (k : Summary) → b ≡ true → (answer_text t a ≡ text_at b a t rest) × (one_line a ≡ counts_at b a k)
 stops_so true a t rest k e = (sym (append-nil (answer_text t a)), refl)
 stops_so false a t rest k e = absurd (false≢true e)
 
-goes_so : (b : Bool) (a : Answer) (t : Machine) (rest : List ℕ) (k : Summary) → b ≡ false → (answer_text t a ++ rest ≡ text_at b a t rest) × (counted (one_line a) k ≡ counts_at b a k)
+goes_so : (b : Bool) (a : Told) (t : Machine) (rest : List ℕ) (k : Summary) → b ≡ false → (answer_text t a ++ rest ≡ text_at b a t rest) × (counted (one_line a) k ≡ counts_at b a k)
 goes_so true a t rest k e = absurd (false≢true (sym e))
 goes_so false a t rest k e = (refl, refl)
 
 -- from one answer on the text is the function's, where it is from the lines after it
-after_so : (stop : Bool) (lines : List (List ℕ)) (a : Answer) (t : Journal) (out : List ℕ) (n : Summary)
+after_so : (stop : Bool) (lines : List (List ℕ)) (a : Told) (t : Journal) (out : List ℕ) (n : Summary)
     → ((rest : List ℕ) (k : Summary) → Outs stop t lines rest k → k.memory ≡ 0 → (rest ≡ output_from stop t.machine lines) × (k ≡ summary_from stop t.machine lines))
     → After stop lines a t out n → n.memory ≡ 0
     → (out ≡ text_at (stops stop a) a t.machine (output_from stop t.machine lines)) × (n ≡ counts_at (stops stop a) a (summary_from stop t.machine lines))
@@ -140,10 +135,10 @@ outs_so stop s (line ∷ lines) out n (a, t, p, after) x =
     let M = s.machine in
     let same = judges_so s t line a p (quiet stop lines a t out n after x) in
     subst (λ (u : Machine). (out ≡ text_at (stops stop (answer_of M line)) (answer_of M line) u (output_from stop u lines)) × (n ≡ counts_at (stops stop (answer_of M line)) (answer_of M line) (summary_from stop u lines))) same.1
-    (subst (λ (b : Answer). (out ≡ text_at (stops stop b) b t.machine (output_from stop t.machine lines)) × (n ≡ counts_at (stops stop b) b (summary_from stop t.machine lines))) same.0
+    (subst (λ (b : Told). (out ≡ text_at (stops stop b) b t.machine (output_from stop t.machine lines)) × (n ≡ counts_at (stops stop b) b (summary_from stop t.machine lines))) same.0
     (after_so stop lines a t out n (outs_so stop t lines) after x))
 
-pub after_to : (stop : Bool) (lines : List (List ℕ)) (a : Answer) (t : Journal) (rest : List ℕ) (k : Summary) → Outs stop t lines rest k → (b : Bool) → stops stop a ≡ b
+pub after_to : (stop : Bool) (lines : List (List ℕ)) (a : Told) (t : Journal) (rest : List ℕ) (k : Summary) → Outs stop t lines rest k → (b : Bool) → stops stop a ≡ b
     → After stop lines a t (text_at b a t.machine rest) (counts_at b a k)
 after_to stop lines a t rest k o true e = inl (e, append-nil (answer_text t.machine a), refl)
 after_to stop lines a t rest k o false e = inr (e, (rest, k, refl, refl, o))
@@ -160,7 +155,7 @@ outs_to stop s (line ∷ lines) =
           (after_to stop lines a t (output_from stop t.machine lines) (summary_from stop t.machine lines) (outs_to stop t lines) (stops stop a) refl),
     )
 
-counts_quiet : (b : Bool) (a : Answer) (k : Summary) → IsQuiet a → k.memory ≡ 0 → (counts_at b a k).memory ≡ 0
+counts_quiet : (b : Bool) (a : Told) (k : Summary) → IsQuiet a → k.memory ≡ 0 → (counts_at b a k).memory ≡ 0
 counts_quiet true a k x y = x
 counts_quiet false a k x y = omega (arith, x, y)
 

@@ -1,5 +1,5 @@
 -- One line after another.
-use Rattle.script_running.proofs.Prelude.{◌≡◌, inl, inr, ℕ, ◌<◌, Bool, true, false, List, [], ◌∷◌, ◌++◌, length, refl, sym, ap, subst, ◌∙◌, arith, append_assoc, Option, Some, Ok, Err, append-nil, ◌⊎◌, nat_lt, IfOk, IfErr, Result, if◌then◌else◌, false≢true, nat_tests, Appends-nil, Appends-kept, Answer, EndsEarly, Fault, Found, Gathers, HasRead, IsFresh, Journal, Lines, LongLine, NotAscii, Outgoing, Puts, Session, Request, RunFault, Stops, Summary, request_of, request_of_words, is_ascii, line_of, lines_of, new_journal, outgoing, reader_of, taken_of, to_come, unread_of, with_newlines, has_newline, within_limit, words, Breaks, Gathers-nil, Gathers-trans, Breaks-after, all_out, went_out, ConsoleHeeds, spoken, Judges, Answers, answer_text, no_lines, one_line, counted, stops, was_stopped, Outs, output_of, output_from, summary_of, summary_from, Moves, Served, BreaksOff, WriteFails, IsTooLong, Runs, Console, Stage}
+use Rattle.script_running.proofs.Prelude.{◌≡◌, inl, inr, ℕ, ◌<◌, Bool, true, false, List, [], ◌∷◌, ◌++◌, length, refl, sym, ap, subst, ◌∙◌, arith, append_assoc, Option, Some, Ok, Err, append-nil, ◌⊎◌, nat_lt, IfOk, IfErr, Result, if◌then◌else◌, false≢true, nat_tests, Appends-nil, Appends-kept, Told, EndsEarly, Fault, Found, Gathers, HasRead, IsFresh, Journal, Lines, LongLine, NotAscii, Outgoing, Puts, Session, Request, RunFault, Stops, Summary, request_of, request_of_words, is_ascii, line_of, lines_of, new_journal, outgoing, reader_of, taken_of, to_come, unread_of, with_newlines, has_newline, within_limit, words, Breaks, Gathers-nil, Gathers-trans, Breaks-after, all_out, went_out, ConsoleHeeds, spoken, Judges, Answers, answer_text, no_lines, one_line, counted, stops, was_stopped, Outs, output_of, output_from, summary_of, summary_from, Moves, Served, BreaksOff, WriteFails, IsTooLong, Runs, Console, Stage}
 use Rattle.std.specs.Io.KnownBytes.{Appends, Keeps, Consumes, IsAtEnd}
 use Rattle.script_running.specs.Leaving.{LeadOn, Leaves, RunsTo}
 use Rattle.script_running.specs.Reaching.{AsksAnswers}
@@ -8,12 +8,11 @@ use Rattle.script_reader.specs.State.{ending_of}
 use Rattle.script_reader.specs.declared.lines.Ending.TheVariants.{Open}
 use Rattle.std.proofs.KnownBytes.{Consumes-trans}
 use Rattle.script_running.proofs.Leaving.{lead_more, left_so, left_whole, one_heard, read_so, whole_so}
-use Rattle.script_running.specs.Common.{Says}
 use Rattle.script_reader.specs.Next.{Went}
 use Rattle.script_reader.specs.declared.lines.Found.TheVariants as found
 use Rattle.script_reader.proofs.NewlineLaws.{Lacks-append, lacks-behind}
 use Rattle.script_reader.proofs.ScriptLaws.{has_begun, has_line_more, has_long_more, is_read_out, open_text, breaks_at_fault, breaks_at_limit, falls_by_line, falls_by_long}
-use Rattle.solid_listing.specs.declared.reply.Reply.TheVariants as reply
+use Rattle.solid_listing.specs.declared.told.Told.TheVariants as told
 use Rattle.script_running.specs.declared.running.RunFault.TheVariants as faults
 use Rattle.script_running.proofs.Counting.{counted_assoc, counted_none, none_counted, stop_counted, calm_counted, none_calm}
 use Rattle.script_running.proofs.Judged.{lines_are_judged}
@@ -35,7 +34,7 @@ pub record Progress {R : Type 0} (remaining : R → Option (List ℕ)) (first : 
   pub each : length heard ≡ n.lines
 
 -- the next line was read, and judged
-pub record Turn {R : Type 0} (remaining : R → Option (List ℕ)) (first : Option (List ℕ)) (lines : Lines R) (old : Option (List ℕ)) (new : Outgoing) (stop : Bool) (s : Journal) (n : Summary) (a : Answer) (t : Journal) : Type 0 where
+pub record Turn {R : Type 0} (remaining : R → Option (List ℕ)) (first : Option (List ℕ)) (lines : Lines R) (old : Option (List ℕ)) (new : Outgoing) (stop : Bool) (s : Journal) (n : Summary) (a : Told) (t : Journal) : Type 0 where
   pub earlier : Lines R
   pub so_far : Progress remaining first earlier old new stop s n
   pub line : List ℕ
@@ -74,8 +73,8 @@ long_told line h = let e : nat_lt 65536 (length line) ≡ true = grind (arith, n
     ap (λ (b : Bool). if b then Err LongLine else (if is_ascii line then request_of_words (words line) else Err NotAscii)) e
 
 -- the next line was read and judged, or skipped as too long and told so
-abbrev pub Hears : {R : Type 0} → (R → Option (List ℕ)) → Lines R → Lines R → Journal → Answer → Journal → Type 0
-Hears remaining old new s a t = (Went remaining old new found.Line × Judges s (line_of new) a t) ⊎ (Went remaining old new found.Long × (a ≡ Says (reply.Fault 6)) × (t ≡ s))
+abbrev pub Hears : {R : Type 0} → (R → Option (List ℕ)) → Lines R → Lines R → Journal → Told → Journal → Type 0
+Hears remaining old new s a t = (Went remaining old new found.Line × Judges s (line_of new) a t) ⊎ (Went remaining old new found.Long × (a ≡ told.Fault 6) × (t ≡ s))
 
 -- a run so far, in the session of a console
 pub record IsAt {R : Type 0} (remaining : R → Option (List ℕ)) (first : Option (List ℕ)) (lines : Lines R) (old : Option (List ℕ)) (new : Outgoing) (stop : Bool) (console : Console) (n : Summary) : Type 0 where
@@ -97,11 +96,11 @@ module _ {R : Type 0} (remaining : R → Option (List ℕ)) (lines next : Lines 
       subst (Heard remaining lines next s) (sym same) (record { session = t; there = after; hears = inl (went, subst (λ (l : List ℕ). Judges s l y.answer t) is judged) })
 
   -- a line that is too long
-  pub heard_long : (n : ℕ) (x z : Console) → Went remaining lines next found.Long → n ≡ 6 → x.stage ≡ Some (Session s) → z ≡ record x { answer = Says (reply.Fault n) } → Heard remaining lines next s z
+  pub heard_long : (n : ℕ) (x z : Console) → Went remaining lines next found.Long → n ≡ 6 → x.stage ≡ Some (Session s) → z ≡ record x { answer = told.Fault n } → Heard remaining lines next s z
   heard_long n x z went six there same =
-      subst (Heard remaining lines next s) (sym same) (record { session = s; there = there; hears = inr (went, ap (λ (k : ℕ). Says (reply.Fault k)) six, refl) })
+      subst (Heard remaining lines next s) (sym same) (record { session = s; there = there; hears = inr (went, ap (λ (k : ℕ). told.Fault k) six, refl) })
 
-pub turn_of : {R : Type 0} (remaining : R → Option (List ℕ)) (first : Option (List ℕ)) (lines next : Lines R) (old : Option (List ℕ)) (new : Outgoing) (stop : Bool) (s : Journal) (n : Summary) (a : Answer) (t : Journal)
+pub turn_of : {R : Type 0} (remaining : R → Option (List ℕ)) (first : Option (List ℕ)) (lines next : Lines R) (old : Option (List ℕ)) (new : Outgoing) (stop : Bool) (s : Journal) (n : Summary) (a : Told) (t : Journal)
     → Progress remaining first lines old new stop s n → Hears remaining lines next s a t → Turn remaining first next old new stop s n a t
 turn_of remaining first lines next old new stop s n a t p h = elim h [
   | inl short ↦ record { earlier = lines; so_far = p; line = line_of next; read = (has_line_more remaining first lines next p.heard p.read short.0).0; judges = short.1 }
@@ -111,7 +110,7 @@ turn_of remaining first lines next old new stop s n a t p h = elim h [
 ]
 
 -- the run goes on
-pub goes_on : {R : Type 0} (remaining : R → Option (List ℕ)) (first : Option (List ℕ)) (lines : Lines R) (old : Option (List ℕ)) (mid new : Outgoing) (stop : Bool) (s : Journal) (n : Summary) (a : Answer) (t : Journal)
+pub goes_on : {R : Type 0} (remaining : R → Option (List ℕ)) (first : Option (List ℕ)) (lines : Lines R) (old : Option (List ℕ)) (mid new : Outgoing) (stop : Bool) (s : Journal) (n : Summary) (a : Told) (t : Journal)
     → Turn remaining first lines old mid stop s n a t → stops stop a ≡ false → Gathers mid new (answer_text t.machine a) → Progress remaining first lines old new stop t (counted n (one_line a))
 goes_on remaining first lines old mid new stop s n a t w calm h = record {
   heard = w.so_far.heard ++ w.line ∷ [];
@@ -139,7 +138,7 @@ is_output stop given out n o none = outs_so stop new_journal (lines_of (within_l
     (outs_same stop new_journal (lines_of (within_limit 0 given ++ [])) (lines_of (within_limit 0 given)) out out n n (ap lines_of (append-nil (within_limit 0 given))) refl refl o) none
 
 -- the answer stops the run
-stopped : {R : Type 0} (remaining : R → Option (List ℕ)) (first : Option (List ℕ)) (lines : Lines R) (old : Option (List ℕ)) (mid : Outgoing) (new : Option (List ℕ)) (stop : Bool) (s : Journal) (n m : Summary) (a : Answer) (t : Journal) (left : Option Stage)
+stopped : {R : Type 0} (remaining : R → Option (List ℕ)) (first : Option (List ℕ)) (lines : Lines R) (old : Option (List ℕ)) (mid : Outgoing) (new : Option (List ℕ)) (stop : Bool) (s : Journal) (n m : Summary) (a : Told) (t : Journal) (left : Option Stage)
     → left ≡ Some (Session t) → (w : Turn remaining first lines old mid stop s n a t) → stops stop a ≡ true → Appends old new (w.so_far.out ++ answer_text t.machine a) → m ≡ counted n (one_line a) → RunsTo first old new stop (Ok m) left
 stopped remaining first lines old mid new stop s n m a t left there w bad h count =
     let outs : (more : List ℕ) → (IsAtEnd (remaining (reader_of lines)) → more ≡ []) → Outs stop new_journal (lines_of (within_limit 0 w.read.given ++ more)) (w.so_far.out ++ answer_text t.machine a) m = λ more guard.
@@ -251,7 +250,7 @@ too_long remaining first lines next old new stop s n left there p went none =
     )
 
 -- a write failed, where the answer was told or before
-pub write_fails : {R : Type 0} (remaining : R → Option (List ℕ)) (first : Option (List ℕ)) (lines : Lines R) (old : Option (List ℕ)) (mid : Outgoing) (new : Option (List ℕ)) (stop : Bool) (s : Journal) (n : Summary) (a : Answer) (t : Journal) (f : RunFault) (left : Option Stage)
+pub write_fails : {R : Type 0} (remaining : R → Option (List ℕ)) (first : Option (List ℕ)) (lines : Lines R) (old : Option (List ℕ)) (mid : Outgoing) (new : Option (List ℕ)) (stop : Bool) (s : Journal) (n : Summary) (a : Told) (t : Journal) (f : RunFault) (left : Option Stage)
     → left ≡ Some (Session t) → (w : Turn remaining first lines old mid stop s n a t) → Stops old new (w.so_far.out ++ answer_text t.machine a) → f ≡ faults.Write → RunsTo first old new stop (Err f) left
 write_fails remaining first lines old mid new stop s n a t f left there w h is_write = is_write_fault first old new stop f left is_write (
   record {
@@ -276,13 +275,13 @@ write_fails remaining first lines old mid new stop s n a t f left there w h is_w
 )
 
 -- an answer could not be told
-pub telling_fails : {R : Type 0} (remaining : R → Option (List ℕ)) (first : Option (List ℕ)) (lines : Lines R) (old : Option (List ℕ)) (mid new : Outgoing) (stop : Bool) (s : Journal) (n : Summary) (a : Answer) (t : Journal) (f : RunFault) (left : Option Stage)
+pub telling_fails : {R : Type 0} (remaining : R → Option (List ℕ)) (first : Option (List ℕ)) (lines : Lines R) (old : Option (List ℕ)) (mid new : Outgoing) (stop : Bool) (s : Journal) (n : Summary) (a : Told) (t : Journal) (f : RunFault) (left : Option Stage)
     → left ≡ Some (Session t) → Turn remaining first lines old mid stop s n a t → Breaks mid new (answer_text t.machine a) → f ≡ faults.Write → RunsTo first old new.contents stop (Err f) left
 telling_fails remaining first lines old mid new stop s n a t f left there w h is_write =
     write_fails remaining first lines old mid new.contents stop s n a t f left there w (Breaks-after (outgoing old []) mid new w.so_far.out (answer_text t.machine a) w.so_far.gathered h) is_write
 
 -- the answer stops the run, and what is pending goes out
-pub stops_there : {R : Type 0} (remaining : R → Option (List ℕ)) (first : Option (List ℕ)) (lines : Lines R) (old : Option (List ℕ)) (mid new : Outgoing) (last : Option (List ℕ)) (stop : Bool) (s : Journal) (n m : Summary) (a : Answer) (t : Journal) (r : Result Summary RunFault) (left : Option Stage)
+pub stops_there : {R : Type 0} (remaining : R → Option (List ℕ)) (first : Option (List ℕ)) (lines : Lines R) (old : Option (List ℕ)) (mid new : Outgoing) (last : Option (List ℕ)) (stop : Bool) (s : Journal) (n m : Summary) (a : Told) (t : Journal) (r : Result Summary RunFault) (left : Option Stage)
     → left ≡ Some (Session t) → Turn remaining first lines old mid stop s n a t → stops stop a ≡ true → Gathers mid new (answer_text t.machine a) → m ≡ counted n (one_line a)
     → Puts new.contents last new.pending r → IfOk r (λ k. k ≡ m) → IfErr r (λ e. e ≡ faults.Write) → RunsTo first old last stop r left
 stops_there remaining first lines old mid new last stop s n m a t (Ok k) left there w bad h count puts same no_fault =
@@ -331,6 +330,6 @@ nothing_runs first last old stop left none there =
     let b = nothing_begins first last old none in (b, left_whole b.0.given b.0.out (Err faults.Memory) left new_journal [] (lines_of (within_limit 0 b.0.given)) there refl (b.2, refl) tt)
 
 -- a line takes its bytes from what is to come
-pub falls : {R : Type 0} (remaining : R → Option (List ℕ)) (lines next : Lines R) (s : Journal) (a : Answer) (t : Journal) → Hears remaining lines next s a t
+pub falls : {R : Type 0} (remaining : R → Option (List ℕ)) (lines next : Lines R) (s : Journal) (a : Told) (t : Journal) → Hears remaining lines next s a t
     → to_come (taken_of next) (unread_of next) < to_come (taken_of lines) (unread_of lines)
 falls remaining lines next s a t h = elim h [ inl short ↦ falls_by_line remaining lines next short.0 | inr long ↦ falls_by_long remaining lines next long.0 ]

@@ -1,14 +1,14 @@
 -- A line that spells a command is answered what the call to give it is told.
-use Rattle.script_running.proofs.Prelude.{◌≡◌, Some, refl, sym, ap, subst, ◌∙◌, Result, Answer, Change, Command, Drafting, Fault, Journal, Request, Session, TellsSession, over, Gives, Obeys, Answers, Judges}
+use Rattle.script_running.proofs.Prelude.{◌≡◌, Some, refl, sym, ap, subst, ◌∙◌, Result, Told, Change, Command, Drafting, Fault, Journal, Request, Session, TellsSession, over, Obeys, Answers, Judges}
 use Rattle.script_running.specs.Common.{Stage}
 use Rattle.script_reader.specs.declared.command.Request.TheVariants as request
 use Rattle.script_running.specs.Laws.{asked_for, LinesAreTold}
 
 -- what asks for a command is obeyed as that command
-gives_is : (s t : Journal) (r : Request) (c : Command) (a : Answer) → asked_for r ≡ Some c → Obeys s r a t ≡ Gives s c a t
-gives_is s t (request.Over o ps) c a e = let same : Change (over o ps) ≡ c = cc e in ap (λ (x : Command). Gives s x a t) same
-gives_is s t (request.Give d) c a e = let same : d ≡ c = cc e in ap (λ (x : Command). Gives s x a t) same
-gives_is s t r c a e = absurd (cc e)
+tells_is : (s t : Journal) (r : Request) (c : Command) (a : Told) → asked_for r ≡ Some c → Obeys s r a t ≡ TellsSession s c a t
+tells_is s t (request.Over o ps) c a e = let same : Change (over o ps) ≡ c = cc e in ap (λ (x : Command). TellsSession s x a t) same
+tells_is s t (request.Give d) c a e = let same : d ≡ c = cc e in ap (λ (x : Command). TellsSession s x a t) same
+tells_is s t r c a e = absurd (cc e)
 
 -- the session in a stage
 abbrev session_in : Journal → Stage → Journal
@@ -17,8 +17,7 @@ session_in s (Drafting d) = s
 
 pub lines_are_told : LinesAreTold
 lines_are_told s t line c a (r, spelled, asked) =
-    let same : Judges s line a t ≡ Gives s c a t = ap (λ (x : Result Request Fault). Answers s x a t) spelled ∙ gives_is s t r c a asked in (
-      λ judged. let (b, is, h) = subst (λ (P : Type 0). P) same judged in (b, is, (t, refl, h)),
-      λ told. subst (λ (P : Type 0). P) (sym same)
-          (told.0, told.1, subst (λ (u : Journal). TellsSession s c told.0 u) (sym (ap (session_in s) told.2.1)) told.2.2),
+    let same : Judges s line a t ≡ TellsSession s c a t = ap (λ (x : Result Request Fault). Answers s x a t) spelled ∙ tells_is s t r c a asked in (
+      λ judged. (t, refl, subst (λ (P : Type 0). P) same judged),
+      λ told. subst (λ (P : Type 0). P) (sym same) (subst (λ (u : Journal). TellsSession s c a u) (sym (ap (session_in s) told.1)) told.2),
     )

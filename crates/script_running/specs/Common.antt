@@ -6,7 +6,6 @@ pub use Rattle.call_types.specs.declared.command.Call.TheVariants.{Give}
 pub use Rattle.call_types.specs.declared.command.Command.TheVariants.{Ask, Change, Redo, Undo}
 pub use Rattle.call_types.specs.declared.command.Command.{Command}
 pub use Rattle.call_types.specs.declared.command.Question.{Question}
-pub use Rattle.commands.specs.declared.told.Told.{Told}
 pub use Rattle.commands.specs.declared.stage.Stage.TheVariants.{Drafting, Session}
 pub use Rattle.commands.specs.declared.stage.Stage.{Stage}
 pub use Rattle.euler_operators.specs.Common.{Model, Sound}
@@ -25,11 +24,11 @@ pub use Rattle.script_reader.specs.declared.command.Request.{Request}
 pub use Rattle.script_reader.specs.declared.lines.Found.{Found}
 pub use Rattle.script_reader.specs.declared.lines.Lines.{Lines}
 pub use Rattle.script_running.specs.declared.running.RunFault.{RunFault}
-pub use Rattle.script_running.specs.declared.script_judging.judging.Answer.TheVariants.{Listing, Reply as Says, Silent}
-pub use Rattle.script_running.specs.declared.script_judging.judging.Answer.{Answer}
 pub use Rattle.script_running.specs.declared.script_judging.judging.Summary.{Summary}
+pub use Rattle.solid_listing.specs.declared.told.Told.TheVariants.{Done, Listing, Refused, Silent}
+pub use Rattle.solid_listing.specs.declared.told.Told.{Told}
 unfoldable pub use Rattle.solid_listing.specs.Listing.{listing}
-unfoldable pub use Rattle.solid_listing.specs.Replies.{reply_text}
+pub use Rattle.solid_listing.specs.Replies.{told_text}
 pub use Rattle.solid_listing.specs.Writing.{Gathers, Outgoing, Puts, Stops, Tells, outgoing}
 pub use Rattle.undo_journal.specs.Histories.{Call, IsConsistent, after_call, after_calls, reached}
 pub use Rattle.undo_journal.specs.Journal.{Journal, after_redo, after_undo, new_journal, record_of, recorded}

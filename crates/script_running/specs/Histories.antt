@@ -1,6 +1,6 @@
 -- The history of a run: each line is one call of it.
 use Rattle.std.specs.Prelude.{◌≡◌, ◌≢◌, ℕ, Bool, List, [], ◌∷◌, ◌++◌, length, Option, Result, Ok, Err, IfOk}
-use Rattle.script_running.specs.Common.{Answer, Call, IsCall, IsConsistent, Journal, Listing, Machine, Model, RunFault, Sound, Summary, after_call, held, lines_of, listing, new_journal, reached, within_limit}
+use Rattle.script_running.specs.Common.{Told, Call, IsCall, IsConsistent, Journal, Listing, Machine, Model, RunFault, Sound, Summary, after_call, held, lines_of, listing, new_journal, reached, within_limit}
 use Rattle.script_running.specs.script_judging.Judging.{Judges, answer_text}
 use Rattle.script_running.specs.Runs.{Moves, Runs}
 use Rattle.script_running.specs.declared.running.RunFault.TheVariants as fault
@@ -12,11 +12,11 @@ pub record HasHistory (s : Machine) : Type 0 where
 
 -- if the model held is sound, a line is a call, whatever it is answered
 abbrev pub LinesAreCalls : Type 0
-LinesAreCalls = (s t : Journal) (line : List ℕ) (a : Answer) → Sound (held s.machine) → Judges s line a t → IsCall s.machine t.machine
+LinesAreCalls = (s t : Journal) (line : List ℕ) (a : Told) → Sound (held s.machine) → Judges s line a t → IsCall s.machine t.machine
 
 -- so a line leads from a machine that has a history to one that has a history
 abbrev pub LinesLeadOn : Type 0
-LinesLeadOn = (s t : Journal) (line : List ℕ) (a : Answer) → HasHistory s.machine → Judges s line a t → HasHistory t.machine
+LinesLeadOn = (s t : Journal) (line : List ℕ) (a : Told) → HasHistory s.machine → Judges s line a t → HasHistory t.machine
 
 -- and a machine that has a history is consistent
 abbrev pub HistoriesMakeConsistent : Type 0
@@ -25,7 +25,7 @@ HistoriesMakeConsistent = (s : Machine) → HasHistory s → IsConsistent s
 -- what a line comes to: a call, its answer, and the session after it
 pub record Turn : Type 0 where
   pub call : Call
-  pub answer : Answer
+  pub answer : Told
   pub next : Journal
 
 -- the text lists a sound model

@@ -1,6 +1,6 @@
 -- The session that a run leaves in its console.
 use Rattle.std.specs.Prelude.{◌≡◌, ◌≢◌, ℕ, Bool, List, [], ◌∷◌, ◌++◌, length, Option, Some, Result, Err, IfOk}
-use Rattle.script_running.specs.Common.{Answer, Journal, RunFault, Session, Stage, Summary, lines_of, new_journal, within_limit}
+use Rattle.script_running.specs.Common.{Told, Journal, RunFault, Session, Stage, Summary, lines_of, new_journal, within_limit}
 use Rattle.script_running.specs.Histories.{moves_of}
 use Rattle.script_running.specs.Runs.{Runs}
 use Rattle.script_running.specs.declared.running.RunFault.TheVariants as fault
@@ -9,7 +9,7 @@ use Rattle.script_running.specs.script_judging.Judging.{Judges, answer_text}
 -- the lines lead from s to t where they are answered, one after the other, with this text
 abbrev pub LeadOn : Journal → List (List ℕ) → List ℕ → Journal → Type 0
 LeadOn s [] text t = (text ≡ []) × (t ≡ s)
-LeadOn s (line ∷ lines) text t = (a : Answer) × (next : Journal) × (rest : List ℕ) × Judges s line a next × (text ≡ answer_text next.machine a ++ rest) × LeadOn next lines rest t
+LeadOn s (line ∷ lines) text t = (a : Told) × (next : Journal) × (rest : List ℕ) × Judges s line a next × (text ≡ answer_text next.machine a ++ rest) × LeadOn next lines rest t
 
 -- What is left is a session, to which the first lines read lead from the empty model on, with the answers that were written, or, if a write failed,
 -- of which a prefix was. If the run ended well, these are the lines that it counts.

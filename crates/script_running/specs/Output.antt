@@ -1,36 +1,36 @@
 -- The output of a script, as a function of its lines: the answers to them if no reply is `memory`.
 use Rattle.std.specs.Prelude.{ℕ, Bool, List, [], ◌∷◌, ◌++◌, Option, Some, None, Result, Ok, Err, if◌then◌else◌}
-use Rattle.script_running.specs.Common.{Answer, Ask, Change, Command, Fault, Listing, Machine, Redo, Refusal, Request, Silent, Summary, Undo, accepted, asked, held, made, over, redo, redo_refusal, refusal_of, request_of, start, undo, undo_refusal}
+use Rattle.script_running.specs.Common.{Ask, Change, Command, Done, Fault, Listing, Machine, Redo, Refusal, Refused, Request, Silent, Summary, Told, Undo, accepted, asked, held, made, over, redo, redo_refusal, refusal_of, request_of, start, undo, undo_refusal}
 use Rattle.script_reader.specs.declared.command.Request.TheVariants as request
-use Rattle.script_running.specs.script_judging.Judging.{done, refused, faulty, answer_when, answer_text, no_lines, one_line, counted}
+use Rattle.script_running.specs.script_judging.Judging.{faulty, answer_text, no_lines, one_line, counted}
 use Rattle.script_running.specs.Outs.{stops}
 
 -- a command goes on to a state, or is refused
-abbrev pub moved : Option Refusal → Machine → Machine → Answer × Machine
-moved None s next = (done, next)
-moved (Some r) s next = (refused r, s)
+abbrev pub moved : Option Refusal → Machine → Machine → Told × Machine
+moved None s next = (Done, next)
+moved (Some r) s next = (Refused r, s)
 
 -- what a command is answered from s, and the machine after it
-abbrev pub given : Machine → Command → Answer × Machine
+abbrev pub given : Machine → Command → Told × Machine
 given s (Change c) = moved (refusal_of (held s) c) s (accepted s (made (held s) c))
-given s (Ask q) = (answer_when (asked (held s) q), s)
+given s (Ask q) = (asked (held s) q, s)
 given s Undo = moved (undo_refusal s) s (undo s)
 given s Redo = moved (redo_refusal s) s (redo s)
 
 -- the same for what a line asks for
-abbrev pub obeyed : Machine → Request → Answer × Machine
+abbrev pub obeyed : Machine → Request → Told × Machine
 obeyed s request.Nothing = (Silent, s)
 obeyed s request.List = (Listing, s)
 obeyed s (request.Over o ps) = given s (Change (over o ps))
 obeyed s (request.Give c) = given s c
 
 -- what a line asks for is obeyed; a line with a fault is answered with this fault
-abbrev pub answered : Machine → Result Request Fault → Answer × Machine
+abbrev pub answered : Machine → Result Request Fault → Told × Machine
 answered s (Ok r) = obeyed s r
 answered s (Err f) = (faulty f, s)
 
 -- what a line is answered from s, and the machine after it
-unfoldable pub answer_of : Machine → List ℕ → Answer
+unfoldable pub answer_of : Machine → List ℕ → Told
 answer_of s line = (answered s (request_of line)).0
 
 unfoldable pub machine_after : Machine → List ℕ → Machine

@@ -6,18 +6,18 @@
 //!
 //! # What is proved
 //!
-//! A console's session or draft is asked for a call, or only that an answer be kept. It is told what `commands` says that a call may be told, keeps the
-//! answer, and says its kind (`ConsoleHeeds`); a call that it doesn't have changes nothing. `hear` makes the call that a line spells, or keeps the
-//! line's own answer (`spoken`). So a session answers a line as it may be told what the line asks for (`Judges`; `lines_are_judged`), and a command with the answer to the call that gives it (`answer_when`;
-//! `lines_are_told`). If the answer is something other than `ok`, the session is as it was, with its records. `complains` is true exactly of the
-//! answers that begin with `refused`, `fault` or `memory`. `Summary` counts lines and answers (`count`), and is clean (`is_clean`) exactly if it has
-//! none of these. `run` writes replies that the plain machine may give to the lines of the bytes read, in order, and its `Summary` counts them,
-//! whatever comes after these bytes: all lines, or those up to the reply that stops it. If no reply stopped it, the reader gave its end. If no reply
-//! is `memory`, what was written is `output_of` the lines, a function of the text of the script. After a read fault, or if the script is too long,
-//! exactly the lines that came with their newlines are answered. After a write fault a prefix of the replies is out. If the first memory was refused,
-//! nothing was read or written. Before each read the answers to all whole lines given so far are written and handed on: a reader may ask for that
-//! (`AsksAnswers`). Unless a write failed, all is handed on when the run ends too (`HandsOn`). It returns for every reader. `one_output`: if no reply
-//! is `memory`, the lines of a script have one output, and one summary.
+//! A console's session or draft is asked for a call, or only that an answer be kept. It is told what `commands` says that a call may be told, keeps
+//! the answer, and says its kind (`ConsoleHeeds`); a call that it doesn't have changes nothing. `hear` makes the call that a line spells, or keeps
+//! the line's own answer (`spoken`). So a session answers a line as it may be told what the line asks for (`Judges`; `lines_are_judged`), and a
+//! command as the call that gives it (`lines_are_told`). If the answer is something other than `ok`, the session is as it was, with its records.
+//! `complains` is true exactly of the answers that begin with `refused`, `fault` or `memory`. `Summary` counts lines and answers (`count`), and is
+//! clean (`is_clean`) exactly if it has none of these. `run` writes replies that the plain machine may give to the lines of the bytes read, in order,
+//! and its `Summary` counts them, whatever comes after these bytes: all lines, or those up to the reply that stops it. If no reply stopped it, the
+//! reader gave its end. If no reply is `memory`, what was written is `output_of` the lines, a function of the text of the script. After a read fault,
+//! or if the script is too long, exactly the lines that came with their newlines are answered. After a write fault a prefix of the replies is out. If
+//! the first memory was refused, nothing was read or written. Before each read the answers to all whole lines given so far are written and handed on:
+//! a reader may ask for that (`AsksAnswers`). Unless a write failed, all is handed on when the run ends too (`HandsOn`). It returns for every reader.
+//! `one_output`: if no reply is `memory`, the lines of a script have one output, and one summary.
 
 mod laws;
 pub mod laws_below;
@@ -31,6 +31,6 @@ pub use laws::{
 };
 pub use running::{RunFault, run, run_in};
 pub use script_judging::{
-    Answer, Console, Summary, act, ask, hear, keep_outcome, make, measure, say, status,
+    Console, Summary, act, ask, hear, keep_outcome, make, measure, say, status,
 };
 pub use script_reader::{Inlet, Outlet};

@@ -12,9 +12,9 @@ ghost use Rattle.script_running.specs.Runs.{Runs};
 ghost use Rattle.script_running.specs.Reaching.{AsksAnswers, HandsOn};
 ghost use Rattle.script_reader.specs.Reaching.{Reaches};
 
-use crate::script_judging::{Answer, Console, Summary, complains, hear};
+use crate::script_judging::{Console, Summary, complains, hear};
 use script_reader::{Fault, Found, Inlet, Lines, Outlet};
-use solid_listing::{Reply, Text, release, tell_listing, tell_reply};
+use solid_listing::{Text, Told, release, tell};
 use std::alloc::Global;
 use thiserror::Error;
 
@@ -40,17 +40,16 @@ fn say<W: Outlet>(text: &mut Text, writer: &mut W, console: &Console) -> Result<
     ensures tells { (s : Journal) → console.now.stage ≡ Some (stage.Session s) → Tells (outgoing (W.contents writer.old) text.old) (outgoing (W.contents writer.new) text.new) (answer_text s.machine console.now.answer) result }
     ensures fault { IfErr result (λ e. e ≡ RunFault.Write) }
 {
-    match (&console.answer, &console.stage) {
-        (Answer::Reply(reply), _) => tell_reply(reply, text, writer).map_err(|_| RunFault::Write),
-        (Answer::Listing, Some(stage)) => {
-            tell_listing(stage.arena(), text, writer).map_err(|_| RunFault::Write)
+    match &console.stage {
+        Some(stage) => {
+            tell(stage.arena(), &console.answer, text, writer).map_err(|_| RunFault::Write)
         }
-        _ => Ok(()),
+        None => Ok(()),
     }
 }
 
 /// Whether an answer ends the run.
-fn stops(stop: bool, answer: &Answer) -> bool
+fn stops(stop: bool, answer: &Told) -> bool
     ensures { result ≡ stops stop answer.now }
 {
     stop && complains(answer)
@@ -134,7 +133,7 @@ fn run_lines<R: Inlet<W>, W: Outlet>(
             Found::Line => {
                 hear(alloc, console, lines.line());
             }
-            Found::Long => console.answer = Answer::Reply(Reply::Fault(Fault::LongLine.code())),
+            Found::Long => console.answer = Told::Fault(Fault::LongLine.code()),
             Found::End => break Ok(summary),
             Found::Read => break Err(RunFault::Read),
             Found::TooLong => break Err(RunFault::TooLong),

@@ -7,4 +7,4 @@ mod judging;
 pub use calls::{Console, act, ask, keep_outcome, make, measure, say};
 pub use hearing::hear;
 pub(crate) use judging::complains;
-pub use judging::{Answer, Summary, status};
+pub use judging::{Summary, status};

@@ -1,6 +1,6 @@
 -- The definitions that proofs, contracts and the crates above cite, passed on from one place. Declares nothing.
 pub mod Below
-pub use Rattle.session_slots.specs.Common.Below.{Answer, Asked, Call, Change, Command, Content, Console, EdgeRow, HalfEdge, Heeds, IsNextNumber, IsNew, Kind, LoopContent, LoopRow, Model, Op, Question, Refusal, Slot, Solid, Sound, Stage, Store, Taken, Tells, Told, act_of, answer, answer_after, asked, calls, cycle, cycle_of, face_refusal, gives, has, has_half, items_of, keeps, kind_told, lone, minus, no_loop, plus, redos, shown, spoken, status_of, steps_in, taken_of, told_of, undos}
+pub use Rattle.session_slots.specs.Common.Below.{Told, Asked, Call, Change, Command, Content, Console, EdgeRow, HalfEdge, Heeds, IsNextNumber, IsNew, Kind, LoopContent, LoopRow, Model, Op, Question, Refusal, Slot, Solid, Sound, Stage, Store, Taken, Tells, act_of, answer, answer_after, asked, calls, cycle, cycle_of, face_refusal, gives, has, has_half, items_of, keeps, lone, minus, no_loop, plus, redos, shown, spoken, status_of, steps_in, taken_of, told_of, undos}
 unfoldable pub use Rattle.session_slots.specs.Common.Below.{code, content, edge_of, loop_of, solid_of, tail, taken_in}
 pub use Rattle.session_slots.specs.Answered.{counts_in, fault_in, joined, joined_plane, plane_in, refusal_in, volume_in}
 pub use Rattle.session_slots.specs.Arguments.{polygon_of}
@@ -11,5 +11,5 @@ pub use Rattle.session_slots.specs.Parting.{Moves_faces, asked_unless, part_aske
 pub use Rattle.session_slots.specs.Reading.{AreHalfEdges, AreRows, IsFaceAfter, IsFirst, IsItemOf, IsNumberAfter, IsRingAfter, after_in, before_in, edge_in, face_in, face_of_loop_in, kind_of, lone_in, loop_in, point_in, store_of}
 pub use Rattle.session_slots.specs.Slots.{Counts_in, Notes}
 pub use Rattle.session_slots.specs.Spokes.{IsStart, IsStartOf, IsStartWithin}
-pub use Rattle.session_slots.specs.Stages.{text_in}
 pub use Rattle.session_slots.specs.Written.{WritesOne, laid_over}
+pub use Rattle.solid_listing.specs.Replies.{told_text}

@@ -1,6 +1,5 @@
 pub mod Common
 pub mod Spokes
-pub mod Stages
 pub mod Slots
 pub mod Written
 pub mod Answered

@@ -1,6 +1,6 @@
 -- What a handle holds once a session was begun in it.
 use Rattle.std.specs.Prelude.{◌≡◌, Bool, true, false, Option, Some, None}
-use Rattle.session_slots.specs.Common.Below.{new_journal, Answer, Stage, Slot}
+use Rattle.session_slots.specs.Common.Below.{new_journal, Told, Stage, Slot}
 
 -- what a handle holds: a session or a draft
 abbrev pub stage_in : Option Slot → Option Stage
@@ -8,7 +8,7 @@ stage_in None = None
 stage_in (Some x) = x.console.stage
 
 -- the answer to the last command
-abbrev pub answer_in : Option Slot → Option Answer
+abbrev pub answer_in : Option Slot → Option Told
 answer_in None = None
 answer_in (Some x) = Some x.console.answer
 
@@ -24,6 +24,6 @@ is_whole (Some x) = is_staged x.console.stage
 
 -- a closed handle gets a new session that has answered nothing; else nothing has changed
 abbrev pub Opened : Option Slot → Option Slot → Bool → Type 0
-Opened None new true = (stage_in new ≡ Some (Stage.Session new_journal)) × (answer_in new ≡ Some Answer.Silent)
+Opened None new true = (stage_in new ≡ Some (Stage.Session new_journal)) × (answer_in new ≡ Some Told.Silent)
 Opened None new false = new ≡ None
 Opened (Some x) new opened = (opened ≡ false) × (new ≡ Some x)

@@ -1,7 +1,7 @@
 -- Faces of a solid that become a solid of their own.
 use Rattle.std.specs.Prelude.{◌≡◌, ℕ, List, get_or, Option, Some, None}
 use Rattle.euler_operators.specs.Common.{empty_model}
-use Rattle.session_slots.specs.Common.Below.{Answer, Asked, Op, Refusal, Model, solid_of, face_refusal, Told, Tells, act_of, answer_after, calls, keeps, shown, Stage}
+use Rattle.session_slots.specs.Common.Below.{Told, Asked, Op, Refusal, Model, solid_of, face_refusal, Tells, act_of, calls, keeps, shown, Stage}
 
 -- the operator that makes solid t of the faces: they leave the solid of the first one
 abbrev pub part_of : Model → List ℕ → ℕ → Op
@@ -10,7 +10,7 @@ part_of M fs t = Op.Part (solid_of M (get_or fs 0 0)) t fs
 -- an operator is asked for, if nothing refuses it before
 abbrev pub asked_unless : Option Refusal → Op → Asked
 asked_unless None op = calls (act_of op)
-asked_unless (Some r) op = keeps (answer_after Answer.Silent (Told.Refused r))
+asked_unless (Some r) op = keeps (Told.Refused r)
 
 -- refused if the first one is no face; else the operator is called
 abbrev pub Moves_faces : Option Refusal → Stage → Op → Told → Stage → Type 0

@@ -3,8 +3,7 @@ ghost use Rattle.std.specs.Prelude.{◌≡◌, ◌+◌, ◌*◌, ◌<◌, ◌≤
 ghost use Rattle.session_slots.specs.Answered.{refusal_in, fault_in, counts_in, volume_in, plane_in, joined, joined_plane};
 
 use euler_operators::Plane;
-use script_running::Answer;
-use solid_listing::Reply;
+use solid_listing::Told;
 
 /// What a refusal names: the number of the condition that is false, and the value that goes with it.
 #[repr(C)]
@@ -71,60 +70,60 @@ pub fn halves(number: i128) -> Wide
 }
 
 /// What the refusal names, if the answer is one.
-pub fn refusal_of(answer: &Answer) -> Option<Refused>
+pub fn refusal_of(answer: &Told) -> Option<Refused>
     ensures { result ≡ refusal_in answer.now }
 {
     match answer {
-        Answer::Reply(Reply::Refused(number, value)) => Some(Refused {
-            number: *number,
-            value: *value,
+        Told::Refused(refusal) => Some(Refused {
+            number: refusal.why.code(),
+            value: refusal.number,
         }),
         _ => None,
     }
 }
 
 /// The number of the fault, if the answer is one.
-pub fn fault_of(answer: &Answer) -> Option<u32>
+pub fn fault_of(answer: &Told) -> Option<u32>
     ensures { result ≡ fault_in answer.now }
 {
     match answer {
-        Answer::Reply(Reply::Fault(number)) => Some(*number),
+        Told::Fault(number) => Some(*number),
         _ => None,
     }
 }
 
 /// The counts, if the answer tells them.
-pub fn counts_of(answer: &Answer) -> Option<Counts>
+pub fn counts_of(answer: &Told) -> Option<Counts>
     ensures { result ≡ counts_in answer.now }
 {
     match answer {
-        Answer::Reply(Reply::Count([vertices, edges, faces, rings, sum])) => Some(Counts {
-            vertices: *vertices,
-            edges: *edges,
-            faces: *faces,
-            rings: *rings,
-            sum: *sum,
+        Told::Counts(tally) => Some(Counts {
+            vertices: tally.v as i64,
+            edges: tally.e as i64,
+            faces: tally.f as i64,
+            rings: tally.r as i64,
+            sum: tally.sum,
         }),
         _ => None,
     }
 }
 
 /// Six times the volume, if the answer tells it.
-pub fn volume_of(answer: &Answer) -> Option<i128>
+pub fn volume_of(answer: &Told) -> Option<i128>
     ensures { result ≡ volume_in answer.now }
 {
     match answer {
-        Answer::Reply(Reply::Volume(n)) => Some(*n),
+        Told::Volume(n) => Some(*n),
         _ => None,
     }
 }
 
 /// The plane and whether its face is flat, if the answer tells them.
-pub fn plane_of(answer: &Answer) -> Option<(Plane, u32)>
+pub fn plane_of(answer: &Told) -> Option<(Plane, u32)>
     ensures { result ≡ plane_in answer.now }
 {
     match answer {
-        Answer::Reply(Reply::Plane(plane, flat)) => Some((*plane, u32::from(*flat))),
+        Told::Plane(plane, flat) => Some((*plane, u32::from(*flat))),
         _ => None,
     }
 }

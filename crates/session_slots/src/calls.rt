@@ -6,8 +6,7 @@ ghost use Rattle.script_running.specs.script_judging.Consoles.{Measures};
 use crate::slot::{Slot, counted_in};
 use commands::{Command, Question};
 use euler_operators::Op;
-use script_running::Answer;
-use solid_listing::Reply;
+use solid_listing::Told;
 use solid_walks::Counters;
 use std::alloc::Global;
 
@@ -47,7 +46,7 @@ pub fn ask(slot: &mut Slot, question: Question) -> u32
 
 /// Answers a question about the model shown, and keeps nothing.
 #[inline(always)]
-pub fn measure(slot: &Slot, question: Question) -> Answer
+pub fn measure(slot: &Slot, question: Question) -> Told
     ensures { Measures slot.now.console question result }
 {
     script_running::measure(&slot.console, question)
@@ -68,9 +67,9 @@ pub fn hear(alloc: Global, slot: &mut Slot, line: &[u8]) -> u32
 /// Answers that memory was refused for what is kept beside the session or draft, which stays as it is. The numbers in use are kept as those from
 /// before this answer.
 pub fn lack(slot: &mut Slot) -> u32
-    ensures heeds { ConsoleHeeds slot.old.console (keeps (Answer.Reply Reply.Memory)) slot.new.console result }
+    ensures heeds { ConsoleHeeds slot.old.console (keeps Told.Memory) slot.new.console result }
     ensures noted { Counts_in slot.old slot.new.before }
 {
     slot.before = counted_in(slot);
-    script_running::say(&mut slot.console, Answer::Reply(Reply::Memory))
+    script_running::say(&mut slot.console, Told::Memory)
 }

@@ -1,12 +1,12 @@
 //! A session or a draft in a slot with its last answer.
 ghost use Rattle.std.specs.Prelude.{◌≡◌, IfSome, Some, length, true};
 ghost use Rattle.euler_conditions.specs.Ready.{IsReady};
-ghost use Rattle.session_slots.specs.Common.{IsNew, is_staged, text_in, Counts_in, laid_over};
+ghost use Rattle.session_slots.specs.Common.{IsNew, is_staged, told_text, Counts_in, laid_over};
 
 use commands::Stage;
 use euler_conditions::Arena;
-use script_running::{Answer, Console};
-use solid_listing::{write_listing, write_reply};
+use script_running::Console;
+use solid_listing::{Told, write_told};
 use solid_walks::{Counters, counters_of};
 use std::alloc::Global;
 
@@ -20,7 +20,7 @@ pub struct Slot {
 
 /// A new session in its box.
 pub(crate) fn made(alloc: Global) -> Option<Box<Slot, Global>>
-    ensures { IfSome result (λ b. IsNew b.value.console × (b.value.console.answer ≡ Answer.Silent)) }
+    ensures { IfSome result (λ b. IsNew b.value.console × (b.value.console.answer ≡ Told.Silent)) }
 {
     let Ok(console) = Console::new(alloc) else {
         return None;
@@ -64,17 +64,12 @@ pub fn counted_in(slot: &Slot) -> Counters
 }
 
 /// The text of an answer; a listing is that of the arena's model. None if memory is refused.
-pub fn text_of(alloc: Global, arena: &Arena, answer: &Answer) -> Option<Vec<u8>>
+pub fn text_of(alloc: Global, arena: &Arena, answer: &Told) -> Option<Vec<u8>>
     requires { IsReady arena.now }
-    ensures { IfSome result (λ v. v.items ≡ text_in arena.now.model answer.now) }
+    ensures { IfSome result (λ v. v.items ≡ told_text arena.now.model answer.now) }
 {
     let mut text = Vec::new(alloc);
-    let told = match answer {
-        Answer::Silent => Ok(()),
-        Answer::Reply(reply) => write_reply(reply, &mut text),
-        Answer::Listing => write_listing(arena, &mut text),
-    };
-    match told {
+    match write_told(arena, answer, &mut text) {
         Ok(()) => Some(text),
         Err(_) => None,
     }

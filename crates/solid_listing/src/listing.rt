@@ -1,9 +1,9 @@
 //! Listings.
 ghost use Rattle.euler_operators.specs.Common.{Sound};
-ghost use Rattle.solid_listing.specs.Common.{text_of, kind_lines, lines, listing, Puts, Tells, outgoing};
+ghost use Rattle.solid_listing.specs.Common.{text_of, kind_lines, lines, listing, Tells, outgoing};
 
 use crate::entry::write_entry;
-use crate::pending::{Text, put, release};
+use crate::pending::{Text, put};
 use crate::writing::WriteFault;
 use euler_conditions::Arena;
 use euler_operators::Kind;
@@ -50,7 +50,7 @@ fn write_lines<W: Write>(arena: &Arena, text: &mut Text, writer: &mut W) -> Resu
 ///
 /// A fault comes if a write fails or takes no byte; what was written then is a prefix of the text and the listing.
 #[inline(never)]
-pub fn tell_listing<W: Write>(
+pub(crate) fn tell_listing<W: Write>(
     arena: &Arena,
     text: &mut Text,
     writer: &mut W,
@@ -62,17 +62,4 @@ pub fn tell_listing<W: Write>(
         return put(text, writer, b"empty\n");
     }
     write_lines(arena, text, writer)
-}
-
-/// Writes the listing of a model, which is that of `tell_listing`. It takes no memory.
-///
-/// A fault comes if a write fails or takes no byte; what was written then is a prefix of the listing.
-#[tactic(auto, using(crate::proofs::TellingLaws::all_out, crate::proofs::TellingLaws::broken_out))]
-pub fn write_listing<W: Write>(arena: &Arena, writer: &mut W) -> Result<(), WriteFault>
-    requires sound { Sound arena.now.model }
-    ensures { Puts (W.contents writer.old) (W.contents writer.new) (listing arena.now.model) result }
-{
-    let mut text = Text::new();
-    tell_listing(arena, &mut text, writer)?;
-    release(&mut text, writer)
 }

@@ -1,11 +1,12 @@
 //! The line of a refusal.
 ghost use Rattle.std.specs.Prelude.{◌≡◌, ◌∷◌, [], ◌++◌, IfSome, decimal};
 ghost use Rattle.solid_listing.specs.Common.{refused_head, reply_text, Tells, outgoing};
-ghost use Rattle.solid_listing.specs.declared.reply.Reply.TheVariants.{Refused};
+ghost use Rattle.solid_listing.specs.declared.told.Told.TheVariants.{Refused};
 
 use crate::pending::{Text, put};
 use crate::text::{put_line, put_number};
 use crate::writing::WriteFault;
+use euler_operators::Refusal;
 use std::io::Write;
 
 /// How the line of a refusal begins, up to its value. It is one piece, since each piece costs more than its bytes.
@@ -94,13 +95,13 @@ fn put_value<W: Write>(
 pub fn put_refused<W: Write>(
     text: &mut Text,
     writer: &mut W,
-    why: u32,
-    value: u32,
+    refusal: &Refusal,
 ) -> Result<(), WriteFault>
-    ensures { Tells (outgoing (W.contents writer.old) text.old) (outgoing (W.contents writer.new) text.new) (reply_text (Refused why value)) result }
+    ensures { Tells (outgoing (W.contents writer.old) text.old) (outgoing (W.contents writer.new) text.new) (reply_text (Refused refusal.now)) result }
 {
+    let why = refusal.why.code();
     match refused_head(why) {
-        Some(head) => put_value(text, writer, head, value),
-        None => put_line(text, writer, b"refused", &[why, value]),
+        Some(head) => put_value(text, writer, head, refusal.number),
+        None => put_line(text, writer, b"refused", &[why, refusal.number]),
     }
 }

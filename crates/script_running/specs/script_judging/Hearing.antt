@@ -7,7 +7,7 @@ use Rattle.script_reader.specs.Polygon.{over}
 use Rattle.script_reader.specs.declared.command.{Fault.Fault, Request.Request}
 use Rattle.undo_journal.specs.Journal.{Journal}
 use Rattle.script_running.specs.declared.script_judging.calls.Console.{Console}
-use Rattle.script_running.specs.declared.script_judging.judging.Answer.{Answer}
+use Rattle.solid_listing.specs.declared.told.Told.{Told}
 use Rattle.script_running.specs.script_judging.Judging.{Judges, faulty}
 use Rattle.script_running.specs.script_judging.Consoles.{Asked, ConsoleHeeds, calls, keeps}
 
@@ -20,8 +20,8 @@ changes c = gives (Command.Change c)
 
 -- the call that a line asks for, or its own answer
 abbrev pub said : Request → Asked
-said Request.Nothing = keeps Answer.Silent
-said Request.List = keeps Answer.Listing
+said Request.Nothing = keeps Told.Silent
+said Request.List = keeps Told.Listing
 said (Request.Over o ps) = changes (over o ps)
 said (Request.Give c) = gives c
 
@@ -31,12 +31,12 @@ read (Ok r) = said r
 read (Err f) = keeps (faulty f)
 
 -- a line within the limit has this answer if it is ASCII, and else the fault that says so
-abbrev pub unless_not_ascii : List ℕ → Answer → Answer
+abbrev pub unless_not_ascii : List ℕ → Told → Told
 unless_not_ascii line a = cond (is_ascii line) a (faulty Fault.NotAscii)
 
 -- what a line within the limit comes to, given what its words ask for: only if they ask for nothing, or are wrong, can the line be other than ASCII
 abbrev pub said_of : List ℕ → Result Request Fault → Asked
-said_of line (Ok Request.Nothing) = keeps (unless_not_ascii line Answer.Silent)
+said_of line (Ok Request.Nothing) = keeps (unless_not_ascii line Told.Silent)
 said_of line (Ok r) = said r
 said_of line (Err f) = keeps (unless_not_ascii line (faulty f))
 

@@ -1,14 +1,12 @@
 //! A console: what a call does to a session, or to a draft of its next command, and to the last answer.
 ghost use Rattle.std.specs.Prelude.{◌≡◌, ◌<◌, IfOk};
 ghost use Rattle.script_running.specs.Common.{told_of, told_of_move};
-ghost use Rattle.script_running.specs.script_judging.Consoles.{ConsoleHeeds, IsNew, Measures, act_of, answer_after, calls, keeps, kind_told};
+ghost use Rattle.script_running.specs.script_judging.Consoles.{ConsoleHeeds, IsNew, Measures, act_of, answer_after, calls, keeps, status_of};
 ghost use Rattle.script_running.specs.script_judging.Hearing.{changes, gives};
 
-use crate::script_judging::judging::{Answer, status};
+use crate::script_judging::judging::status;
 use commands::{Call, Change, Command, KnownSession, Question, Stage, Told, change_in};
 use euler_operators::{Op, Refusal};
-use solid_listing::Reply;
-use solid_measure::Tally;
 use std::alloc::{AllocError, Global};
 use undo_journal::{Failure, Session};
 
@@ -17,19 +15,19 @@ use undo_journal::{Failure, Session};
 pub struct Console {
     /// The session or the draft. It is `None` only while the session or draft is moved for a call.
     pub stage: Option<Stage>,
-    pub answer: Answer,
+    pub answer: Told,
 }
 
 impl Console {
     /// A new session, which has answered nothing.
     pub fn new(alloc: Global) -> Result<Console, AllocError>
         ensures start { IfOk result IsNew }
-        ensures silent { IfOk result (λ c. c.answer ≡ Answer.Silent) }
+        ensures silent { IfOk result (λ c. c.answer ≡ Told.Silent) }
     {
         let session = Session::new(alloc)?;
         Ok(Console {
             stage: Some(Stage::Session(KnownSession::of(session))),
-            answer: Answer::Silent,
+            answer: Told::Silent,
         })
     }
 }
@@ -37,93 +35,56 @@ impl Console {
 /// What C is told of a console that has answered nothing.
 const SILENT: u32 = 0;
 
-/// What C is told of a call that a draft doesn't have, and of one that only a draft has.
+/// What C is told of a call that a draft doesn't have.
 const IN_DRAFT: u32 = 11;
 
-const NO_DRAFT: u32 = 12;
-
-fn refused(refusal: Refusal) -> Answer
-    ensures { result ≡ answer_after Answer.Silent (Told.Refused refusal) }
-{
-    Answer::Reply(Reply::Refused(refusal.why.code(), refusal.number))
-}
-
-fn counted(tally: &Tally) -> Answer
-    ensures { result ≡ answer_after Answer.Silent (Told.Counts tally.now) }
-{
-    Answer::Reply(Reply::Count([
-        tally.v as i64,
-        tally.e as i64,
-        tally.f as i64,
-        tally.r as i64,
-        tally.sum,
-    ]))
-}
-
-/// Keeps the answer to a call that was told this. A call that the session or draft doesn't have, or one that concerns a mark, leaves the last answer.
+/// Keeps what a call was told. A call that the session or draft doesn't have, or one that concerns a mark, leaves the last answer.
 #[inline(always)]
-fn keep(told: &Told, answer: &mut Answer)
+fn keep(told: &Told, answer: &mut Told)
     ensures { answer.new ≡ answer_after answer.old told.now }
 {
     match told {
-        Told::Done => *answer = Answer::Reply(Reply::Done),
-        Told::Refused(refusal) => *answer = refused(*refusal),
-        Told::Memory => *answer = Answer::Reply(Reply::Memory),
         Told::InDraft => {}
         Told::NoDraft => {}
-        Told::Plane(plane, flat) => *answer = Answer::Reply(Reply::Plane(*plane, *flat)),
-        Told::Volume(n) => *answer = Answer::Reply(Reply::Volume(*n)),
-        Told::Counts(tally) => *answer = counted(tally),
         Told::Steps(_) => {}
-    }
-}
-
-/// What C is told of a call that was told this, if this is the last answer after it.
-#[inline(always)]
-fn kind(told: &Told, answer: &Answer) -> u32
-    ensures { result ≡ kind_told answer.now told.now }
-{
-    match told {
-        Told::InDraft => IN_DRAFT,
-        Told::NoDraft => NO_DRAFT,
-        _ => status(answer),
+        _ => *answer = *told,
     }
 }
 
 /// Keeps the answer to a change that ended in this way, and says what C is told of it.
-pub fn keep_outcome(ended: Result<(), Failure>, answer: &mut Answer) -> u32
+pub fn keep_outcome(ended: Result<(), Failure>, answer: &mut Told) -> u32
     ensures kept { answer.new ≡ answer_after answer.old (told_of ended) }
-    ensures kind { result ≡ kind_told (answer_after answer.old (told_of ended)) (told_of ended) }
+    ensures kind { result ≡ status_of (told_of ended) }
     ensures had { result < 11 }
 {
     match ended {
         Ok(()) => {
-            *answer = Answer::Reply(Reply::Done);
+            *answer = Told::Done;
             1
         }
         Err(Failure::Refused(refusal)) => {
-            *answer = refused(refusal);
+            *answer = Told::Refused(refusal);
             2
         }
         Err(Failure::Memory(_)) => {
-            *answer = Answer::Reply(Reply::Memory);
+            *answer = Told::Memory;
             4
         }
     }
 }
 
 /// Keeps the answer to an undo or redo that ended in this way, and says what C is told of it.
-fn keep_move(ended: Result<(), Refusal>, answer: &mut Answer) -> u32
+fn keep_move(ended: Result<(), Refusal>, answer: &mut Told) -> u32
     ensures kept { answer.new ≡ answer_after answer.old (told_of_move ended) }
-    ensures kind { result ≡ kind_told (answer_after answer.old (told_of_move ended)) (told_of_move ended) }
+    ensures kind { result ≡ status_of (told_of_move ended) }
 {
     match ended {
         Ok(()) => {
-            *answer = Answer::Reply(Reply::Done);
+            *answer = Told::Done;
             1
         }
         Err(refusal) => {
-            *answer = refused(refusal);
+            *answer = Told::Refused(refusal);
             2
         }
     }
@@ -131,7 +92,7 @@ fn keep_move(ended: Result<(), Refusal>, answer: &mut Answer) -> u32
 
 /// Makes no call, and keeps this answer.
 #[inline(always)]
-pub fn say(console: &mut Console, answer: Answer) -> u32
+pub fn say(console: &mut Console, answer: Told) -> u32
     ensures { ConsoleHeeds console.old (keeps answer) console.new result }
 {
     console.answer = answer;
@@ -212,7 +173,7 @@ fn carry(alloc: Global, console: &mut Console, wanted: Call<'_>) -> u32
     let (stage, told) = commands::make(alloc, stage, wanted);
     console.stage = Some(stage);
     keep(&told, &mut console.answer);
-    kind(&told, &console.answer)
+    status(&told)
 }
 
 /// Makes a call, keeps its answer, and says what C is told of it. A call that the session or draft doesn't have changes nothing.
@@ -236,8 +197,8 @@ pub fn ask(console: &mut Console, question: Question) -> u32
 {
     if let Some(stage) = &console.stage {
         let told = commands::ask(stage.arena(), question);
-        keep(&told, &mut console.answer);
-        return kind(&told, &console.answer);
+        console.answer = told;
+        return status(&console.answer);
     }
     SILENT
 }
@@ -252,13 +213,11 @@ fn ask_apart(console: &mut Console, question: Question) -> u32
 
 /// Answers a question about the model shown, and keeps nothing.
 #[inline(always)]
-pub fn measure(console: &Console, question: Question) -> Answer
+pub fn measure(console: &Console, question: Question) -> Told
     ensures { Measures console.now question result }
 {
-    let mut answer = Answer::Silent;
-    if let Some(stage) = &console.stage {
-        let told = commands::ask(stage.arena(), question);
-        keep(&told, &mut answer);
+    match &console.stage {
+        Some(stage) => commands::ask(stage.arena(), question),
+        None => Told::Silent,
     }
-    answer
 }

@@ -7,13 +7,12 @@ ghost use Rattle.script_running.specs.script_judging.Consoles.{ConsoleHeeds, kee
 ghost use Rattle.script_running.specs.script_judging.Hearing.{changes, said_of, spoken, unless_not_ascii};
 
 use crate::script_judging::calls::{Console, act, change, make, redo, say, undo};
-use crate::script_judging::judging::Answer;
 use commands::Call;
 use script_reader::{
     Fault, Name, Opening, Outline, Polygon, Request, Words, arguments, is_ascii, is_long,
     is_operator, opening_of, operator,
 };
-use solid_listing::Reply;
+use solid_listing::Told;
 use std::alloc::Global;
 
 /// Answers a line with this fault. The stack space for answers is in this and the next functions, so that no other line pays for it.
@@ -21,7 +20,7 @@ use std::alloc::Global;
 fn tell_fault(console: &mut Console, fault: Fault) -> u32
     ensures { ConsoleHeeds console.old (keeps (faulty fault)) console.new result }
 {
-    say(console, Answer::Reply(Reply::Fault(fault.code())))
+    say(console, Told::Fault(fault.code()))
 }
 
 /// Answers a line within the limit whose words have this first fault: with this fault, or with the one that the line isn't ASCII.
@@ -39,10 +38,10 @@ fn tell_first_fault(console: &mut Console, line: &[u8], fault: Fault) -> u32
 /// Answers a line within the limit whose words ask for nothing: it has no reply, or the fault that it isn't ASCII.
 #[inline(never)]
 fn tell_nothing(console: &mut Console, line: &[u8]) -> u32
-    ensures { ConsoleHeeds console.old (keeps (unless_not_ascii line.now Answer.Silent)) console.new result }
+    ensures { ConsoleHeeds console.old (keeps (unless_not_ascii line.now Told.Silent)) console.new result }
 {
     if is_ascii(line) {
-        say(console, Answer::Silent)
+        say(console, Told::Silent)
     } else {
         tell_fault(console, Fault::NotAscii)
     }
@@ -63,7 +62,7 @@ fn obey(alloc: Global, console: &mut Console, line: &[u8], request: Request<'_>)
 {
     match request {
         Request::Nothing => tell_nothing(console, line),
-        Request::List => say(console, Answer::Listing),
+        Request::List => say(console, Told::Listing),
         Request::Over(outline, polygon) => change_over(alloc, console, outline, &polygon),
         Request::Give(command) => make(alloc, console, Call::Give(command)),
     }

@@ -4,33 +4,25 @@ ghost use Rattle.script_running.specs.script_judging.Judging.{one_line, counted}
 ghost use Rattle.script_running.specs.Outs.{complains, is_clean};
 ghost use Rattle.script_running.specs.script_judging.Consoles.{status_of};
 
-use solid_listing::Reply;
+use solid_listing::Told;
 
-/// What a line is answered.
-#[derive(Clone, Copy, Debug, PartialEq, Eq)]
-pub enum Answer {
-    /// A blank line or a comment has no reply.
-    Silent,
-    /// One line.
-    Reply(Reply),
-    /// The listing of the model held.
-    Listing,
-}
-
-/// What C is told of an answer.
-pub fn status(answer: &Answer) -> u32
+/// What C is told of a call or a line that was told this.
+pub fn status(answer: &Told) -> u32
     ensures { result ≡ status_of answer.now }
 {
     match answer {
-        Answer::Silent => 0,
-        Answer::Reply(Reply::Done) => 1,
-        Answer::Reply(Reply::Refused(_, _)) => 2,
-        Answer::Reply(Reply::Fault(_)) => 3,
-        Answer::Reply(Reply::Memory) => 4,
-        Answer::Reply(Reply::Plane(_, _)) => 5,
-        Answer::Reply(Reply::Volume(_)) => 6,
-        Answer::Reply(Reply::Count(_)) => 7,
-        Answer::Listing => 8,
+        Told::Silent => 0,
+        Told::Done => 1,
+        Told::Refused(_) => 2,
+        Told::Fault(_) => 3,
+        Told::Memory => 4,
+        Told::Plane(_, _) => 5,
+        Told::Volume(_) => 6,
+        Told::Counts(_) => 7,
+        Told::Listing => 8,
+        Told::InDraft => 11,
+        Told::NoDraft => 12,
+        Told::Steps(_) => 0,
     }
 }
 
@@ -56,7 +48,7 @@ impl Summary {
     }
 
     /// Counts one more line, with its answer.
-    pub fn count(&mut self, answer: &Answer)
+    pub fn count(&mut self, answer: &Told)
         requires lines { self.old.lines < 67108865 }
         requires refused { self.old.refused ≤ self.old.lines }
         requires faults { self.old.faults ≤ self.old.lines }
@@ -65,20 +57,17 @@ impl Summary {
     {
         self.lines += 1;
         match answer {
-            Answer::Reply(Reply::Refused(_, _)) => self.refused += 1,
-            Answer::Reply(Reply::Fault(_)) => self.faults += 1,
-            Answer::Reply(Reply::Memory) => self.memory += 1,
+            Told::Refused(_) => self.refused += 1,
+            Told::Fault(_) => self.faults += 1,
+            Told::Memory => self.memory += 1,
             _ => {}
         }
     }
 }
 
 /// Whether the reply begins with `refused`, `fault` or `memory`.
-pub(crate) fn complains(answer: &Answer) -> bool
+pub(crate) fn complains(answer: &Told) -> bool
     ensures { result ≡ complains answer.now }
 {
-    matches!(
-        answer,
-        Answer::Reply(Reply::Refused(_, _) | Reply::Fault(_) | Reply::Memory)
-    )
+    matches!(answer, Told::Refused(_) | Told::Fault(_) | Told::Memory)
 }

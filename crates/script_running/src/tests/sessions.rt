@@ -1,6 +1,6 @@
 //! Operators without a script word, and drafts.
 use euler_operators::{Corner, FaceList, HalfEdge, Op, Point, Refusal, Why};
-use solid_listing::write_listing;
+use solid_listing::{Told, write_told};
 use std::alloc::Global;
 use std::process::Abort;
 use std::test::Fail;
@@ -69,7 +69,7 @@ fn opened(session: Session) -> Result<Draft, Fail> {
 /// Asserts what a session's listing is.
 fn lists(rt: &impl Abort, alloc: Global, session: &Session, wanted: &[u8]) {
     let mut out = Vec::new(alloc);
-    let told = write_listing(session.arena(), &mut out);
+    let told = write_told(session.arena(), &Told::Listing, &mut out);
     assert!(rt; told.is_ok());
     assert!(rt; out.as_slice() == wanted);
 }

@@ -1,15 +1,15 @@
 use Rattle.session_slots.proofs.Prelude.{◌≡◌, ◌∙◌, ℕ, Option, Some, None, get_or, refl, sym, ap, subst, Console, ConsoleHeeds, Moves_faces, Op, Refusal, Stage, Told, act_of, answer_after, asked_unless, face_refusal, part_asked, part_of, shown, told_of}
-use Rattle.script_running.proofs.Acting.{ends_so, none_heeds, the_same}
-use Rattle.session_slots.specs.Common.{kind_told}
+use Rattle.script_running.proofs.Acting.{heeds_so, none_heeds, the_same}
+use Rattle.session_slots.specs.Common.{status_of}
 use Rattle.session_slots.proofs.parts.part_in.Goals as goal
 
 -- what is told of the faces is what they ask for
 parted : (o : Option Refusal) (x y : Console) (kind : ℕ) (op : Op) (g h : Stage) (a : Told) → x.stage ≡ Some g → y.stage ≡ Some h → Moves_faces o g op a h → y.answer ≡ answer_after x.answer a
-    → kind ≡ kind_told (answer_after x.answer a) a → ConsoleHeeds x (asked_unless o op) y kind
+    → kind ≡ status_of a → ConsoleHeeds x (asked_unless o op) y kind
 unfolding ConsoleHeeds
-parted None x y kind op g h a is to moved kept told = ends_so x y kind (act_of op) g h a is to moved kept told
+parted None x y kind op g h a is to moved kept told = heeds_so x y kind (act_of op) g h a is to moved kept told
 parted (Some r) x y kind op g h a is to moved kept told = λ k same.
-    (h, to, (moved.1 ∙ the_same g k x.stage is same, kept ∙ ap (answer_after x.answer) moved.0, told ∙ ap (λ (b : Told). kind_told (answer_after x.answer b) b) moved.0))
+    (h, to, (moved.1 ∙ the_same g k x.stage is same, kept ∙ ap (answer_after x.answer) moved.0, told ∙ ap status_of moved.0))
 
 pub returns-in-Some : goal.returns-in-Some
 returns-in-Some c =

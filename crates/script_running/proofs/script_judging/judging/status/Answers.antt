@@ -1,5 +1,5 @@
 use Rattle.std.proofs.Common.{rules}
 use Rattle.script_running.proofs.script_judging.judging.status.Goals as goal
 
-pub returns-in-Reply-Refused : goal.returns-in-Reply-Refused
-returns-in-Reply-Refused c = search rules
+pub returns-in-Refused : goal.returns-in-Refused
+returns-in-Refused c = search rules

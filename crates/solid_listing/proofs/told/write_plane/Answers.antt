@@ -2,8 +2,8 @@ use Rattle.solid_listing.proofs.Prelude.{◌≡◌, subst, List, ℕ, ◌++◌, 
 use Rattle.solid_listing.specs.Common.{reply_text}
 use Rattle.solid_listing.proofs.LineLaws.{last_word}
 use Rattle.solid_listing.proofs.TellingLaws.{Breaks, Breaks-longer, tells_after}
-use Rattle.solid_listing.proofs.reply.write_plane.Goals as goal
-use Rattle.solid_listing.proofs.reply.write_plane.Goals.{then-flat, else-flat}
+use Rattle.solid_listing.proofs.told.write_plane.Goals as goal
+use Rattle.solid_listing.proofs.told.write_plane.Goals.{then-flat, else-flat}
 
 pub returns-in_err-write_coefficients : goal.returns-in_err-write_coefficients
 unfolding reply_text

@@ -1,5 +1,5 @@
 use Rattle.std.proofs.Common.{rules}
-use Rattle.commands.proofs.told.outcome.Goals as goal
+use Rattle.commands.proofs.making.outcome.Goals as goal
 
 pub returns-in-Err-Refused : goal.returns-in-Err-Refused
 returns-in-Err-Refused c = search rules
