@@ -415,6 +415,47 @@ static void try_parts(std::uint64_t times)
     }
 }
 
+// ---- many faces
+
+// A plate with 25 posts above it, or below, each of some height; and its cubes.
+static std::pair<Solid, Cubes> posts(Workbench &bench, std::mt19937_64 &random, const Cube &low, bool is_above)
+{
+    std::vector<Solid> blocks;
+    Cubes cubes;
+    const auto put = [&](const Cube &at, const Cube &size) {
+        blocks.push_back(bench.block({at[0], at[1], at[2]}, {size[0], size[1], size[2]}));
+        for (std::int64_t place = 0; place < size[0] * size[1] * size[2]; place++)
+            cubes.insert({at[0] + place % size[0], at[1] + place / size[0] % size[1], at[2] + place / size[0] / size[1]});
+    };
+    put(low, {11, 11, 3});
+    for (std::int64_t place = 0; place < 25; place++) {
+        const auto height = static_cast<std::int64_t>(1 + random() % 6);
+        put({low[0] + 1 + place % 5 * 2, low[1] + 1 + place / 5 * 2, is_above ? low[2] + 3 : low[2] - height}, {1, 1, height});
+    }
+    return {unite(bench, blocks), cubes};
+}
+
+// Two of these with their posts between them: most faces don't meet the other one, but lie apart from it or within it.
+static void try_posts(std::uint64_t times)
+{
+    for (std::uint64_t seed = 1; seed <= times; seed++) {
+        std::mt19937_64 random(seed);
+        Workbench bench;
+        const auto operation = static_cast<Operation>(random() % 3);
+        const std::string name = std::string(names[static_cast<std::size_t>(operation)]) + " of posts";
+        const auto [solid, cubes] = posts(bench, random, {0, 0, 0}, true);
+        const Cube low = {static_cast<std::int64_t>(random() % 3), static_cast<std::int64_t>(random() % 3), static_cast<std::int64_t>(2 + random() % 8)};
+        const auto [other, others] = posts(bench, random, low, false);
+        const Cubes wanted = combined(operation, cubes, others);
+        const std::string before = bench.listing();
+        const Result<Merger> made = combined(bench.attempt(), operation, {solid, other});
+        outcomes[made ? "made of posts" : "refused of posts"]++;
+        check(made ? !touches_itself(wanted) && measures_of(bench, solid) == measures_of(wanted) : touches_itself(wanted) || wanted.empty(), name);
+        bench.undo();
+        check(!made || bench.listing() == before, name + " is undone");
+    }
+}
+
 // ---- refusals
 
 // A prism whose slope falls by 1 over some length, less a block that cuts the slope so far on: at a height that is so many of so many parts.
@@ -632,6 +673,7 @@ static void try_many_sides(std::int64_t in_plate, std::int64_t in_column)
 int main(int argc, char **argv)
 {
     try_parts(argc > 1 ? std::stoull(argv[1]) : 400);
+    try_posts(argc > 1 ? std::stoull(argv[1]) : 60);
     try_factors();
     try_large_factors();
     try_met_faces();
@@ -645,7 +687,7 @@ int main(int argc, char **argv)
     for (const auto &[name, times] : outcomes)
         std::cout << name << ": " << times << '\n';
     if (argc <= 1)
-        for (const char *name : {"made of two", "made of several", "refused of several", "OffLattice", "OffLattice by no number", "Meets", "NothingLeft", "NotFlat", "NoSolid", "no call", "separate", "join_faces", "met a vertex", "met an edge",
+        for (const char *name : {"made of two", "made of several", "refused of several", "made of posts", "OffLattice", "OffLattice by no number", "Meets", "NothingLeft", "NotFlat", "NoSolid", "no call", "separate", "join_faces", "met a vertex", "met an edge",
                                  "met a face"})
             check(outcomes[name] >= 20, std::string(name) + " is seen too seldom");
     std::cout << passed << " passed, " << failed << " failed\n";

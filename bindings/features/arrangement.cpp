@@ -25,7 +25,7 @@ void require_apart(const operands::Operands &all, const std::vector<Sheet> &made
 
 std::vector<Sheet> made_of(const Solids &solids, const Made &made, Joins joins, const Failure &why)
 {
-    operands::Operands all(solids.faces, solids.boxes);
+    operands::Operands all(solids.faces, solids.boxes, solids.behind);
     pieces::Pieces pieces(all);
     meeting::Meetings meetings = meeting::meet(all);
     traces::cut(all, meetings.traces);

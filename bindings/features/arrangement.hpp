@@ -17,6 +17,7 @@ struct Solids {
     const std::vector<std::vector<Sheet>> &faces;
     std::vector<Box> boxes;
     IsWithin is_within;
+    operands::Behind behind = {};
 };
 
 /// The faces of what is made of them. Not possible: OffLattice, with the least factor by which all must be scaled, or 0. Throws `why` where one of them

@@ -94,7 +94,9 @@ Combined combined_with(Bench &bench, Operation operation, const std::vector<Soli
         if (operands[at].near)
             others[at] = solids[at];
     const Failure why = impossible(Misfit::meets, solids[0].number(), met(GWB_CAUSE_TOUCHES_ITSELF));
-    return make_of(bench, operands, why, [&](const std::vector<std::vector<Sheet>> &sheets) { return laid(bench, operation, solids[0], sheets, why, others); });
+    return make_of(bench, operands, why, [&](const std::vector<std::vector<Sheet>> &sheets, const operands::Behind &behind) {
+        return laid(bench, operation, solids[0], sheets, why, others, behind);
+    });
 }
 
 /// The faces that regions became, with those that they are parts of.
@@ -109,7 +111,7 @@ Sources sources_of(const std::vector<Sheet> &regions)
 } // namespace
 
 std::vector<Sheet> laid(const Bench &bench, Operation operation, Solid first, const std::vector<std::vector<Sheet>> &operands, const Failure &why,
-                        const std::map<std::size_t, Solid> &others)
+                        const std::map<std::size_t, Solid> &others, const operands::Behind &behind)
 {
     require_flat(operands[0]);
     Surroundings &known = Surroundings::of(bench);
@@ -119,7 +121,7 @@ std::vector<Sheet> laid(const Bench &bench, Operation operation, Solid first, co
         surfaces[at] = &known.surface(bench, solid);
     arrangement::Solids solids{operands, {everywhere}, [&](points::Number of, const ScaledPoint &point) {
         return surfaces[of] != nullptr ? is_within(bench, *surfaces[of], point) : is_bound(operands[of], point);
-    }};
+    }, behind};
     for (std::size_t at = 1; at < operands.size(); at++)
         solids.boxes.push_back(surfaces[at] != nullptr ? surfaces[at]->box() : operands[at].empty() ? everywhere : box_of(operands[at]));
     return arrangement::made_of(solids, made_by(operation), arrangement::Joins::of_two, why);

@@ -15,7 +15,7 @@ using Sources = std::map<Face, std::set<Face>>;
 /// the others are there. The solid's come first. Refused: NotFlat. Not possible: OffLattice. Throws `why` where one of them, or what is made where they
 /// meet, touches itself.
 std::vector<Sheet> laid(const Bench &bench, Operation operation, Solid first, const std::vector<std::vector<Sheet>> &operands, const Failure &why,
-                        const std::map<std::size_t, Solid> &others = {});
+                        const std::map<std::size_t, Solid> &others = {}, const operands::Behind &behind = {});
 
 /// The first of some solids becomes what is made of them all at once: all, the first without the others, or what all have in common; the others go. Refused:
 /// NoSolid; NotFlat. Not possible: OffLattice; Meets; NothingLeft.

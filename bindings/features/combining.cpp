@@ -1,5 +1,6 @@
 #include "combining.hpp"
 #include "places.hpp"
+#include "untouched.hpp"
 
 namespace gwb_session::combining {
 
@@ -12,16 +13,6 @@ struct Part {
     Model model;
     std::set<Face> fast;
     std::vector<Sheet> sheets;
-
-    /// The loops of which some isn't in it.
-    [[nodiscard]] std::set<Loop> loops_with_runs() const
-    {
-        std::set<Loop> found;
-        for (const auto &[loop, halves] : model.loops)
-            if (any(halves, is_run))
-                found.insert(loop);
-        return found;
-    }
 };
 
 /// Reads a face into a part, with these of its loops: of those of a flat face that aren't wanted what lies near.
@@ -45,18 +36,28 @@ void read_face(const Bench &bench, const Surface &surface, Face face, const std:
         to.sheets.push_back({Shape(*plane, cycles), {face}, {}});
 }
 
-/// The faces of a solid whose outlines meet a box or are wanted, without the other rings where the face looks the same way without them.
-Part part_near(const Bench &bench, const Surface &surface, Solid solid, const Box &box, const std::set<Loop> &wanted)
+/// A solid so far as the outlines of its faces meet a box or are wanted.
+untouched::NearSolid solid_near(const Bench &bench, const Operand &operand, const std::set<Loop> &wanted)
 {
-    Part found{Model(solid), {}, {}};
-    std::map<Face, std::set<Loop>> near = surface.near(bench, box);
+    const Surface &surface = Surroundings::of(bench).surface(bench, operand.solid);
+    untouched::NearSolid found{&surface, surface.near(bench, *operand.near), operand.stays};
     for (Loop loop : wanted)
-        if (const Face face = bench.face_of(loop); bench.face(face).solid == solid)
-            near[face].insert(loop);
-    for (const auto &[face, loops] : near) {
-        const Loop outer = bench.face(face).outer_loop;
-        if (loops.count(outer) == 0)
+        if (const Face face = bench.face_of(loop); bench.face(face).solid == operand.solid)
+            found.faces[face].insert(loop);
+    for (auto near = found.faces.begin(); near != found.faces.end();)
+        near = near->second.count(bench.face(near->first).outer_loop) != 0 ? std::next(near) : found.faces.erase(near);
+    return found;
+}
+
+/// Those of its faces that are to be looked at, without the other rings where the face looks the same way without them.
+Part part_near(const Bench &bench, const untouched::NearSolid &near, const Operand &operand, const std::set<Loop> &wanted, const untouched::Alike &alike)
+{
+    Part found{Model(operand.solid), {}, {}};
+    const Surface &surface = *near.surface;
+    for (const auto &[face, loops] : near.faces) {
+        if (alike.others.count(face) != 0)
             continue;
+        const Loop outer = bench.face(face).outer_loop;
         const Plane *plane = surface.plane(face);
         const bool needs_all = plane == nullptr || dot(plane->across, surface.chain(outer).area()) <= 0;
         const auto rings = bench.rings(face);
@@ -68,55 +69,90 @@ Part part_near(const Bench &bench, const Surface &surface, Solid solid, const Bo
             std::copy_if(loops.begin(), loops.end(), std::back_inserter(read), [&](Loop ring) { return ring != outer; });
         else
             read.insert(read.end(), rings.begin(), rings.end());
-        read_face(bench, surface, face, read, box, wanted, found);
+        read_face(bench, surface, face, read, *operand.near, wanted, found);
     }
     return found;
 }
 
-/// The parts of solids, with what those of them are together that stay.
+/// The parts of solids.
 struct Parts {
     std::vector<Part> all;
-    Part staying;
+    std::set<Face> fast; ///< of those that stay
+    std::set<Loop> far;  ///< loops of those of which some isn't in the part
+    untouched::Alike alike;
 
-    Parts(const Bench &bench, const std::vector<Operand> &operands, const std::set<Loop> &wanted) : staying{Model(operands[0].solid), {}, {}}
+    Parts(const Bench &bench, const std::vector<Operand> &operands, const std::set<Loop> &wanted)
     {
-        for (const Operand &operand : operands) {
-            const Surface *surface = operand.near ? &Surroundings::of(bench).surface(bench, operand.solid) : nullptr;
-            if (surface != nullptr)
-                all.push_back(part_near(bench, *surface, operand.solid, *operand.near, wanted));
+        std::vector<untouched::NearSolid> near;
+        for (const Operand &operand : operands)
+            near.push_back(operand.near ? solid_near(bench, operand, wanted) : untouched::NearSolid());
+        const bool are_even = gwb_session::all(near, [](const auto &solid) { return solid.surface != nullptr && solid.surface->is_even(); });
+        if (near.size() > 1 && are_even)
+            alike = untouched::faces_alike(bench, near, wanted);
+        for (std::size_t at = 0; at < operands.size(); at++)
+            if (operands[at].near)
+                put(part_near(bench, near[at], operands[at], wanted, alike), operands[at].stays);
             else
-                all.push_back({operand.whole, {}, {}});
-            if (operand.stays)
-                staying.model.take_in(all.back().model), staying.fast.insert(all.back().fast.begin(), all.back().fast.end());
-        }
+                put({operands[at].whole, {}, {}}, operands[at].stays);
     }
     [[nodiscard]] std::vector<const Model *> models() const
     {
         return mapped(all, [](const Part &part) { return &part.model; });
     }
-    /// The model of them all.
-    [[nodiscard]] Model joined() const
+    /// The model of them all, or of those that stay, with the faces that are gone and weren't looked at.
+    [[nodiscard]] Model joined(const Bench &bench, const std::vector<Operand> &operands, const std::set<Face> &gone, bool has_all) const
     {
-        Model found = all[0].model;
-        for (auto part = all.begin() + 1; part != all.end(); ++part)
-            found.take_in(part->model);
+        Model found(operands[0].solid);
+        for (std::size_t at = 0; at < operands.size(); at++)
+            if (has_all || operands[at].stays)
+                found.take_in(all[at].model);
+        for (Face face : gone)
+            for (Loop loop : bench.loops_of(face))
+                found.read(bench, face, loop);
         return found;
+    }
+    /// The faces that weren't looked at, and go as those that they are like are none of what is made.
+    [[nodiscard]] std::set<Face> gone_from(const std::vector<Sheet> &made) const
+    {
+        std::set<Face> left;
+        for (const Sheet &region : made)
+            left.insert(region.owners.begin(), region.owners.end());
+        std::set<Face> found;
+        for (const auto &[face, others] : alike.of)
+            if (left.count(face) == 0)
+                found.insert(others.begin(), others.end());
+        return found;
+    }
+
+private:
+    void put(Part &&part, bool stays)
+    {
+        for (const auto &[loop, halves] : part.model.loops)
+            if (stays && any(halves, is_run))
+                far.insert(loop);
+        if (stays)
+            fast.insert(part.fast.begin(), part.fast.end());
+        all.push_back(std::move(part));
     }
 };
 
 // ---- what is made
 
-/// Whether all faces of the solids that stay are in their parts.
-bool have_all_faces(const Bench &bench, const std::vector<Operand> &operands, const Parts &parts)
+/// Whether all faces of the solids that stay are in a model.
+bool has_all_faces(const Bench &bench, const std::vector<Operand> &operands, const Model &model)
 {
     return all(operands, [&](const Operand &operand) {
-        return !operand.stays || all(bench.faces(operand.solid), [&](Face face) { return parts.staying.model.faces.count(face) != 0; });
+        return !operand.stays || all(bench.faces(operand.solid), [&](Face face) { return model.faces.count(face) != 0; });
     });
 }
 
+/// What solids become, and the parts of those that stay as they were.
+struct Changed : Combined {
+    Model before;
+};
+
 /// Parts of solids with what is laid on their faces, which may be those of each other. Not possible: NothingLeft; what `lay` says.
-template <class LayAll>
-Combined combined(const Bench &bench, const std::vector<Operand> &operands, Parts &parts, AllNames &names, const Failure &why, const LayAll &lay)
+Changed combined(const Bench &bench, const std::vector<Operand> &operands, Parts &parts, AllNames &names, const Failure &why, const LayAll &lay)
 {
     std::vector<std::vector<Sheet>> sheets(operands.size());
     const auto take = [&](std::size_t at) { sheets[at] = !parts.all[at].sheets.empty() ? std::move(parts.all[at].sheets) : sheets_of(parts.all[at].model); };
@@ -125,16 +161,19 @@ Combined combined(const Bench &bench, const std::vector<Operand> &operands, Part
         require_flat(sheets[at]);
     }
     take(0);
-    const std::vector<Sheet> regions = lay(sheets);
+    const std::vector<Sheet> regions = lay(sheets, parts.alike.behind);
     const Solid solid = operands[0].solid;
-    if (regions.empty() && have_all_faces(bench, operands, parts))
+    const std::set<Face> gone_alike = parts.gone_from(regions);
+    Model joined = parts.joined(bench, operands, gone_alike, true);
+    if (regions.empty() && has_all_faces(bench, operands, joined))
         throw impossible(Misfit::nothing_left, solid.number());
     std::set<Solid> gone;
     for (const Operand &operand : operands)
         if (!operand.stays)
             gone.insert(operand.solid);
-    const Held held(bench, parts.joined(), true, gone);
-    return assembled(held, regions, names, solid, why);
+    Held held(bench, std::move(joined), true, gone);
+    Combined made = assembled(held, regions, names, solid, why);
+    return {std::move(made), gone.empty() ? std::move(held.model) : parts.joined(bench, operands, gone_alike, false)};
 }
 
 /// Puts in the steps that move rings of a face that weren't looked at to the faces that it went into, where these are several. Whether the face is one
@@ -162,9 +201,9 @@ bool put_moves(const Bench &bench, const Surface &surface, Face face, const std:
 
 /// The steps that turn parts of solids, which are one by then, into what comes of them; none where they aren't of the kind, or rings not looked at are in
 /// the way.
-std::optional<rows::Steps> steps_for(const Bench &bench, const std::vector<Operand> &operands, const Parts &parts, const Combined &combined)
+std::optional<rows::Steps> steps_for(const Bench &bench, const std::vector<Operand> &operands, const Parts &parts, const Changed &combined)
 {
-    const Model &old = parts.staying.model, &made = combined.model;
+    const Model &old = combined.before, &made = combined.model;
     if (std::tie(old.faces, old.loops, old.edges, old.vertices) == std::tie(made.faces, made.loops, made.edges, made.vertices))
         return rows::Steps();
     rows::Steps moves;
@@ -175,7 +214,7 @@ std::optional<rows::Steps> steps_for(const Bench &bench, const std::vector<Opera
         if (operands[at].stays && !all(parts.all[at].fast, are_put))
             return std::nullopt;
     }
-    auto steps = changing::steps_between(bench, old, made, parts.staying.fast);
+    auto steps = changing::steps_between(bench, old, made, parts.fast);
     if (steps)
         append(*steps, moves);
     return steps;
@@ -183,14 +222,14 @@ std::optional<rows::Steps> steps_for(const Bench &bench, const std::vector<Opera
 
 /// The loops that are wanted besides a part's, where no steps make of it what is to come: those along which edges at its rim become one, and the
 /// outlines around them; where there are none, all of those of which it has what is near, or the rings that it lacks.
-std::set<Loop> wanted_besides(const Bench &bench, const Part &part, const Combined &combined)
+std::set<Loop> wanted_besides(const Bench &bench, const Parts &parts, const Combined &combined)
 {
     std::set<Loop> found;
     for (HalfEdge half : combined.beyond)
         found.insert({bench.loop_of(half), bench.face(bench.face_of(half)).outer_loop});
     if (found.empty())
-        found = part.loops_with_runs();
-    for (Face face : found.empty() ? part.fast : std::set<Face>()) {
+        found = parts.far;
+    for (Face face : found.empty() ? parts.fast : std::set<Face>()) {
         const auto rings = bench.rings(face);
         found.insert(rings.begin(), rings.end());
     }
@@ -336,35 +375,34 @@ bool has_room_to_join(const Bench &bench)
 
 Combined make_near(Bench &bench, Solid solid, const Box &box, const Failure &why, const Lay &lay)
 {
-    return make_of(bench, {{solid, box, true}}, why, [&](const std::vector<std::vector<Sheet>> &sheets) { return lay(sheets[0]); });
+    return make_of(bench, {{solid, box, true}}, why, [&](const auto &sheets, const operands::Behind &) { return lay(sheets[0]); });
 }
 
-Combined make_of(Bench &bench, const std::vector<Operand> &operands, const Failure &why,
-                 const std::function<std::vector<Sheet>(const std::vector<std::vector<Sheet>> &)> &lay)
+Combined make_of(Bench &bench, const std::vector<Operand> &operands, const Failure &why, const LayAll &lay)
 {
     Surroundings &known = Surroundings::of(bench);
     for (std::set<Loop> wanted, more;; wanted.merge(more)) {
         Parts parts(bench, operands, wanted);
         AllNames names(bench);
-        Tried<Combined> found;
+        Tried<Changed> found;
         try {
             found = tried([&] { return combined(bench, operands, parts, names, why, lay); });
         } catch (const FarInTheWay &) {
-            more = parts.staying.loops_with_runs();
+            more = parts.far;
             continue;
         }
         if (!found.made) // (what was thrown is caught: nothing may be thrown meanwhile)
             throw places::told(found.why, parts.models());
-        Combined &made = *found.made;
+        Changed &made = *found.made;
         const auto steps = made.beyond.empty() ? steps_for(bench, operands, parts, made) : std::nullopt;
-        if (!steps && !(more = wanted_besides(bench, parts.staying, made)).empty())
+        if (!steps && !(more = wanted_besides(bench, parts, made)).empty())
             continue;
         put_together(bench, operands, names);
         if (steps) {
             rows::give(bench, *steps);
-            follow(bench, known, operands, parts.staying.model, made.model);
+            follow(bench, known, operands, made.before, made.model);
         } else {
-            make_anew(bench, Model::whole(bench, operands[0].solid).with(parts.staying.model, made.model));
+            make_anew(bench, Model::whole(bench, operands[0].solid).with(made.before, made.model));
         }
         return std::move(made);
     }

@@ -1,6 +1,7 @@
 /// @file combining.hpp A solid of which flat regions are added to the faces near a place, and how it is made: for booleans.hpp, tools.hpp and cuts.hpp.
 #pragma once
 #include "changing.hpp"
+#include "operands.hpp"
 
 namespace gwb_session::combining {
 
@@ -33,9 +34,11 @@ struct Operand {
     Model whole = Model(); ///< where there is no box
 };
 
+/// The same of several solids, some of whose faces lie behind edges.
+using LayAll = std::function<std::vector<Sheet>(const std::vector<std::vector<Sheet>> &, const operands::Behind &)>;
+
 /// The same of several solids, as `lay` says for all of their faces: the first one becomes that, and the others go.
-Combined make_of(Bench &bench, const std::vector<Operand> &operands, const Failure &why,
-                 const std::function<std::vector<Sheet>(const std::vector<std::vector<Sheet>> &)> &lay);
+Combined make_of(Bench &bench, const std::vector<Operand> &operands, const Failure &why, const LayAll &lay);
 
 /// Whether there are numbers for what comes and goes again where solids are joined.
 bool has_room_to_join(const Bench &bench);

@@ -3,7 +3,7 @@
 
 namespace gwb_session::operands {
 
-Operands::Operands(const std::vector<std::vector<Sheet>> &solids, const std::vector<Box> &boxes) : around_(boxes)
+Operands::Operands(const std::vector<std::vector<Sheet>> &solids, const std::vector<Box> &boxes, const Behind &behind) : around_(boxes)
 {
     for (const std::vector<Sheet> &sheets : solids) {
         const auto solid = static_cast<Number>(firsts_.size());
@@ -12,6 +12,9 @@ Operands::Operands(const std::vector<std::vector<Sheet>> &solids, const std::vec
             put(sheet, solid);
     }
     firsts_.push_back(static_cast<Number>(faces.size()));
+    for (const auto &[edge, corner] : behind)
+        if (const Number *number = look_up(edge_numbers_, edge))
+            behind_.emplace_back(*number, points.whole(corner));
 }
 
 void Operands::put(const Sheet &sheet, Number solid)

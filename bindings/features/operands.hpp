@@ -36,11 +36,14 @@ struct Spot {
     Number number = 0;
 };
 
+/// A face lies behind each of these edges, but isn't there: it lies against other solids as the face does that has the corner.
+using Behind = std::unordered_map<Edge, Vector>;
+
 /// Solids by their faces.
 class Operands {
 public:
     /// Beyond its box nothing lies within a solid: none are there where that isn't asked.
-    explicit Operands(const std::vector<std::vector<Sheet>> &solids, const std::vector<Box> &boxes = {});
+    explicit Operands(const std::vector<std::vector<Sheet>> &solids, const std::vector<Box> &boxes = {}, const Behind &behind = {});
 
     Points points;
     std::vector<FlatFace> faces; ///< those of the first solid first, and so on
@@ -53,6 +56,8 @@ public:
     [[nodiscard]] const Box &box(Number solid) const { return around_[solid]; }
 
     [[nodiscard]] const Sheet &sheet(Number face) const { return *faces[face].sheet; }
+    /// Edges, and corners of faces that lie as those behind them do.
+    [[nodiscard]] const std::vector<std::pair<Number, Number>> &behind() const { return behind_; }
     [[nodiscard]] const CutEdge &edge(HalfEdge half) const { return edges[edge_numbers_.at(half.edge())]; }
 
     /// Whether the sides of a face are so many that those near something are looked up.
@@ -87,6 +92,7 @@ private:
     };
     std::vector<Row> rows_;
     std::vector<Number> first_rows_; ///< of points
+    std::vector<std::pair<Number, Number>> behind_;
 };
 
 } // namespace gwb_session::operands

@@ -26,10 +26,11 @@ public:
     void put(const Piece &piece, Bounds &found)
     {
         turn(piece);
-        if (turned_.size() == 1) { // what lies beyond isn't near: it lies within no other solid
+        if (turned_.size() == 1) { // the face beyond isn't there: it lies as this one does
+            const bool is_made_before = made_.at(within_, others_);
             within_.put(turned_[0].solid, true);
-            if (made_.at(within_, others_))
-                found.kept.push_back(bound(0, 1, turned_[0].wing.is_left));
+            if (const bool is_made_behind = made_.at(within_, others_); is_made_behind != is_made_before)
+                found.kept.push_back(bound(0, 1, turned_[0].wing.is_left == is_made_behind));
             return;
         }
         put_rims();

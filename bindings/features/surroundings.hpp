@@ -3,6 +3,7 @@
 #pragma once
 #include "simple_outlines.hpp"
 #include <unordered_map>
+#include <unordered_set>
 
 namespace gwb_session::machining {
 
@@ -68,6 +69,7 @@ public:
     /// Such a face, so far as some of its loops tell.
     [[nodiscard]] Shape shape(Face face, const std::set<Loop> &loops) const;
     [[nodiscard]] const Chain &chain(Loop loop) const { return loops_.at(loop).chain(); }
+    [[nodiscard]] const Box &box(Loop loop) const { return loops_.at(loop).box(); }
 
     /// The loops that meet a box, by faces.
     [[nodiscard]] std::map<Face, std::set<Loop>> near(const Bench &bench, const Box &box) const;

@@ -58,6 +58,7 @@ public:
         near_ = filtered(in_box(), [&](std::size_t at) { return !any(pieces_[at].wings, [&](const Wing &wing) { return solid_of(wing) == solid; }); });
         join_pieces();
         join_loops();
+        join_behind();
         tell_sets([&](const Piece &piece) { return is_beyond(piece) ? std::optional(false) : told_at_ends(piece); });
         tell_sets([&](const Piece &piece) {
             const std::optional<ScaledPoint> point = point_off(piece);
@@ -121,6 +122,14 @@ private:
                 for (Number corner : face->corners)
                     if (first_[corner] != SIZE_MAX)
                         sets_.join(first, first_[corner]);
+    }
+
+    /// So do edges and corners of faces that lie as what is behind these does.
+    void join_behind()
+    {
+        for (const auto &[edge, corner] : all_.behind())
+            if (const std::size_t first = first_[all_.edges[edge].from]; first != SIZE_MAX && first_[corner] != SIZE_MAX)
+                sets_.join(first, first_[corner]);
     }
 
     [[nodiscard]] std::optional<bool> told_at_ends(const Piece &piece) const
