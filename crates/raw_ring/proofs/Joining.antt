@@ -1,9 +1,9 @@
 -- The table of codes, by its columns.
---     row_at-joined, length-joined, has-joined, next-joined      what is read
+--     row_at-joined, length-joined, has-joined      what is read
 --     place_there, label_there, live_there, lies_at, has_label      the parts of a row
 --     changed      one row is written;  column_here, column_other      one column;  cell_written      a column of cells
 --     IsFurther, rows_reached, ok_more      the columns reach further
-use Rattle.raw_ring.proofs.Prelude.{◌≡◌, ◌≢◌, ℕ, zero, suc, ◌<◌, ◌≤◌, Bool, true, false, cond, List, [], ◌∷◌, length, set, slice_set, Option, Some, None, IsSome, is_some, Result, Ok, Err, OnOk, refl, sym, ap, ◌∙◌, subst, arith, nat_eq, inl, inr, true≢false, eq-eqb, ne_eqb, get_or-set_same, get_or-set_other, length-set, cases_eq, IsNext, row_at, has_row, NodePtr, Row, or_zero, LiesAt, HasLabel, or_false, marks, with_marks, joined, AreJoined}
+use Rattle.raw_ring.proofs.Prelude.{◌≡◌, ◌≢◌, ℕ, zero, suc, ◌<◌, ◌≤◌, Bool, true, false, cond, List, [], ◌∷◌, length, set, slice_set, Option, Some, None, IsSome, is_some, Result, Ok, Err, OnOk, refl, sym, ap, ◌∙◌, arith, nat_eq, inl, inr, true≢false, eq-eqb, ne_eqb, get_or-set_same, get_or-set_other, length-set, cases_eq, row_at, has_row, NodePtr, Row, or_zero, LiesAt, HasLabel, or_false, marks, with_marks, joined, AreJoined}
 use Rattle.std.proofs.lemmas.Bool.Decides.{eqb_tells}
 use Rattle.raw_ring.proofs.Mapping.{rows_written, row_within}
 use Rattle.raw_ring.proofs.Pointers.{some_of}
@@ -72,9 +72,6 @@ module _ (ps : Places) (ls : List (Option ℕ)) (vs : List (Option Bool)) where
 
   pub has-joined : (q : ℕ) → has_row rows q ≡ has_row ps q
   has-joined q = ap is_some (row_at-joined q) ∙ some_with (row_at ps q) (marks ls vs q)
-
-  pub next-joined : (n : ℕ) (o : Option ℕ) → IsNext (has_row ps) n o → IsNext (has_row rows) n o
-  next-joined n o h = let same : has_row ps ≡ has_row rows = λ i q. sym (has-joined q) i in subst (λ f. IsNext f n o) same h
 
   pub found_none : (q : ℕ) → row_at ps q ≡ None → None ≡ row_at rows q
   found_none q e = sym (row_at-joined q ∙ ap (λ o. with_marks o (marks ls vs q)) e)

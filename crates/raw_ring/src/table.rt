@@ -1,7 +1,6 @@
 //! The table of codes.
 ghost use Rattle.std.specs.Prelude.{◌≡◌, ℕ, ◌<◌, ◌≤◌, [], true, false, Some, None, IsSome, length, set, OnOk};
 ghost use Rattle.raw_cells.specs.Rows.{row_at, has_row};
-ghost use Rattle.raw_cells.specs.Numbers.{IsNext};
 ghost use Rattle.raw_ring.specs.Table.{LiesAt, HasLabel, woken, asleep, set_label};
 
 use crate::node::NodePtr;
@@ -65,13 +64,6 @@ impl Table {
         ensures { result ≡ length self.now }
     {
         self.places.len()
-    }
-
-    /// The least code above this one that has a row, or none.
-    pub(crate) fn after(&self, code: u32) -> Option<u32>
-        ensures { IsNext (has_row self.now) code result }
-    {
-        self.places.after(code)
     }
 
     /// The row of a code, if it has one.

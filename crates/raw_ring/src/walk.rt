@@ -24,9 +24,9 @@ impl<'a> Model for Walk<'a> {
 
     ghost use Rattle.raw_ring.specs.Walks.{place_of, IsPlace};
 
-    ghost view = { λ w. place_of w.slots.now w.nodes.now.cells w.at.ptr };
+    ghost view = { λ w. place_of w.slots.now w.nodes.now w.at.ptr };
 
-    ghost invariant = { λ w. IsPlace w.slots.now w.nodes.now.cells w.at.ptr };
+    ghost invariant = { λ w. IsPlace w.slots.now w.nodes.now w.at.ptr };
 }
 
 impl<'a> Walk<'a> {

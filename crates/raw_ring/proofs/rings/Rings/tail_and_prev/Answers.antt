@@ -4,7 +4,7 @@ use Rattle.raw_ring.proofs.Tying.{permutes, node_there, prev_read}
 use Rattle.raw_ring.proofs.rings.Rings.tail_and_prev.Goals as goal
 
 pub place-requires : goal.place-requires
-place-requires c = row_live _ c.self.inside.nodes.cells _ (rw (← c.self.view_is) at c.requires)
+place-requires c = row_live _ c.self.inside.nodes _ (rw (← c.self.view_is) at c.requires)
 
 pub read-here-requires : goal.read-here-requires
 read-here-requires c = node_there _ _ c.self.invariant.places _ _ c.place.ensures.2

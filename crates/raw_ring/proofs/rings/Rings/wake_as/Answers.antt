@@ -4,7 +4,7 @@ use Rattle.raw_ring.proofs.Tying.{node_there, IsTied-set, IsTied-set_tail, ring_
 use Rattle.raw_ring.proofs.rings.Rings.wake_as.Goals as goal
 
 pub place-at-requires : goal.place-at-requires
-place-at-requires c = row_known _ c.self.inside.nodes.cells _ _ (asleep_is _ _ (rw (← c.self.view_is) at c.requires))
+place-at-requires c = row_known _ c.self.inside.nodes _ _ (asleep_is _ _ (rw (← c.self.view_is) at c.requires))
 
 pub set_tail-requires : goal.set_tail-requires
 set_tail-requires c = node_there _ _ c.self.invariant.places _ _ c.place-at.ensures.2

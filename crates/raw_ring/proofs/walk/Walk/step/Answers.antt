@@ -15,7 +15,7 @@ invariant_of-self c = walk_on _ _ _ c.self.invariant _ c.read-here.ensures
 
 pub returns-clause-next : goal.returns-clause-next
 returns-clause-next c =
-    subst (λ (w : Place). next_of w.rings w.code ≡ Some (code_of c.self.inside.nodes.now.cells (Some c.read-here.result.next))) c.self.view_is (walk_next _ _ _ c.self.invariant _ c.read-here.ensures)
+    subst (λ (w : Place). next_of w.rings w.code ≡ Some (code_of c.self.inside.nodes.now (Some c.read-here.result.next))) c.self.view_is (walk_next _ _ _ c.self.invariant _ c.read-here.ensures)
 
 pub returns-clause-permutation : goal.returns-clause-permutation
 returns-clause-permutation c = subst (λ (w : Place). IsPermutation w.rings) c.self.view_is (permutes _ _ c.self.invariant.tied)
