@@ -30,30 +30,35 @@ struct Common {
     }
 };
 
-/// The faces of a model that differ from those of another one.
+/// The faces of a model that differ from those of another one, rising.
 class Differing {
 public:
-    Model model;
+    const Model &model;
+    std::vector<Face> faces;
 
-    Differing(const Model &of, const std::set<Face> &same)
+    Differing(const Model &of, const std::set<Face> &same) : model(of)
     {
-        std::vector<Face> faces;
         for (const auto &[face, loops] : of.faces)
-            if (same.count(face) == 0)
+            if (same.count(face) == 0) {
                 faces.push_back(face);
-        model = of.part(faces, of.solid);
-        for (const auto &[loop, halves] : model.loops)
-            halves_.insert(halves.begin(), halves.end());
+                for (Loop loop : loops)
+                    append(halves_, of.loops.at(loop));
+            }
+        std::sort(halves_.begin(), halves_.end());
     }
+    [[nodiscard]] bool has(Face face) const { return std::binary_search(faces.begin(), faces.end(), face); }
+    [[nodiscard]] rows::Rows rows() const { return rows_of(model, faces, model.solid); }
 
     /// Whether a loop runs along none of the edges between the faces but such as stay.
     [[nodiscard]] bool is_left(Loop loop, const std::set<Edge> &stay) const
     {
-        return all(model.loops.at(loop), [&](HalfEdge half) { return halves_.count(half.twin()) == 0 || stay.count(half.edge()) != 0; });
+        return all(model.loops.at(loop), [&](HalfEdge half) {
+            return !std::binary_search(halves_.begin(), halves_.end(), half.twin()) || stay.count(half.edge()) != 0;
+        });
     }
 
 private:
-    std::unordered_set<HalfEdge> halves_;
+    std::vector<HalfEdge> halves_; ///< of the faces, rising
 };
 
 /// What stays of two parts: in a face that keeps its outline also the rings that both have.
@@ -65,17 +70,15 @@ rows::Kept kept_of(const Common &common, const Differing &old, const Differing &
         found.edges.insert(edge.number());
     for (Face face : fast)
         found.faces.insert(face.number());
-    for (const auto &[face, loops] : old.model.faces) {
-        const std::vector<Loop> *other = look_up(made.model.faces, face);
-        if (other == nullptr)
-            continue;
-        const std::vector<HalfEdge> &outline = made.model.loops.at(other->front());
+    for (Face face : filtered(old.faces, [&](Face of) { return made.has(of); })) {
+        const std::vector<Loop> &loops = old.model.faces.at(face), &others = made.model.faces.at(face);
+        const std::vector<HalfEdge> &outline = made.model.loops.at(others.front());
         const std::set<HalfEdge> after(outline.begin(), outline.end());
         for (HalfEdge half : old.model.loops.at(loops[0]))
             if (after.count(half) != 0)
                 found.outlines.emplace(half.code(), face.number());
-        for (auto ring = loops.begin() + 1; other->front() == loops[0] && stays(loops[0]) && ring != loops.end(); ++ring)
-            if (std::binary_search(other->begin() + 1, other->end(), *ring) && stays(*ring))
+        for (auto ring = loops.begin() + 1; others.front() == loops[0] && stays(loops[0]) && ring != loops.end(); ++ring)
+            if (std::binary_search(others.begin() + 1, others.end(), *ring) && stays(*ring))
                 found.rings.insert(ring->number());
     }
     return found;
@@ -87,7 +90,7 @@ std::optional<rows::Steps> steps_between(const Bench &bench, const Model &old, c
 {
     const Common common(old, made);
     const Differing before(old, common.faces), after(made, common.faces);
-    const rows::Rows was = rows_of(before.model), is = rows_of(after.model);
+    const rows::Rows was = before.rows(), is = after.rows();
     for (const std::set<Edge> &edges : {common.edges, std::set<Edge>()})
         if (auto steps = rows::between(bench.handle(), was, is, kept_of(common, before, after, edges, fast)))
             return steps;

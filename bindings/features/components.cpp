@@ -106,7 +106,7 @@ std::vector<Solid> separate(Bench &bench, Solid solid)
     names.require_enough();
     take_away(bench, solid);
     for (std::size_t at = 0; at < components.size(); at++)
-        rows::make(bench, rows_of(model.part(components[at], solids[at])));
+        rows::make(bench, rows_of(model, components[at], solids[at]));
     return solids;
 }
 

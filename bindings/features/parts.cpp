@@ -61,28 +61,6 @@ Model Model::whole(const Bench &bench, Solid solid)
     return found;
 }
 
-Model Model::part(const std::vector<Face> &of, Solid as) const
-{
-    Model found(as);
-    const auto take = [](auto &to, const auto &all, auto key) {
-        if (const auto row = all.find(key); row != all.end())
-            to.insert(*row);
-    };
-    for (Face face : of)
-        for (Loop loop : found.faces[face] = faces.at(face)) {
-            take(found.lone, lone, loop);
-            for (HalfEdge half : found.loops[loop] = loops.at(loop)) {
-                take(found.edges, edges, half.edge());
-                take(found.runs, runs, half);
-            }
-        }
-    for (const auto &[loop, vertex] : found.lone)
-        take(found.vertices, vertices, vertex);
-    for (const auto &[edge, ends] : found.edges)
-        take(found.vertices, vertices, ends.first), take(found.vertices, vertices, ends.second);
-    return found;
-}
-
 void Model::take_in(const Model &other)
 {
     faces.insert(other.faces.begin(), other.faces.end());
@@ -111,20 +89,35 @@ Model Model::with(const Model &part, const Model &made) const
 
 rows::Rows rows_of(const Model &model)
 {
+    return rows_of(model, mapped(model.faces, [](const auto &row) { return row.first; }), model.solid);
+}
+
+rows::Rows rows_of(const Model &model, const std::vector<Face> &faces, Solid solid)
+{
     rows::Rows found;
-    found.solids = {model.solid.number()};
-    for (const auto &[face, loops] : model.faces) {
-        found.faces.push_back({face.number(), model.solid.number(), found.owned.size(), loops.size()});
-        append(found.owned, mapped(loops, [](Loop loop) { return loop.number(); }));
+    found.solids = {solid.number()};
+    std::vector<std::uint32_t> edges, vertices;
+    for (Face face : faces) {
+        const std::vector<Loop> &loops = model.faces.at(face);
+        found.faces.push_back({face.number(), solid.number(), found.owned.size(), loops.size()});
+        for (Loop loop : loops) {
+            const std::vector<HalfEdge> &halves = model.loops.at(loop);
+            found.owned.push_back(loop.number());
+            if (halves.empty())
+                vertices.push_back(model.lone.at(loop).number());
+            found.loops.push_back({loop.number(), halves.empty() ? vertices.back() : 0, found.cycles.size(), halves.size()});
+            append(found.cycles, mapped(halves, [](HalfEdge half) { return half.code(); }));
+            append(edges, mapped(halves, [](HalfEdge half) { return half.edge().number(); }));
+        }
     }
-    for (const auto &[loop, halves] : model.loops) {
-        found.loops.push_back({loop.number(), halves.empty() ? model.lone.at(loop).number() : 0, found.cycles.size(), halves.size()});
-        append(found.cycles, mapped(halves, [](HalfEdge half) { return half.code(); }));
+    rows::sort(found.faces), rows::sort(found.loops);
+    for (std::uint32_t edge : rows::rising(std::move(edges))) {
+        const auto &[from, to] = model.edges.at(Edge(edge));
+        found.edges.push_back({edge, from.number(), to.number()});
+        vertices.insert(vertices.end(), {from.number(), to.number()});
     }
-    for (const auto &[edge, ends] : model.edges)
-        found.edges.push_back({edge.number(), ends.first.number(), ends.second.number()});
-    for (const auto &[vertex, at] : model.vertices)
-        found.vertices.push_back({vertex.number(), point(at)});
+    for (std::uint32_t vertex : rows::rising(std::move(vertices)))
+        found.vertices.push_back({vertex, point(model.vertices.at(Vertex(vertex)))});
     return found;
 }
 

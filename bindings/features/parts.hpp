@@ -38,15 +38,14 @@ struct Model {
     void read(const Bench &bench, Edge number);
     /// All of a solid. Refused: NoSolid.
     static Model whole(const Bench &bench, Solid solid);
-    /// Some of its faces as a model of a solid.
-    [[nodiscard]] Model part(const std::vector<Face> &of, Solid as) const;
     /// Takes in all of a model of others.
     void take_in(const Model &other);
     /// What this one is where a part of it has become another one.
     [[nodiscard]] Model with(const Model &part, const Model &made) const;
 };
 
-/// A model of all of a solid, as rows.
+/// Faces of a model as rows of a solid; and all of it.
+rows::Rows rows_of(const Model &model, const std::vector<Face> &faces, Solid solid);
 rows::Rows rows_of(const Model &model);
 
 /// A solid becomes what a model of all of it says.

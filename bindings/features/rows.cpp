@@ -48,26 +48,6 @@ std::vector<std::uint32_t> put_cycles(const Bench &bench, Rows &rows)
     return vertices;
 }
 
-/// Some numbers, each once, rising: those that lie close are ticked off, which takes less than to sort them.
-std::vector<std::uint32_t> rising(std::vector<std::uint32_t> numbers)
-{
-    const auto [low, high] = std::minmax_element(numbers.begin(), numbers.end());
-    if (low == numbers.end() || *high - *low > 8 * numbers.size()) {
-        std::sort(numbers.begin(), numbers.end());
-        numbers.erase(std::unique(numbers.begin(), numbers.end()), numbers.end());
-        return numbers;
-    }
-    const std::uint32_t least = *low;
-    std::vector<bool> is_there(*high - least + 1);
-    for (std::uint32_t number : numbers)
-        is_there[number - least] = true;
-    numbers.clear();
-    for (std::uint32_t at = 0; at < is_there.size(); at++)
-        if (is_there[at])
-            numbers.push_back(least + at);
-    return numbers;
-}
-
 /// The edges of half-edges; their vertices come to others.
 void put_edges(const Bench &bench, Rows &rows, std::vector<std::uint32_t> &vertices)
 {
@@ -170,6 +150,26 @@ gwb_vertex_row vertex(Text &text)
 }
 
 } // namespace
+
+std::vector<std::uint32_t> rising(std::vector<std::uint32_t> numbers)
+{
+    const auto [low, high] = std::minmax_element(numbers.begin(), numbers.end());
+    // (those that lie close are ticked off, which takes less than to sort them)
+    if (low == numbers.end() || *high - *low > 8 * numbers.size()) {
+        std::sort(numbers.begin(), numbers.end());
+        numbers.erase(std::unique(numbers.begin(), numbers.end()), numbers.end());
+        return numbers;
+    }
+    const std::uint32_t least = *low;
+    std::vector<bool> is_there(*high - least + 1);
+    for (std::uint32_t number : numbers)
+        is_there[number - least] = true;
+    numbers.clear();
+    for (std::uint32_t at = 0; at < is_there.size(); at++)
+        if (is_there[at])
+            numbers.push_back(least + at);
+    return numbers;
+}
 
 Rows read(const Bench &bench, const std::vector<Solid> &solids)
 {

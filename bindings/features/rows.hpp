@@ -47,6 +47,9 @@ inline void claim(bool holds)
         throw Failure{Problem::no_call};
 }
 
+/// Some numbers, each once, rising.
+std::vector<std::uint32_t> rising(std::vector<std::uint32_t> numbers);
+
 /// Solids. The numbers of each kind rise.
 struct Rows {
     std::vector<std::uint32_t> solids;
