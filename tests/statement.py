@@ -175,7 +175,7 @@ effect, or is refused by its first false condition, or (only a change) is answer
 where all conditions hold; of a glue or a split only those need to hold that are tested before memory is asked for (`MayLack`). A question is answered its
 value, or refused, and changes nothing. `Open` begins a draft, or is answered `Memory`, and then changes nothing. In a draft a change adds steps; undo, redo
 and `Open` are answered `InDraft`, and change nothing; `Mark` is answered the number of steps; `Back n` leads back to the first n; `Commit` makes them one
-command of the session; `Abandon` leaves the session as it was. Without a draft these four are answered `NoDraft`, and change nothing. If the result is an
+change of the session; `Abandon` leaves the session as it was. Without a draft these four are answered `NoDraft`, and change nothing. If the result is an
 error (an `AllocError`), since there is no memory for the answers, nothing has changed at all. What the list ends with is whole (`IsWhole`): each model of its
 session is sound, and accepted operators make it from the one before; the model of a draft is sound too, and accepted operators make it from the session's.
 
