@@ -7,7 +7,7 @@ A quotation is a block whose fence says where it is from, as ```rust low_euler/s
 contract, each `requires` too; by `apply.ready` that clause of what it ensures alone) or ```antt euler_laws/specs/Laws.antt InversesUndo``` (the clauses of
 definitions, without their types, and whole records and data types) or ```lemma lattice/proofs/Crossings.antt opposite_turned``` (with its type); more names
 follow, and more files with names of theirs. ```edit lattice/must-fail/EDIT.edit``` is a whole file. A block of `text` quotes nothing; another with no such
-words is counted as wrong. The last line counts the quotations.
+words is counted as wrong. A line that is too long for a page is broken there. The last line counts the quotations.
 """
 import re
 import sys
@@ -17,6 +17,10 @@ from typing import Iterator, List, Tuple
 from counts import TOP, command_line, told
 
 PAGES = (TOP / 'docs' / 'PROOFS.md', TOP / 'docs' / 'KERNEL.md')
+# No line of a page is longer.
+WIDTH = 160
+# Where a longer one is broken at the earliest.
+INDENT = 20
 BLOCK = re.compile(r'^```([^\n]*)\n(.*?)^```$', re.MULTILINE | re.DOTALL)
 
 
@@ -63,6 +67,25 @@ def lines_of(path: Path) -> List[str]:
     return path.read_text().splitlines()
 
 
+def depth_at(line: str, at: int) -> int:
+    """In how many brackets this place of a line stands."""
+    return line.count('(', 0, at) - line.count(')', 0, at)
+
+
+def broken(line: str) -> List[str]:
+    """A line of code in lines of the page: broken in as few brackets as may be, before a sign, of which an equation's comes last, or else at a blank; in a text
+    behind a newline's."""
+    if len(line) <= WIDTH:
+        return [line]
+    indent = line[:-len(line.lstrip())] + '    ' * (line.lstrip()[0] not in '→×⊎≡')
+    blanks = [at for at in range(INDENT, WIDTH) if line[at] == ' ' and line.count('"', 0, at) % 2 == 0]
+    if blanks:
+        at = min(blanks, key=lambda at: (depth_at(line, at), line[at + 1] not in '→×⊎', line[at + 1] != '≡', -at))
+        return [line[:at], *broken(indent + line[at + 1:])]
+    at = line.rindex('\\n', INDENT, WIDTH - 1)
+    return [line[:at + 2] + '\\', *broken(indent + line[at + 2:])]
+
+
 def quoted(words: List[str]) -> str:
     """What the sources say of the names."""
     kind, *places = words
@@ -76,7 +99,7 @@ def quoted(words: List[str]) -> str:
             lines = lines_of(TOP / 'crates' / word)
         else:
             found += take(lines, word)
-    return ''.join(text + '\n' for text in found)
+    return ''.join(part + '\n' for text in found for part in broken(text))
 
 
 def quotations(page: str) -> Iterator[Tuple[str, str, str]]:

@@ -23,7 +23,7 @@ from typing import Dict, FrozenSet, Iterator, List, Optional, Tuple
 
 from counts import TOP, told, without
 from definitions import CRATES, Definition, Module, Outside, RustType, Thing, file_of, named, resolve, uses
-from quotes import head_of
+from quotes import WIDTH, broken, head_of
 
 PAGE = TOP / 'docs' / 'STATEMENTS.md'
 PROOFS = TOP / 'docs' / 'PROOFS.md'
@@ -85,10 +85,6 @@ lamina, a block, a sweep, a glue and a split are refused, which of these conditi
 by which operators."""
 SHARED_ANCHOR = '#larger-commands'
 SHARED_SAYS = 'when a lamina, a block, a sweep, a glue and a split are refused, and what they make'
-# No line of the page is longer.
-WIDTH = 160
-# Where a longer one is broken at the earliest.
-INDENT = 20
 # So many lines has what the page quotes at most: a law, or a law with all that it rests on.
 SHORT = 12
 # What the standard library says of bytes that are read and written, and the words of it that contracts of runs use.
@@ -775,25 +771,6 @@ def words_of(theorem: Theorem) -> List[str]:
     sees = (f'{link(where)} for {", ".join(f"`{it.name}`" for it in things)}' for where, things in elsewhere.items())
     others = bullet('see ' + '; '.join(sees)) if elsewhere else []
     return ['', *found, *others] if found or others else []
-
-
-def depth_at(line: str, at: int) -> int:
-    """In how many brackets this place of a line stands."""
-    return line.count('(', 0, at) - line.count(')', 0, at)
-
-
-def broken(line: str) -> List[str]:
-    """A line of code in lines of the page: broken in as few brackets as may be, before a sign, of which an equation's comes last, or else at a blank; in a text
-    behind a newline's."""
-    if len(line) <= WIDTH:
-        return [line]
-    indent = line[:-len(line.lstrip())] + '    ' * (line.lstrip()[0] not in '→×⊎≡')
-    blanks = [at for at in range(INDENT, WIDTH) if line[at] == ' ' and line.count('"', 0, at) % 2 == 0]
-    if blanks:
-        at = min(blanks, key=lambda at: (depth_at(line, at), line[at + 1] not in '→×⊎', line[at + 1] != '≡', -at))
-        return [line[:at], *broken(indent + line[at + 1:])]
-    at = line.rindex('\\n', INDENT, WIDTH - 1)
-    return [line[:at + 2] + '\\', *broken(indent + line[at + 2:])]
 
 
 def brief(theorem: Theorem) -> List[str]:
