@@ -99,7 +99,8 @@ static bool is_edge(const Cubes &cubes, const Cube &point, std::size_t axis)
 {
     const std::size_t one = (axis + 1) % 3, other = (axis + 2) % 3;
     const auto filled = [&](const Cube &cube) { return cubes.count(cube) != 0; };
-    const bool here = filled(point), left = filled(beside(point, one)), below = filled(beside(point, other)), across = filled(beside(beside(point, one), other));
+    const bool here = filled(point), left = filled(beside(point, one)), below = filled(beside(point, other));
+    const bool across = filled(beside(beside(point, one), other));
     return !(here == left && below == across) && !(here == below && left == across);
 }
 
@@ -463,7 +464,8 @@ static void try_factors()
 {
     std::mt19937_64 random(7);
     for (int time = 0; time < 60; time++) {
-        const auto length = std::uniform_int_distribution<std::int64_t>(2, 20'000)(random), at = std::uniform_int_distribution<std::int64_t>(1, length - 1)(random);
+        const auto length = std::uniform_int_distribution<std::int64_t>(2, 20'000)(random);
+        const auto at = std::uniform_int_distribution<std::int64_t>(1, length - 1)(random);
         Workbench bench;
         Attempts attempt = bench.attempt();
         const Solid prism = profile(bench, {{0, 0, 0}, {length, 0, 0}, {0, 0, 1}}, {0, 5, 0}).solid;
@@ -551,8 +553,9 @@ static void try_refusals()
             check(why.is(GWB_WHY_NO_SOLID) && why.value == none.number(), "a solid that isn't there");
             outcomes[why.name()]++;
         }
-        for (const Failure &why : {unite(attempt, {block}).error(), unite(attempt, {block, block}).error(), subtract(attempt, block, {}).error(),
-                                   subtract(attempt, block, {block}).error(), subtract(attempt, block, {far, far}).error(), intersect(attempt, {far}).error()}) {
+        for (const Failure &why : {unite(attempt, {block}).error(), unite(attempt, {block, block}).error(), intersect(attempt, {far}).error(),
+                                   subtract(attempt, block, {}).error(), subtract(attempt, block, {block}).error(),
+                                   subtract(attempt, block, {far, far}).error()}) {
             check(why.problem == Problem::no_call, "no call");
             outcomes["no call"]++;
         }
@@ -687,8 +690,8 @@ int main(int argc, char **argv)
     for (const auto &[name, times] : outcomes)
         std::cout << name << ": " << times << '\n';
     if (argc <= 1)
-        for (const char *name : {"made of two", "made of several", "refused of several", "made of posts", "OffLattice", "OffLattice by no number", "Meets", "NothingLeft", "NotFlat", "NoSolid", "no call", "separate", "join_faces", "met a vertex", "met an edge",
-                                 "met a face"})
+        for (const char *name : {"made of two", "made of several", "refused of several", "made of posts", "OffLattice", "OffLattice by no number", "Meets",
+                                 "NothingLeft", "NotFlat", "NoSolid", "no call", "separate", "join_faces", "met a vertex", "met an edge", "met a face"})
             check(outcomes[name] >= 20, std::string(name) + " is seen too seldom");
     std::cout << passed << " passed, " << failed << " failed\n";
     return failed != 0;
