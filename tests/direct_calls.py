@@ -3,7 +3,7 @@
 
     tests/direct_calls.py [PROGRAM [GWB]]        PROGRAM is crates/direct_calls/out/direct_calls and GWB crates/gwb/out/gwb where none is given
 
-Needs a C compiler, `cc`. An operator, and a draft of one, copy no model: each is accepted though the hundredth allocation after the lamina
+Needs a C compiler, `cc`. An operator, and a draft of one, copy no model: each is accepted though the twentieth allocation after the lamina
 is refused. A copy of the arena asks for more, and answers `memory` then. The steps of the glue of two blocks are refused each of their
 allocations in turn: a step is taken when it is given again, and a draft that is abandoned leaves the two blocks.
 """
@@ -16,7 +16,7 @@ from counts import GWB, TOP, command_line, needs, there, told
 
 WANTED = {'act': 'ok', 'draft': 'ok', 'copy': 'memory'}
 BLOCKS = 'block 1 0 0 0 4 4 4;block 2 0 0 4 4 4 4'
-GROWTHS = 10  # that the fourteen steps of their glue ask for
+GROWTHS = 8  # that the fourteen steps of their glue ask for
 NO_WORD = 'spliced at'
 
 

@@ -47,7 +47,7 @@ REFUSED = ['mvfs 1 1 1 1 0 0 0', 'kvfs 1000', 'mev @1000 @1000 1000 1000 0 0 0',
 MAKING = ['mvfs 1 1 1 1 0 0 0', 'lamina 1 0 0 0 4 0 0 4 4 0', 'block 1 0 0 0 4 4 4']
 RECORD = 3              # the most that a record asks for: its place, and its two lists
 POLYGON = [(x, x * x) for x in range(-31, 33)]
-COPY = 100
+COPY = 20               # more than a command asks for beside what there is, and less than a copy of a lamina of 64 points
 
 
 def built(folder):
@@ -146,7 +146,7 @@ def keeps_room(program, command):
 
 
 def copies_nothing(program):
-    """Whether a new solid beside a lamina of 64 points is accepted though the hundredth allocation after the lamina is refused."""
+    """Whether a new solid beside a lamina of 64 points is accepted though the twentieth allocation after the lamina is refused."""
     lamina = 'lamina 1 ' + ' '.join('%d %d 0' % point for point in POLYGON)
     alone, _ = taken(program, [lamina])
     replies, status, _ = program.run([lamina, 'mvfs 2 3 3 65 0 0 0', 'count 2'], alone + COPY)
