@@ -106,7 +106,7 @@ static void check_told(const gwb *g, uint32_t kind, bool are_made, const uint64_
     for (size_t at = gwb_compared_births(g, kind, are_made, rows, MOST); at-- > 0;) {
         told[rows[at].number] = rows[at].birth;
         is_right = is_right && rows[at].number == changes[at].number && rows[at].other == changes[at].other && (at == 0 || rows[at].number > rows[at - 1].number);
-        is_right = is_right && (rows[at].other_birth == 0 || rows[at].other_birth == (are_made ? before : after)[rows[at].other]);
+        is_right = is_right && (rows[at].other_birth == 0 || rows[at].other_birth == before[rows[at].other]);
     }
     for (uint32_t number = 0; number < MOST; number++)
         is_right = is_right && told[number] == (after[number] != before[number] ? after[number] : 0);
