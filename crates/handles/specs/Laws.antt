@@ -19,7 +19,7 @@ abbrev pub IsWholeHandle : Option Slot → Type 0
 IsWholeHandle None = Unit {0}
 IsWholeHandle (Some x) = (g : Stage) × (x.console.stage ≡ Some g) × IsWhole g
 
--- what a handle holds is whole after any list of exports, from a closed handle on
+-- from a whole handle on, what it holds is whole after any list of exports
 abbrev pub HandlesStayWhole : Type 0
 HandlesStayWhole = (old new : Option Slot) (uses : List Use) (kinds : List ℕ) → IsWholeHandle old → HandleGoesOn old uses kinds new → IsWholeHandle new
 

@@ -1,5 +1,5 @@
 -- The volumes in a text of answers.
-use Rattle.script_laws.proofs.Prelude.{◌≡◌, inl, inr, ℕ, zero, suc, ◌+◌, ◌/◌, ◌%◌, ◌≤◌, Bool, true, false, cond, nat_lt, List, [], ◌∷◌, ◌++◌, codes, length, ℤ, pos, negsuc, int_lt, refl, sym, ap, subst, ◌∙◌, arith, append_assoc, decimal, ◌==◌, nat_tests, digits, digits_onto, digit_glyph, signed_decimal, AllByRecursion, Kind, Solid, Face, Loop, Edge, Vertex, Model, Machine, held, BuiltHaveVolume, IsBuilt, started, lines_of, Lacks, line_text, text_of, line, lines, listing, or_empty, reply_words, reply_text, answer_text, answer_of, machine_after, Told, Listing, EndsLine, ended, Tells, volume_answer, WrittenVolumesArePositive, VolumesArePositive, line_if_any}
+use Rattle.script_laws.proofs.Prelude.{◌≡◌, inl, inr, ℕ, zero, suc, ◌+◌, ◌/◌, ◌%◌, ◌≤◌, Bool, true, false, cond, nat_lt, List, [], ◌∷◌, ◌++◌, codes, length, ℤ, pos, negsuc, int_lt, refl, sym, ap, subst, ◌∙◌, arith, append_assoc, decimal, ◌==◌, nat_tests, digits, digits_onto, digit_glyph, signed_decimal, AllByRecursion, Kind, Solid, Face, Loop, Edge, Vertex, Model, Machine, held, BuiltHaveVolume, IsBuilt, started, lines_of, Lacks, line_text, text_of, line, lines, listing, or_empty, reply_words, reply_text, answer_text, answer_of, machine_after, Told, Listing, EndsLine, ended, TextAnswers, volume_answer, WrittenVolumesArePositive, VolumesArePositive, line_if_any}
 use Rattle.std.proofs.lemmas.Int.{ints}
 use Rattle.solid_listing.specs.declared.told.Told.TheVariants as told
 use Rattle.script_laws.proofs.Behind.{reached, ends_append, ends_line, from_adds}
@@ -112,7 +112,7 @@ answer_then s a rest k h = reply_then a rest k h
 -- ---- scripts
 
 module _ (volume : BuiltHaveVolume) where
-  tells_positive : (script : List ℕ) (ls : List (List ℕ)) (text : List ℕ) → EndsLine script → IsBuilt (reached script) → AllLack ls → AllByRecursion MayStand ls → Tells script ls text → VolumesArePositive text
+  tells_positive : (script : List ℕ) (ls : List (List ℕ)) (text : List ℕ) → EndsLine script → IsBuilt (reached script) → AllLack ls → AllByRecursion MayStand ls → TextAnswers script ls text → VolumesArePositive text
   tells_positive script [] text h b lack only none = subst VolumesArePositive (sym none) tt
   tells_positive script (l ∷ ls) text h b lack only (inl (change, (rest, is, more))) =
       subst VolumesArePositive (sym (is ∙ ap (λ (t : List ℕ). t ++ rest) (sym memory_text)))

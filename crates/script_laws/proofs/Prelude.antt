@@ -12,7 +12,7 @@ pub use Rattle.euler_operators.specs.declared.Why.{Why}
 pub use Rattle.euler_operators.specs.declared.Why.TheVariants.{NoSolid, NumberRange}
 pub use Rattle.plane_split.specs.Machine.{plane_with, split, split_refusal}
 pub use Rattle.script_laws.specs.Laws.{AnsweredSo, AnswersStay, BlockLinesSpell, BlocksAndSplitsHaveVolume, BlocksMeasure, BrokenRunsTell, EqualListingsGoOnAlike, FailedRunsTell, FaultsTell, Fits, GluesMeasure, IsWritten, OthersCanBeLeftOut, OthersMayHaveNone, PartsShareVolumes, RefusalsTell, RepliesTell, RunsAnswer, RunsTell, SomeUndosLeadBack, SplitLinesSpell, SweepsMeasure, UndoAndRedoCanBeLeftOut, UndoneLinesCanBeLeftOut, UndosLeadBack, VolumeLinesSpell, VolumesArePositive, WrittenVolumesArePositive, volume_answer}
-pub use Rattle.script_laws.specs.Scripts.{Adds, Answered, AsksForChange, EndsLine, HasNo, IsBlockOrSplit, IsTakenBack, OnlyBlocksAndSplits, Tells, count_lines, ended, oks, times}
+pub use Rattle.script_laws.specs.Scripts.{Adds, Answered, AsksForChange, EndsLine, HasNo, IsBlockOrSplit, IsTakenBack, OnlyBlocksAndSplits, TextAnswers, count_lines, ended, oks, times}
 unfoldable pub use Rattle.script_laws.specs.Scripts.{answers}
 pub use Rattle.script_reader.proofs.LineLaws.{line_ok, ok_line}
 pub use Rattle.script_reader.proofs.LinesOf.{first_line}

@@ -1,5 +1,5 @@
 -- What a run writes where memory may be refused.
-use Rattle.script_laws.proofs.Prelude.{◌≡◌, ◌≢◌, ◌⊎◌, inl, inr, ℕ, false, List, [], ◌∷◌, ◌++◌, codes, Option, Some, None, Result, Ok, Err, refl, sym, ap, subst, ◌∙◌, append-nil, false≢true, AllByRecursion, Model, Refusal, Machine, held, answer, face_refusal, solid_refusal, plane_of, is_flat, six_volume, counts, request_of, lines_of, within_limit, Lacks, Journal, new_journal, over, Command, Change, Question, Told, asked, value_or_refusal, TellsSession, Request, Fault, reply_text, Obeys, Answers, Judges, answer_text, one_line, asked_for, answer_of, machine_after, Summary, judges_so, AsksForChange, EndsLine, ended, Tells, RunsTell, BrokenRunsTell, FailedRunsTell}
+use Rattle.script_laws.proofs.Prelude.{◌≡◌, ◌≢◌, ◌⊎◌, inl, inr, ℕ, false, List, [], ◌∷◌, ◌++◌, codes, Option, Some, None, Result, Ok, Err, refl, sym, ap, subst, ◌∙◌, append-nil, false≢true, AllByRecursion, Model, Refusal, Machine, held, answer, face_refusal, solid_refusal, plane_of, is_flat, six_volume, counts, request_of, lines_of, within_limit, Lacks, Journal, new_journal, over, Command, Change, Question, Told, asked, value_or_refusal, TellsSession, Request, Fault, reply_text, Obeys, Answers, Judges, answer_text, one_line, asked_for, answer_of, machine_after, Summary, judges_so, AsksForChange, EndsLine, ended, TextAnswers, RunsTell, BrokenRunsTell, FailedRunsTell}
 use Rattle.script_reader.specs.Lined.{IsLined}
 use Rattle.undo_journal.proofs.Journals.{same_machine}
 use Rattle.call_types.specs.declared.command.Command.TheVariants as command
@@ -90,7 +90,7 @@ all_front P (x ∷ xs) ys h = (h.0, all_front P xs ys h.1)
 
 -- ---- all lines
 
-outs_tell : (script : List ℕ) (s : Journal) (lines : List (List ℕ)) (out : List ℕ) (n : Summary) → EndsLine script → s.machine ≡ reached script → AllLack lines → Outs false s lines out n → Tells script lines out
+outs_tell : (script : List ℕ) (s : Journal) (lines : List (List ℕ)) (out : List ℕ) (n : Summary) → EndsLine script → s.machine ≡ reached script → AllLack lines → Outs false s lines out n → TextAnswers script lines out
 outs_tell script s [] out n h at lack o = o.0
 outs_tell script s (line ∷ lines) out n h at lack (a, t, judged, inl (go, eo, en)) = absurd (false≢true go)
 outs_tell script s (line ∷ lines) out n h at lack (a, t, judged, inr (calm, (rest, k, eo, en, o))) = elim (memory_or a) [
@@ -118,7 +118,7 @@ outs_tell script s (line ∷ lines) out n h at lack (a, t, judged, inr (calm, (r
 ]
 
 -- from the start on
-start_tells : (lines : List (List ℕ)) (out : List ℕ) (n : Summary) → AllLack lines → Outs false new_journal lines out n → Tells [] lines out
+start_tells : (lines : List (List ℕ)) (out : List ℕ) (n : Summary) → AllLack lines → Outs false new_journal lines out n → TextAnswers [] lines out
 start_tells lines out n lack o = outs_tell [] new_journal lines out n (inl refl) refl lack o
 
 pub runs_tell : RunsTell

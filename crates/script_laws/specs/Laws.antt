@@ -23,7 +23,7 @@ use Rattle.script_reader.specs.Words.{words}
 use Rattle.script_running.specs.Laws.{AsksFor}
 use Rattle.script_running.specs.Runs.{Served, BreaksOff, WriteFails}
 use Rattle.script_running.specs.declared.script_judging.judging.Summary.{Summary}
-use Rattle.script_laws.specs.Scripts.{answers, EndsLine, ended, HasNo, OnlyBlocksAndSplits, oks, Adds, Tells, SameBehind, IsTakenBack}
+use Rattle.script_laws.specs.Scripts.{answers, EndsLine, ended, HasNo, OnlyBlocksAndSplits, oks, Adds, TextAnswers, SameBehind, IsTakenBack}
 
 abbrev pub Anything : List ℕ → Type 0
 Anything more = Unit {0}
@@ -34,15 +34,15 @@ RunsAnswer = (reader old new : Option (List ℕ)) (summary : Summary) (run : Ser
 
 -- whatever memory is refused, a run without `stop` writes the answers to its lines; a line that is answered `memory` changes nothing
 abbrev pub RunsTell : Type 0
-RunsTell = (reader old new : Option (List ℕ)) (summary : Summary) (run : Served reader old new false summary) → Tells [] (lines_of run.moves.given) run.moves.out
+RunsTell = (reader old new : Option (List ℕ)) (summary : Summary) (run : Served reader old new false summary) → TextAnswers [] (lines_of run.moves.given) run.moves.out
 
 -- after a failed read, or if the script is too long, the answers to the lines that came with their newlines are written
 abbrev pub BrokenRunsTell : Type 0
-BrokenRunsTell = (reader old new : Option (List ℕ)) (run : BreaksOff reader old new false) → Tells [] run.judged run.moves.out
+BrokenRunsTell = (reader old new : Option (List ℕ)) (run : BreaksOff reader old new false) → TextAnswers [] run.judged run.moves.out
 
 -- after a failed write a prefix of the answers is written
 abbrev pub FailedRunsTell : Type 0
-FailedRunsTell = (reader old new : Option (List ℕ)) (run : WriteFails reader old new false) → (rest : List ℕ) × Tells [] (lines_of (within_limit 0 run.moves.given)) (run.moves.out ++ rest)
+FailedRunsTell = (reader old new : Option (List ℕ)) (run : WriteFails reader old new false) → (rest : List ℕ) × TextAnswers [] (lines_of (within_limit 0 run.moves.given)) (run.moves.out ++ rest)
 
 -- an example, computed
 abbrev pub AnsweredSo : Type 0
@@ -171,7 +171,7 @@ VolumesArePositive text = AllByRecursion (λ line. (z : ℤ) → ended line ≡ 
 
 -- whatever memory is refused, a text that answers the first lines of such a script, or all, has no volume of 0 or less
 abbrev pub WrittenVolumesArePositive : Type 0
-WrittenVolumesArePositive = (script text : List ℕ) (lines others : List (List ℕ)) → lines_of script ≡ lines ++ others → OnlyBlocksAndSplits script → Tells [] lines text
+WrittenVolumesArePositive = (script text : List ℕ) (lines others : List (List ℕ)) → lines_of script ≡ lines ++ others → OnlyBlocksAndSplits script → TextAnswers [] lines text
     → VolumesArePositive text
 
 -- ---- replies

@@ -61,10 +61,10 @@ OnlyBlocksAndSplits script = AllByRecursion (λ line. (c : Change) → AsksFor l
 
 -- The text has an answer to each line in turn, after the script: the answer that follows the script and the lines before this one. But a line that
 -- asks for a change may be answered `memory`, and then counts as if it hadn't been there.
-abbrev pub Tells : List ℕ → List (List ℕ) → List ℕ → Type 0
-Tells script [] text = text ≡ []
-Tells script (line ∷ lines) text = (AsksForChange line × ((rest : List ℕ) × (text ≡ codes "memory\n" ++ rest) × Tells script lines rest))
-    ⊎ ((reply : List ℕ) × (rest : List ℕ) × Adds script (ended line) reply × (text ≡ reply ++ rest) × Tells (script ++ ended line) lines rest)
+abbrev pub TextAnswers : List ℕ → List (List ℕ) → List ℕ → Type 0
+TextAnswers script [] text = text ≡ []
+TextAnswers script (line ∷ lines) text = (AsksForChange line × ((rest : List ℕ) × (text ≡ codes "memory\n" ++ rest) × TextAnswers script lines rest))
+    ⊎ ((reply : List ℕ) × (rest : List ℕ) × Adds script (ended line) reply × (text ≡ reply ++ rest) × TextAnswers (script ++ ended line) lines rest)
 
 -- what comes after the one script, if it is of this kind, has the same answers as after the other
 abbrev pub SameBehind : (List ℕ → Type 0) → List ℕ → List ℕ → Type 0
@@ -84,5 +84,5 @@ pub record Answered (reader old new : Option (List ℕ)) (summary : Summary) : T
   pub consumed : Consumes reader left given
   pub ended : IsAtEnd left
   pub appended : Appends old new out
-  pub told : Tells [] (lines_of given) out
+  pub told : TextAnswers [] (lines_of given) out
   pub exact : summary.memory ≡ 0 → out ≡ answers given
