@@ -1,5 +1,5 @@
 -- The walk round one end of an edge meets every edge beside it.
-use Rattle.euler_conditions.proofs.Prelude.{◌≡◌, ◌≢◌, ℕ, ◌+◌, ◌≤◌, Bool, true, false, cond, not, nat_eq, ◌&&◌, ◌||◌, List, [], ◌∷◌, ◌++◌, length, Some, is_some, refl, sym, ap, subst, ◌∙◌, arith, ◌⊎◌, inl, inr, eq-eqb, eqb-true, nat_tests, eqb_tells, and_parts, and_from, or_left, or_right, or_cases, not-true, count, IsIn, rotate_to, walk_to, orbit, mate, edge_of, plus, minus, first_where, Model, EdgeRow, tail, after, round, Sound, HasHalf, parallel, count-append, tick_same, orbit_from, count-rotate_to, walk_done, walk_on, walk_over, plus_row, minus_row, mate_plus, mate_minus, mate-mate, edge_of-mate, plus_tail_row, minus_tail_row, first_where_zero, row_some, IsIn_push, length_below, Fan, fan_of, halves_of_edge, steps, half_below, first_where_least, leads_to, lesser}
+use Rattle.euler_conditions.proofs.Prelude.{◌≡◌, ◌≢◌, ℕ, ◌+◌, ◌-◌, ◌≤◌, Bool, true, false, cond, not, nat_eq, ◌&&◌, ◌||◌, List, [], ◌∷◌, ◌++◌, length, Some, is_some, refl, sym, ap, subst, ◌∙◌, arith, ◌⊎◌, inl, inr, eq-eqb, eqb-true, nat_tests, eqb_tells, and_parts, and_from, or_left, or_right, or_cases, not-true, count, IsIn, rotate_to, walk_to, orbit, mate, edge_of, plus, minus, first_where, Model, EdgeRow, tail, after, round, Sound, HasHalf, parallel, count-append, tick_same, orbit_from, steps_are, count-rotate_to, walk_done, walk_on, walk_over, plus_row, minus_row, mate_plus, mate_minus, mate-mate, edge_of-mate, plus_tail_row, minus_tail_row, first_where_zero, row_some, IsIn_push, length_below, Fan, fan_of, halves_of_edge, steps, half_below, first_where_least, leads_to, lesser}
 use Rattle.euler_operators.specs.Table as table
 
 -- ---- what the walk has found
@@ -150,6 +150,24 @@ module _ (M : Model) (sound : Sound M) (h : ℕ) (there : HasHalf M h) (f : ℕ)
 
   pub step_more : x ≢ h → HasHalf M x → HalfSeen M h f least x k
   step_more ne t = grind (arith, walk_more M sound h there old least g n k)
+
+-- ---- the first step of a walk: an edge isn't beside itself
+
+module _ (M : Model) (sound : Sound M) (h : ℕ) (there : HasHalf M h) (f : ℕ) (ends : f ≡ tail M (mate h)) (x : ℕ) (goes : x ≡ round M h) where
+  begun : HalfSeen M h f 0 h steps
+  begun = subst (λ k. HalfSeen M h k 0 h steps) (sym ends) (walk_start M sound h there)
+
+  itself : 0 ≡ cond (leads_to M h f h) (lesser 0 (edge_of h)) 0
+  itself = ap (λ b. cond (not b && nat_eq (tail M (mate h)) f) (lesser 0 (edge_of h)) 0) (sym (eq-eqb (edge_of h) (edge_of h) refl))
+
+  counted : steps ≡ (steps - 1) + 1
+  counted = omega (arith, steps_are)
+
+  pub alone : x ≡ h → 0 ≡ parallel M h
+  alone = step_closed M sound h there f ends 0 0 h x steps (steps - 1) begun counted itself goes
+
+  pub first_step : x ≢ h → HasHalf M x → HalfSeen M h f 0 x (steps - 1)
+  first_step = step_more M sound h there f ends 0 0 h x steps (steps - 1) begun counted itself goes
 
 -- ---- the other end
 

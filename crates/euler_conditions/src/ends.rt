@@ -11,6 +11,7 @@ use euler_operators::{HALF_EDGE_CODES, HalfEdge, Kind};
 use halfedge_arena::Arena;
 
 /// Whether this edge alone leaves the kept vertex, while others leave the killed one.
+#[inline(always)]
 pub(crate) fn kept_end_bare(arena: &Arena, h: HalfEdge) -> bool
     requires ready { IsReady arena.now }
     requires there { has_number arena.now Kind.Edge h.edge ≡ true }
@@ -55,7 +56,7 @@ fn seen(arena: &Arena, code: u32, far: u32, least: u32, other: u32) -> u32
 }
 
 /// The least other edge with the same two ends, or 0. Such an edge leaves both ends, so a walk round either is enough: the two walks go in
-/// step, and the shorter one ends the search.
+/// step, and the shorter one ends the search. Each begins after the edge itself.
 #[tactic(auto, using(crate::proofs::Coded::edge_fits, crate::proofs::Prelude::half_of, crate::proofs::Parallel::mate_there))]
 pub(crate) fn parallel(arena: &Arena, h: HalfEdge) -> u32
     requires ready { IsReady arena.now }
@@ -66,9 +67,16 @@ pub(crate) fn parallel(arena: &Arena, h: HalfEdge) -> u32
     let mate = mate_code(code);
     let far = tail_of_code(arena, mate);
     let near = tail_of_code(arena, code);
-    let (mut g, mut least) = (code, 0);
-    let (mut opposite, mut opposite_least) = (mate, 0);
-    'round: for _ in 0..HALF_EDGE_CODES {
+    let mut g = round_code(arena, code);
+    if g == code {
+        return 0;
+    }
+    let mut opposite = round_code(arena, mate);
+    if opposite == mate {
+        return 0;
+    }
+    let (mut least, mut opposite_least) = (0, 0);
+    'round: for _ in 1..HALF_EDGE_CODES {
         least = seen(arena, code, far, least, g);
         g = round_code(arena, g);
         if g == code {
