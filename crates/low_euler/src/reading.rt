@@ -39,5 +39,5 @@ pub(crate) fn in_use(arena: &Arena, kind: Kind, number: u32)
     requires { has_number arena.now kind number ≡ true }
     ensures { has_room arena.now kind number ≡ true }
 {
-    prove!(arena.has(kind, number));
+    let _in_use = arena.has(kind, number);
 }

@@ -25,7 +25,7 @@ pub(crate) fn mef(
     let end = arena.tail(second);
     let old_face = arena.face_of(arena.loop_of(first));
     let solid = arena.solid_of(old_face);
-    prove!(arena.has(Kind::Solid, solid));
+    let _in_use = arena.has(Kind::Solid, solid);
     arena.put_loop(outer, face);
     make_edge_after(arena, last, first, second, half, start, end);
     arena.cut(half, half.mate(), outer);

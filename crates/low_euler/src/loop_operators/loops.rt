@@ -15,7 +15,7 @@ pub(crate) fn kemr(arena: &mut Arena, half: HalfEdge, ring: u32)
     ensures { arena.new ≡ after arena.old (Op.Kemr half ring) }
 {
     let face = arena.face_of(arena.loop_of(half));
-    prove!(arena.has(Kind::Face, face));
+    let _in_use = arena.has(Kind::Face, face);
     arena.put_loop(ring, face);
     arena.cut(half, half.mate(), ring);
     kill_edge(arena, half);

@@ -1,4 +1,4 @@
-use Rattle.low_euler.proofs.Prelude.{◌≡◌, true, false, is_some, sym, ap, ◌∙◌, subst, true≢false, code, before, face_of, solid_of, Store, cut, put_face, IsStanding, IsUnused, with_edge, put_before}
+use Rattle.low_euler.proofs.Prelude.{◌≡◌, true, false, is_some, sym, ap, ◌∙◌, subst, code, before, face_of, solid_of, Store, cut, put_face, IsStanding, IsUnused, with_edge, put_before}
 use Rattle.euler_operators.specs.Table as table
 use Rattle.low_euler.proofs.loop_operators_laws.MefSteps as steps
 use Rattle.low_euler.proofs.loop_operators.faces.mef.Goals as goal
@@ -19,11 +19,6 @@ pub solid_of-solid-requires : goal.solid_of-solid-requires
 solid_of-solid-requires c =
     subst (λ q. table.has c.args.arena.now.model.faces q ≡ true) (sym (c.face_of-old_face.ensures ∙ ap (face_of c.args.arena.now.model) c.loop_of.ensures))
     (steps.face_there _ _ _ _ _ _ c.requires)
-
-pub prove-unreachable-requires : goal.prove-unreachable-requires
-prove-unreachable-requires c =
-    let solid = c.solid_of-solid.ensures ∙ ap (solid_of c.args.arena.now.model) (c.face_of-old_face.ensures ∙ ap (face_of c.args.arena.now.model) c.loop_of.ensures) in
-    true≢false (sym (c.has.ensures.used ∙ ap (table.has c.args.arena.now.model.solids) solid ∙ steps.solid_there _ _ _ _ _ _ c.requires) ∙ c.if-prove.true)
 
 pub put_loop-requires-clause-free : goal.put_loop-requires-clause-free
 put_loop-requires-clause-free c = ap is_some (steps.goes _ _ _ _ _ _ c.requires).loop_free
@@ -55,7 +50,7 @@ put_face-requires c =
       room = steps.face_room _ _ _ _ _ _ c.requires _ e2;
       free = steps.face_free _ _ _ _ _ _ c.requires _ e2;
       solid_room = steps.solid_room _ _ _ _ _ _ c.requires _ _ e2
-          (c.has.ensures.room (c.has.ensures.used ∙ ap (table.has c.args.arena.now.model.solids) solid ∙ steps.solid_there _ _ _ _ _ _ c.requires));
+          (c.has-in_use.ensures.room (c.has-in_use.ensures.used ∙ ap (table.has c.args.arena.now.model.solids) solid ∙ steps.solid_there _ _ _ _ _ _ c.requires));
     }
 
 pub returns : goal.returns

@@ -1,4 +1,4 @@
-use Rattle.low_euler.proofs.Prelude.{◌≡◌, true, is_some, sym, ap, ◌∙◌, subst, true≢false, code, mate, face_of, Store, put_loop, cut, IsStanding, take_out, kill_edge}
+use Rattle.low_euler.proofs.Prelude.{◌≡◌, true, is_some, sym, ap, ◌∙◌, subst, code, mate, face_of, Store, put_loop, cut, IsStanding, take_out, kill_edge}
 use Rattle.euler_operators.specs.Table as table
 use Rattle.low_euler.proofs.loop_operators_laws.KemrSteps as steps
 use Rattle.low_euler.proofs.loop_operators.loops.kemr.Goals as goal
@@ -9,10 +9,10 @@ loop_of-requires c = (steps.goes _ _ _ c.requires).h_there
 pub face_of-face-requires : goal.face_of-face-requires
 face_of-face-requires c = subst (λ q. table.has c.args.arena.now.model.loops q ≡ true) (sym c.loop_of.ensures) (steps.loop_there _ _ _ c.requires)
 
-pub prove-unreachable-requires : goal.prove-unreachable-requires
-prove-unreachable-requires c =
+pub put_loop-requires-clause-face_room : goal.put_loop-requires-clause-face_room
+put_loop-requires-clause-face_room c =
     let face = c.face_of-face.ensures ∙ ap (face_of c.args.arena.now.model) c.loop_of.ensures in
-    true≢false (sym (steps.face_there _ _ _ c.requires) ∙ ap (table.has c.args.arena.now.model.faces) (sym face) ∙ sym c.has.ensures.used ∙ c.if-prove.true)
+    c.has-in_use.ensures.room (c.has-in_use.ensures.used ∙ ap (table.has c.args.arena.now.model.faces) face ∙ steps.face_there _ _ _ c.requires)
 
 pub put_loop-requires-clause-free : goal.put_loop-requires-clause-free
 put_loop-requires-clause-free c = ap is_some (steps.goes _ _ _ c.requires).loop_free
