@@ -163,6 +163,7 @@ impl KnownSession {
     }
 
     /// Takes the last command back. If there is none, it is refused with `NothingToUndo`.
+    #[inline(always)]
     pub fn undo(&mut self) -> Result<(), Refusal>
         ensures ok { OnOk result (self.new ≡ after_undo self.old) }
         ensures refused { result ≡ verdict (undo_refusal self.old.machine) }
@@ -173,6 +174,7 @@ impl KnownSession {
     }
 
     /// Does the next command again. If there is none, it is refused with `NothingToRedo`.
+    #[inline(always)]
     pub fn redo(&mut self) -> Result<(), Refusal>
         ensures ok { OnOk result (self.new ≡ after_redo self.old) }
         ensures refused { result ≡ verdict (redo_refusal self.old.machine) }

@@ -27,6 +27,7 @@ pub(crate) fn is_ring(arena: &Arena, l: u32) -> bool
 }
 
 /// Whether the face has a ring.
+#[inline(always)]
 #[tactic(auto, unfolding(euler_operators::specs::Conditions::has_rings))]
 pub(crate) fn has_rings(arena: &Arena, f: u32) -> bool
     requires { has_number arena.now Kind.Face f ≡ true }

@@ -33,6 +33,7 @@ fn mvfs(
     Ok(())
 }
 
+#[inline(always)]
 fn kvfs(arena: &mut Arena, solid: u32, back: &mut Op)
     requires ready { IsReady arena.old }
     requires accepted { first_false arena.old.model (Op.Kvfs solid) ≡ None }
@@ -62,6 +63,7 @@ fn mev(
     Ok(())
 }
 
+#[inline(always)]
 fn kev(arena: &mut Arena, half: HalfEdge, back: &mut Op)
     requires ready { IsReady arena.old }
     requires accepted { first_false arena.old.model (Op.Kev half) ≡ None }
@@ -96,6 +98,7 @@ fn mef(
     Ok(())
 }
 
+#[inline(always)]
 fn kef(arena: &mut Arena, half: HalfEdge, back: &mut Op)
     requires ready { IsReady arena.old }
     requires accepted { first_false arena.old.model (Op.Kef half) ≡ None }
@@ -163,6 +166,7 @@ pub fn advance_told(arena: &mut Arena, op: &Op) -> Result<(), AllocError>
 /// and no room is lost.
 ///
 /// All memory is taken before the change: on `AllocError` the model is as it was.
+#[inline(always)]
 pub fn advance(alloc: Global, arena: &mut Arena, op: &Op, back: &mut Op) -> Result<(), AllocError>
     requires ready { IsReady arena.old }
     requires accepted { first_false arena.old.model op.now ≡ None }

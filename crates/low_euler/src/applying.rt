@@ -70,6 +70,7 @@ pub fn apply(arena: &mut Arena, op: &Op, room: MovedFaces) -> Op
 }
 
 /// Applies the inverse that an operator tells, and answers whether it tells one.
+#[inline(always)]
 fn change_back(arena: &mut Arena, op: &Op) -> bool
     requires { AcceptsTold arena.old (told_inverse op.now) }
     ensures told { result ≡ is_some (told_inverse op.now) }
@@ -87,6 +88,7 @@ fn change_back(arena: &mut Arena, op: &Op) -> bool
 
 /// Applies the inverse that an operator tells, as `replay` does, and answers `true`: mvfs, mev, mef and Part tell theirs. Of any other
 /// operator it answers `false`, and nothing has changed.
+#[inline(always)]
 pub fn replay_told(arena: &mut Arena, op: &Op) -> bool
     requires { AcceptsTold arena.old (told_inverse op.now) }
     ensures told { result ≡ is_some (told_inverse op.now) }

@@ -32,6 +32,7 @@ pub(crate) fn kvfs(arena: &Arena, solid: u32) -> Op
 
 /// The corners at which mev makes the edge again: those of the items after h and after its mate. If only one of these items belongs to
 /// another edge, both corners are that item's. If neither does, both are the corner of the loop, which is lone then.
+#[inline(always)]
 #[tactic(auto, using(crate::proofs::Prelude::kev_goes, crate::proofs::Prelude::of_half, crate::proofs::Prelude::mate_edge_there))]
 fn kev_corners(arena: &Arena, h: HalfEdge) -> (Corner, Corner)
     requires ready { IsReady arena.now }
@@ -52,6 +53,7 @@ fn kev_corners(arena: &Arena, h: HalfEdge) -> (Corner, Corner)
     }
 }
 
+#[inline(always)]
 pub(crate) fn kev(arena: &Arena, h: HalfEdge) -> Op
     requires ready { IsReady arena.now }
     requires accepted { first_false arena.now.model (Op.Kev h) ≡ None }
@@ -66,6 +68,7 @@ pub(crate) fn kev(arena: &Arena, h: HalfEdge) -> Op
     Op::Mev(first.packed(), second.packed(), h, killed, point)
 }
 
+#[inline(always)]
 #[tactic(auto, using(crate::proofs::Prelude::kef_goes, crate::proofs::Prelude::of_half, crate::proofs::Prelude::mate_edge_there))]
 pub(crate) fn kef(arena: &Arena, h: HalfEdge) -> Op
     requires ready { IsReady arena.now }

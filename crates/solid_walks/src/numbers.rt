@@ -18,6 +18,7 @@ pub struct Counters {
 }
 
 /// The greatest numbers in use.
+#[inline(always)]
 pub fn counters_of(arena: &Arena) -> Counters
     requires { IsReady arena.now }
     ensures is { taken_of result ≡ taken_in arena.now.model }

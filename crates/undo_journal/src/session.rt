@@ -257,6 +257,7 @@ impl Session {
     }
 
     /// Takes the last command back. If there is none, it is refused with `NothingToUndo`. It takes no memory.
+    #[inline(always)]
     pub fn undo(&mut self) -> Result<(), Refusal>
         ensures ok { OnOk result (self.new ≡ after_undo self.old) }
         ensures refused { result ≡ verdict (undo_refusal self.old.machine) }
@@ -275,6 +276,7 @@ impl Session {
     }
 
     /// Does the next command again. If there is none, it is refused with `NothingToRedo`. It takes no memory.
+    #[inline(always)]
     pub fn redo(&mut self) -> Result<(), Refusal>
         ensures ok { OnOk result (self.new ≡ after_redo self.old) }
         ensures refused { result ≡ verdict (redo_refusal self.old.machine) }

@@ -79,6 +79,7 @@ pub(crate) fn make_edge_after(
 }
 
 /// Kills an edge: the mate of `half` is taken out of its loop, and then `half`.
+#[inline(always)]
 pub(crate) fn kill_edge(arena: &mut Arena, half: HalfEdge)
     requires mate { IsStanding arena.old.model (mate (code half)) }
     requires half { IsStanding (take_out arena.old (mate (code half))).model (code half) }

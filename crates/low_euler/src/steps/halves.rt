@@ -19,6 +19,7 @@ pub(crate) fn put_before(arena: &mut Arena, corner: HalfEdge, half: HalfEdge)
 }
 
 /// Takes a half-edge out of its loop. A loop that held nothing else becomes lone.
+#[inline(always)]
 pub(crate) fn take_out(arena: &mut Arena, half: HalfEdge)
     requires { IsStanding arena.old.model (code half) }
     ensures { arena.new ≡ take_out arena.old (code half) }
