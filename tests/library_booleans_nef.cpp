@@ -6,7 +6,9 @@
 // factor, touch itself, or be nothing. The last line counts; the one before it counts the outcomes, each of which has to be seen 20 times where no seeds are
 // given, and those before it operations without their orders.
 //
-//     library_booleans_nef [FIRST COUNT]     so many seeds from this one on: 170 from 1 on where none are given
+//     library_booleans_nef [FIRST COUNT]     so many seeds from this one on, each told on a line: 170 from 1 on where none are given
+//     library_booleans_nef --sums FIRST COUNT
+//                                            the same lines without Nef, to compare libraries: each has a sum of what was answered and met and of the listings
 //     library_booleans_nef --volume          six times the volume of what standard input tells: `solid V F` with lines of points and of faces, each after how many
 //                                            corners it has, and `union N`, `difference N`, `intersection N` of the N solids before it, in the place of these
 extern "C" {
@@ -390,13 +392,13 @@ static gwb_kind combined(gwb *g, Operation operation, const std::vector<std::uin
 // How often each outcome was seen.
 struct Counts {
     std::map<std::string, int> operations = {}, calls = {}; ///< calls: with the other orders of several solids
-    int in_point = 0;
+    int in_point = 0, total = 0;
 };
 
 // What one seed gives.
 class Chain {
 public:
-    Chain(std::uint64_t seed, Counts &counts) : seed_(seed), random_(seed), counts_(counts)
+    Chain(std::uint64_t seed, bool has_nef, Counts &counts) : seed_(seed), has_nef_(has_nef), random_(seed), counts_(counts)
     {
         if (!gwb_open(&g_))
             std::abort();
@@ -415,6 +417,7 @@ public:
         default: return cross_in_turn();
         }
     }
+    [[nodiscard]] std::uint64_t sum() const { return sum_; }
 
 private:
     Maker maker()
@@ -543,21 +546,27 @@ private:
     std::uint32_t take(Operation operation)
     {
         const std::string before = listing(&g_);
-        std::vector<Nef> nefs;
-        for (std::uint32_t solid : solids_)
-            nefs.push_back(nefs_.count(solid) != 0 ? nefs_.at(solid) : nef_of(&g_, solid));
-        const Nef made = combined(nefs, operation);
+        const Nef made = has_nef_ ? combined(nefs(), operation) : Nef();
         const Told wanted = told(made);
         if (solids_.size() > 2)
             take_in_other_orders(operation, made, wanted, before);
         const Answer answer = called(operation, solids_, made, wanted, before);
         counts_.operations[answer.name]++;
+        counts_.total++;
         counts_.in_point += in_point_ ? 1 : 0;
         if (answer.kind != GWB_OK)
             return answer.why.number == GWB_MISFIT_OFF_LATTICE ? answer.why.value : 0;
         undo_and_redo(before);
         nefs_[solids_[0]] = made;
         return 0;
+    }
+
+    [[nodiscard]] std::vector<Nef> nefs() const
+    {
+        std::vector<Nef> found;
+        for (std::uint32_t solid : solids_)
+            found.push_back(nefs_.count(solid) != 0 ? nefs_.at(solid) : nef_of(&g_, solid));
+        return found;
     }
 
     // Kills the solids of the operation, from a place on, that are still there.
@@ -597,11 +606,25 @@ private:
         found.kind = combined(&g_, operation, solids, &found.why);
         found.name = found.kind == GWB_OK ? "made" : found.kind == GWB_IMPOSSIBLE ? gwb_misfit_name(found.why.number) : gwb_kind_text(found.kind);
         counts_.calls[solids.size() > 2 ? found.name + " of several" : found.name]++;
-        check(is_right(found.kind, found.why, made, wanted, solids[0]),
+        add_to_sum(found.kind, found.why);
+        check(!has_nef_ || is_right(found.kind, found.why, made, wanted, solids[0]),
               "seed " + std::to_string(seed_) + ": " + found.name + " " + std::to_string(found.why.value) + " in place of " + text(wanted) + "; of\n" + before);
         if (found.kind != GWB_OK)
             check(listing(&g_) == before, "what is refused changes nothing");
         return found;
+    }
+
+    // (FNV-1a)
+    void add_to_sum(gwb_kind kind, const gwb_refusal &why)
+    {
+        gwb_hit_row hit{};
+        gwb_hit(&g_, &hit);
+        std::ostringstream answer;
+        answer << kind << ' ' << why.number << ' ' << why.value << ' ' << hit.cause << ' ' << hit.kind << ' ' << hit.number;
+        for (const gwb_wide &part : {hit.point[0], hit.point[1], hit.point[2], hit.scale})
+            answer << ' ' << part.high << ' ' << part.low;
+        for (char letter : answer.str() + listing(&g_))
+            sum_ = (sum_ ^ static_cast<unsigned char>(letter)) * 1'099'511'628'211U;
     }
 
     [[nodiscard]] bool is_right(gwb_kind kind, const gwb_refusal &why, const Nef &made, const Told &wanted, std::uint32_t first) const
@@ -627,7 +650,8 @@ private:
         check(listing(&g_) == after, "and redone");
     }
 
-    std::uint64_t seed_;
+    std::uint64_t seed_, sum_ = 14'695'981'039'346'656'037U;
+    bool has_nef_;
     Random random_;
     Counts &counts_;
     gwb g_ = {};
@@ -692,18 +716,19 @@ int main(int argc, char **argv)
         std::cout << six_volume_of(std::cin) << '\n';
         return 0;
     }
-    const bool has_seeds = argc == 3;
-    const std::uint64_t first = has_seeds ? std::stoull(argv[1]) : 1, count = has_seeds ? std::stoull(argv[2]) : 170;
+    const bool has_seeds = argc > 2, has_nef = argc != 4 || argv[1] != std::string("--sums");
+    const std::uint64_t first = has_seeds ? std::stoull(argv[argc - 2]) : 1, count = has_seeds ? std::stoull(argv[argc - 1]) : 170;
     Counts counts;
-    for (std::uint64_t seed = first; seed < first + count; seed++)
-        Chain(seed, counts).run();
+    for (std::uint64_t seed = first; seed < first + count; seed++) {
+        Chain chain(seed, has_nef, counts);
+        chain.run();
+        if (has_seeds)
+            std::cout << "seed " << seed << ": sum " << std::hex << chain.sum() << std::dec << ", operations so far: " << counts.total << std::endl;
+    }
     for (const char *name : {"made", "OffLattice", "Meets", "NothingLeft"})
         for (const char *of : {"", " of several"})
             check(has_seeds || counts.calls[std::string(name) + of] >= 20, std::string(name) + of + " is seen too seldom");
-    int operations = 0;
-    for (const auto &[name, times] : counts.operations)
-        operations += times;
-    std::cout << operations << " operations, " << counts.in_point << " of solids that cross in a point or line:";
+    std::cout << counts.total << " operations, " << counts.in_point << " of solids that cross in a point or line:";
     print(counts.operations);
     std::cout << "calls, those of several solids in up to six orders:";
     print(counts.calls);
