@@ -127,7 +127,7 @@ def installed(at: Installation) -> Iterator[str]:
               *(f'share/fish/vendor_completions.d/{name}.fish' for name in ['gwb', *COMPANIONS]), 'share/zsh/site-functions/_gwb',
               *(LIBRARY if at.archive else [])]
     yield '' if set(wanted) <= set(here) else f'not installed: {sorted(set(wanted) - set(here))}'
-    yield '' if not [name for name in here if '__pycache__' in name] else 'what Python compiled is installed'
+    yield '' if not [name for name in here if '__pycache__' in name or 'Cargo' in name] else 'what Python compiled is installed, or a crate'
     ran = at.run([at.command('gwb'), EXAMPLE])
     yield complaint(ran) or ('' if ran.stdout == EXAMPLE.with_suffix('.expected').read_bytes() else 'the installed gwb replies otherwise')
     for name in COMPANIONS:
@@ -156,8 +156,8 @@ def packages(at: Installation) -> Iterator[str]:
     """A program in C that is compiled and linked as pkg-config says, with the shared library and with the static one."""
     for package in ('gwb', 'gwb-static'):
         flags = at.run(['pkg-config', '--cflags', '--libs', package]).stdout.decode().split()
-        yield complaint(at.run(['cc', 'try.c', '-o', package, *flags, f'-Wl,-rpath,{at.prefix}/lib']))
-        yield complaint(at.run([at.prefix.parent / package]))
+        yield complaint(at.run(['cc', 'try.c', '-o', package, *flags]))
+        yield complaint(at.run(['env', f'LD_LIBRARY_PATH={at.prefix}/lib', at.prefix.parent / package]))
         needed = at.run(['objdump', '-p', package]).stdout.decode()
         yield '' if (SONAME in needed) == (package == 'gwb') else f'{package} needs {needed}'
 

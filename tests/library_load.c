@@ -1,6 +1,6 @@
 /* Loads listings (gwb_load) with one thing or another changed in them: what is accepted has just this listing, and what isn't leaves the
- * session as it was. Then each request for memory is refused in turn. Random maps of many handles are loaded too. The last line is 'N passed, M
- * failed'. */
+ * session as it was. Then each request for memory is refused in turn, and the caller ends it (gwb_stop_by) at each question in turn. Random maps
+ * of many handles are loaded too. The last line is 'N passed, M failed'. */
 #include "checks.h"
 #include "heaps.h"
 #include <stdio.h>
@@ -103,6 +103,30 @@ static void try_refused(const char *listing, size_t length)
     check(is_well, "memory refused");
 }
 
+static long answers; /* so many questions whether to end are answered no */
+static bool is_over(void *user) { return (void)user, answers-- == 0; }
+
+/* Loads a listing, in a draft or not, which its caller ends at each question in turn: whether there were so many. */
+static bool try_stopped(const char *listing, size_t length, long nth, bool is_draft)
+{
+    static char found[ROOM];
+    gwb g = {0};
+    gwb_refusal refusal;
+    bool is_well = gwb_open(&g) && gwb_mvfs(&g, 999, 999999, 999999, 999999, 0, 0, 0) == GWB_OK && gwb_undo(&g) == GWB_OK;
+    is_well = is_well && (!is_draft || (gwb_draft(&g) == GWB_OK && gwb_mvfs(&g, 998, 999998, 999998, 999998, 0, 0, 0) == GWB_OK));
+    const size_t ahead = gwb_ahead(&g), held = gwb_read_listing(&g, found, ROOM);
+    answers = nth;
+    gwb_stop_by(&g, is_over, NULL);
+    enum gwb_kind kind = gwb_load(&g, listing, length, &refusal);
+    const bool is_stopped = answers < 0;
+    is_well = is_well && kind == (is_stopped ? GWB_STOPPED : GWB_OK);
+    is_well = is_well && (!is_stopped || (gwb_read_listing(&g, found, ROOM) == held && gwb_ahead(&g) == ahead && gwb_mark(&g) == is_draft));
+    is_well = is_well && (!is_draft || (gwb_abandon(&g) == GWB_OK && gwb_ahead(&g) == 1));
+    gwb_close(&g);
+    check(is_well, "ended by its caller");
+    return is_well && is_stopped;
+}
+
 static void try_model(size_t model)
 {
     static char listing[ROOM];
@@ -118,6 +142,9 @@ static void try_model(size_t model)
         try_changed(listing, length);
     check(failed == before, "a listing with something changed in it");
     try_refused(listing, length);
+    for (int is_draft = 0; is_draft < 2; is_draft++)
+        for (long nth = 0; try_stopped(listing, length, nth, is_draft); nth++)
+            ;
     gwb_close(&g);
 }
 
@@ -230,6 +257,27 @@ static void try_maps(void)
         try_map(2 + i * i * i * 100, EDGES, false);
 }
 
+/* Loads a listing of 16 edges, which needs one more on the way, where all others are in use. */
+static void try_without_numbers(void)
+{
+    static const gwb_point square[] = {{2, 2, 8}, {6, 2, 8}, {6, 6, 8}, {2, 6, 8}};
+    static char listing[ROOM];
+    gwb g = {0};
+    gwb_refusal refusal = {0, 0};
+    bool is_well = gwb_open(&g) && gwb_block(&g, 1, 0, 0, 0, 8, 8, 8) == GWB_OK && gwb_lamina(&g, 2, square, 4) == GWB_OK;
+    is_well = is_well && gwb_merge(&g, 1, 2) == GWB_OK && gwb_kfmrh(&g, 1, 8) == GWB_OK;
+    const size_t length = listing_of(&g, listing);
+    gwb_close(&g);
+    is_well = is_well && gwb_open(&g) && gwb_mvfs(&g, 9, 900, 900, 17, 0, 0, 0) == GWB_OK;
+    is_well = is_well && gwb_mev(&g, gwb_lone(900), gwb_lone(900), 17, 18, 1, 0, 0) == GWB_OK;
+    for (uint32_t edge = 18; is_well && edge <= 999999; edge++)
+        is_well = gwb_mev(&g, gwb_plus(17), gwb_plus(17), edge, edge + 1, edge, 0, 0) == GWB_OK;
+    const size_t depth = gwb_depth(&g);
+    check(is_well && gwb_mev(&g, gwb_plus(17), gwb_plus(17), 1000000, 16, 1, 1, 0) == GWB_OK, "all edges but 16");
+    check(gwb_load(&g, listing, length, &refusal) == GWB_REFUSED && refusal.number != 0 && gwb_depth(&g) == depth + 1, "no number is free");
+    gwb_close(&g);
+}
+
 static void try_lines(void)
 {
     static const char script[] = "# a comment\nblock 1 0 0 0 4 4 4\n\nkvfs 1\nundo\n";
@@ -244,6 +292,7 @@ static void try_lines(void)
     size_t line = 9;
     gwb_refusal refusal;
     check(gwb_lines(&g, script, sizeof script - 1, &line) == GWB_CLOSED && line == 0, "a closed handle");
+    check(gwb_load(&g, cones, sizeof cones - 1, &refusal) == GWB_CLOSED && !gwb_is_open(&g), "loading into a closed handle");
     check(gwb_open(&g) && gwb_lines(&g, script, sizeof script - 1, &line) == GWB_REFUSED && line == 4 && gwb_depth(&g) == 1, "a script up to its line 4");
     check(gwb_load(&g, "solid 1\n", 8, &refusal) == GWB_NO_CALL && gwb_depth(&g) == 1, "a solid without a face");
     check(gwb_load(&g, cones, sizeof cones - 1, &refusal) == GWB_NO_CALL && gwb_depth(&g) == 1, "two solids in one that touch in a vertex");
@@ -262,6 +311,8 @@ static void try_lines(void)
 int main(int count, char **words)
 {
     changes = count > 1 ? atol(words[1]) : changes;
+    if (changes > 100)
+        try_without_numbers();
     try_lines();
     try_maps();
     for (size_t model = 0; model < sizeof scripts / sizeof *scripts; model++)

@@ -8,6 +8,7 @@ The models are those that the lines of random_lines.py leave, every 50th line.
 """
 import ctypes
 import sys
+from itertools import groupby
 
 from counts import command_line, there
 from library_session import NO_TEXT, Handle, Refusal, Session, loaded
@@ -169,13 +170,14 @@ class Readers:
 
     def wrong_rows(self):
         """What is wrong with the rows of all half-edges and vertices, and with the greatest numbers, or None."""
-        halves, points = list(self.all_rows(self.rows, HalfEdgeRow, 0)), list(self.all_rows(self.points, VertexRow))
-        told = sorted((row.half_edge, row.start, row.next, row.loop, row.face) for row in halves)
-        if told != sorted(self.half_edge_rows()):
+        wanted, points = list(self.half_edge_rows()), list(self.all_rows(self.points, VertexRow))
+        told = self.told_rows(0)
+        if told != wanted:
             return 'rows of half-edges: %r' % told
-        of_solids = [(solid, row.half_edge) for solid in self.rising('number_after', SOLID) for row in self.all_rows(self.rows, HalfEdgeRow, solid)]
-        if sorted(of_solids) != sorted((self.ask('face', row.face)[0], row.half_edge) for row in halves):
-            return 'rows of solids: %r' % of_solids
+        for solid in self.rising('number_after', SOLID):
+            faces = set(self.rising('face_after', solid))
+            if self.told_rows(solid) != [row for row in wanted if row[-1] in faces]:
+                return 'rows of solid %d: %r' % (solid, self.told_rows(solid))
         if [(row.vertex, (row.x, row.y, row.z)) for row in points] != [(n, self.ask('vertex', n)) for n in self.rising('number_after', VERTEX)]:
             return 'rows of vertices'
         greatest = [max(self.rising('number_after', entity), default=0) for entity in range(5)]
@@ -216,8 +218,13 @@ class Readers:
         assert function(self.session.handle, *first, rows, count) == count and not any(bytes(rows)[count * ctypes.sizeof(kind):])
         return rows[:count]
 
+    def told_rows(self, solid):
+        """The rows of half-edges as they are written at once, but those of each loop from the least half-edge on."""
+        rows = [(row.half_edge, row.start, row.next, row.loop, row.face) for row in self.all_rows(self.rows, HalfEdgeRow, solid)]
+        return [row for _, loop in groupby(rows, key=lambda row: row[3]) for row in from_least(list(loop))]
+
     def half_edge_rows(self):
-        """The rows of all half-edges, by the readers."""
+        """The rows of all half-edges, by the readers, in the order in which they are written at once."""
         for face in self.rising('number_after', FACE):
             for loop in [self.ask('face', face)[1], *self.rising('ring_after', face)]:
                 for half in self.half_edges(loop):

@@ -424,6 +424,35 @@ static void measures(void)
     HOLDS(counts.faces == 6 && volume.low == 384 && refusal.value == 3);
 }
 
+/* Whether a face has this plane, of small numbers. */
+static bool lies_on(const gwb *g, uint32_t face, int64_t a, int64_t b, int64_t c, int64_t d)
+{
+    gwb_plane plane;
+    gwb_refusal refusal;
+    return gwb_read_plane(g, face, &plane, &refusal) == 5 && (int64_t)plane.a.low == a && (int64_t)plane.b.low == b && (int64_t)plane.c.low == c &&
+           (int64_t)plane.d.low == d;
+}
+
+/* The faces of the last block and of the last lamina, and what is told of them after another command. */
+static void faces_of_the_last(void)
+{
+    static const gwb_point square[] = {{0, 0, 9}, {2, 0, 9}, {2, 2, 9}, {0, 2, 9}};
+    gwb g = opened();
+    gwb_block_faces block = {0, 0, {0, 0, 0, 0}};
+    uint32_t front = 0, back = 0;
+    HOLDS(gwb_last_block(&g, &block) == 0 && gwb_last_lamina(&g, &front, &back) == 0);
+    HOLDS(gwb_block(&g, 1, 0, 0, 0, 2, 3, 5) == 1 && gwb_last_block(&g, &block) == 1);
+    HOLDS(lies_on(&g, block.top, 0, 0, 12, -60) && lies_on(&g, block.bottom, 0, 0, -12, 0));
+    HOLDS(lies_on(&g, block.sides[0], 0, -20, 0, 0) && lies_on(&g, block.sides[1], 30, 0, 0, -60));
+    HOLDS(lies_on(&g, block.sides[2], 0, 20, 0, -60) && lies_on(&g, block.sides[3], -30, 0, 0, 0));
+    HOLDS(gwb_lamina(&g, 2, square, 4) == 1 && gwb_last_lamina(&g, &front, &back) == 1);
+    HOLDS(lies_on(&g, front, 0, 0, 8, -72) && lies_on(&g, back, 0, 0, -8, 72));
+    HOLDS(gwb_last_block(&g, &block) == 1 && block.top == front);
+    HOLDS(gwb_undo(&g) == 1 && gwb_last_block(&g, &block) == 0 && gwb_last_lamina(&g, &front, &back) == 0);
+    gwb_close(&g);
+    HOLDS(gwb_last_block(&g, &block) == 9 && gwb_last_lamina(&g, &front, &back) == 9);
+}
+
 /* Which kinds are answers that were asked for, and that each has a text. */
 static void kinds_of_answers(void)
 {
@@ -436,7 +465,7 @@ static void kinds_of_answers(void)
 
 static void (*const TESTS[])(void) = {split_through_a_hole, answers_as_values, too_little_room, longest_line, closed_handle, typed_calls,
                                       typed_query, typed_rings, typed_laminas, typed_parts, drafts_of_a_wire, lines_in_a_draft, codes, neighbours,
-                                      measures, kinds_of_answers};
+                                      measures, faces_of_the_last, kinds_of_answers};
 
 int main(void) {
     unsigned failed = 0;

@@ -67,7 +67,8 @@ enum gwb_kind {
     GWB_COUNT = 7,   /**< the counts of a solid */
     GWB_LISTING = 8, /**< the listing of the model */
     GWB_CLOSED = 9,  /**< the handle is closed */
-    /* After these nothing has changed, the last answer included. */
+    /* After these three nothing has changed, the last answer included. But gwb_load and the features, when they are not GWB_OK, leave only the model,
+     * undo, redo and the draft as they were: the last answer and gwb_fresh may differ. */
     GWB_NO_CALL = 10,  /**< the arguments make no command */
     GWB_IN_DRAFT = 11, /**< a draft has no such call */
     GWB_NO_DRAFT = 12, /**< only a draft has this call */
@@ -227,8 +228,9 @@ uint32_t gwb_lent_last_plane(gwb *copy, gwb_plane *plane);
 uint32_t gwb_lent_fresh(gwb *copy, uint32_t entity, gwb_range *range);
 /** @endcond */
 
-/** What the last answer refused: GWB_ABSENT where it was no refusal. GWB_IN_DRAFT, GWB_NO_DRAFT and GWB_NO_CALL leave the last answer as it
- * was, so ask only after GWB_REFUSED. A reader. */
+/** What the last answer refused: GWB_ABSENT where it was no refusal. Ask only after a command, a query or a line that is GWB_REFUSED:
+ * GWB_IN_DRAFT, GWB_NO_DRAFT and GWB_NO_CALL leave the last answer as it was, and gwb_load and the features write their refusal themselves. A
+ * reader. */
 static inline uint32_t gwb_last_refusal(const gwb *g, gwb_refusal *refusal)
 {
     gwb copy = *g;
@@ -278,7 +280,8 @@ typedef struct gwb_block_faces {
     uint32_t top, bottom, sides[4];
 } gwb_block_faces;
 
-/** The faces of the block that the last command made: GWB_ABSENT where that made no faces. After another command it tells nothing. A reader. */
+/** The faces of the block that the last command made. Ask only after a block: after another command that made faces it is GWB_FOUND too, and
+ * after one that made none GWB_ABSENT. A reader. */
 static inline uint32_t gwb_last_block(const gwb *g, gwb_block_faces *faces)
 {
     gwb_range fresh = {0, 0};
@@ -654,7 +657,8 @@ size_t gwb_face_triangles(const gwb *g, uint32_t face, gwb_triangle_row *rows, s
  * draft that is open. It needs some numbers more on the way. It takes time n log n by the length of the listing, and for each handle that no
  * ring opens, as much as the smaller part of a loop that an edge cuts in two: that is little, but where one face goes round thousands.
  * @return GWB_OK; GWB_REFUSED, where a number is in use or none is free: the refusal is written; GWB_MEMORY; GWB_NO_CALL, where it is no
- * listing of a sound model, as no bytes are none; GWB_STOPPED; GWB_CLOSED. But for GWB_OK nothing has changed except for the last answer. */
+ * listing of a sound model, as no bytes are none; GWB_STOPPED; GWB_CLOSED. But for GWB_OK the model, undo, redo and the draft are as they were; the last
+ * answer and gwb_fresh may differ. */
 enum gwb_kind gwb_load(gwb *g, const char *listing, size_t n, gwb_refusal *refusal);
 
 /** Gives the lines of a script one after another, up to the first whose answer is none that was asked for (gwb_succeeded), and
