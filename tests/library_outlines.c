@@ -1,6 +1,6 @@
 /* Outlines, sizes and numbers of features: random outlines are refused where two of their sides meet, by the first such side, as a comparison of all pairs says;
  * one of many points takes no more than its length, however long its sides are; and sizes past all that is in range are refused as one of 4,000,000,000
- * is. A number that no thing can have is NumberRange, whatever it is of. The last line counts.
+ * is. A number that no thing can have is NumberRange, whatever it is of. As many tilted planes are found as are asked for. The last line counts.
  *
  *     library_outlines [ROUNDS]     so many hundreds of random outlines: 30 where none is said */
 #include "checks.h"
@@ -276,6 +276,29 @@ static void try_spent(void)
     gwb_close(&g);
 }
 
+/* Beside a plane that cuts a block between whole points. */
+static void try_tilted(void)
+{
+    const gwb_cut_plane plane = {2, 3, 5, -17};
+    gwb g = {0};
+    if (!gwb_open(&g))
+        abort();
+    gwb_block(&g, 1, 0, 0, 0, 8, 8, 8);
+    for (size_t most = 0; most < 6; most++) {
+        gwb_advice *advice = NULL;
+        gwb_refusal why;
+        gwb_near_plane planes[16];
+        const bool is_told = gwb_off_lattice(&g, 1, &plane, most, &advice, &why) == GWB_OK;
+        const size_t count = is_told ? gwb_advice_planes(advice, planes, 16) : 0;
+        size_t tilted = 0;
+        for (size_t i = 0; i < count && i < 16; i++)
+            tilted += !planes[i].is_parallel;
+        check(is_told && tilted == most, "so many tilted planes");
+        gwb_advice_free(advice);
+    }
+    gwb_close(&g);
+}
+
 int main(int argc, char **argv)
 {
     try_random(100 * (argc > 1 ? strtol(argv[1], NULL, 10) : 30));
@@ -283,5 +306,6 @@ int main(int argc, char **argv)
     try_sizes();
     try_numbers();
     try_spent();
+    try_tilted();
     return counted();
 }

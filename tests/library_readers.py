@@ -260,7 +260,7 @@ def complaint(session, readers):
     if why:
         return '%s in %r' % (why, wanted[:300])
     absent = [readers.ask(name, *[999999] * takes) for name, (takes, _) in READERS.items()]
-    absent += [readers.ask('number_after', 5, 0), readers.half_edges(999999)]
+    absent += [readers.ask('number_after', 5, 0), readers.half_edges(999999), list(readers.all_rows(readers.of_face, TriangleRow, 999999))]
     return 'found what is not there: %r' % absent if any(absent) else None
 
 

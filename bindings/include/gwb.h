@@ -23,7 +23,8 @@
  *
  * How long a step from one coordinate to the next is, is the caller's affair.
  *
- * A closed handle is one before gwb_open or after gwb_close. A call for a closed handle changes nothing and writes nothing. */
+ * A closed handle is one before gwb_open or after gwb_close. But for gwb_open, a call for a closed handle changes nothing; but for gwb_lines, which
+ * gave 0 lines, it writes nothing. */
 #ifndef GWB_H
 #define GWB_H
 #include <stdbool.h>
