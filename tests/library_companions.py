@@ -25,7 +25,8 @@ def main():
         print('GWB names no library', closing(0, 1), sep='\n')
         return 1
     there(os.environ['GWB'], 'library')
-    mark = re.compile(r'\bSTEP\b|\bstep_of\(|\bbench_and_folder\(self\)' if os.environ.get('GWB_TEST_STEP') else r'\blibrary\(\)')
+    opened = r'= (opened|bench_and_folder)\(self'
+    mark = re.compile(rf'\bSTEP\b|\bstep_of\(|{opened}\)' if os.environ.get('GWB_TEST_STEP') else rf'\blibrary\(\)|{opened}')
     files = TESTS.glob('test_session*.py' if os.environ.get('GWB_TEST_STEP') else 'test_*.py')
     names = sorted(path.stem for path in files if mark.search(path.read_text(encoding='utf-8')))
     return tried(unittest.defaultTestLoader.loadTestsFromNames(names), told=lambda: [whole_millimetres()] if STEP != 1 else [])

@@ -8,8 +8,7 @@ import re
 import shutil
 import subprocess
 import sys
-from pathlib import Path
-from typing import Iterator, List, NamedTuple
+from typing import Iterator, NamedTuple
 
 from counts import TOP, closing, command_line, told, without
 

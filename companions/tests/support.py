@@ -193,11 +193,16 @@ def step_of(test: unittest.TestCase, *lattice: str) -> Fraction:
     return Fraction(1)
 
 
-def bench_and_folder(test: unittest.TestCase, step: Fraction = STEP):
-    """A workbench and a folder for a test, both gone when it ends."""
+def opened(test: unittest.TestCase, step: Fraction = STEP):
+    """A workbench for a test, closed when it ends."""
     bench = import_module('gwb').Workbench(library(), step=step)
     test.addCleanup(bench.close)
-    return bench, folder_of(test)
+    return bench
+
+
+def bench_and_folder(test: unittest.TestCase, step: Fraction = STEP):
+    """A workbench and a folder for a test, both gone when it ends."""
+    return opened(test, step), folder_of(test)
 
 
 def folder_of(test: unittest.TestCase) -> Path:

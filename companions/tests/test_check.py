@@ -438,7 +438,3 @@ class Slivers(unittest.TestCase):
             self.assertEqual((outcome.status, outcome.out.splitlines()[-1]), (1, '5 findings'))
             for word in ('0', '-1', 'x', '1e3', '9' * 50):
                 self.assertEqual(run('check', '--slivers', word, str(path)).status, 2, word)
-
-
-if __name__ == '__main__':
-    unittest.main()

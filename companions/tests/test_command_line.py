@@ -100,7 +100,3 @@ class Programs(unittest.TestCase):
         ended = subprocess.run(f'"{sys.executable}" "{COMPANIONS}/gwb-step" "{replies}" | true', shell=True, check=False,
                                stderr=subprocess.PIPE)
         self.assertEqual(ended.stderr, b'')
-
-
-if __name__ == '__main__':
-    unittest.main()

@@ -63,7 +63,3 @@ class Counting(unittest.TestCase):
     def test_a_class_that_cannot_be_set_up(self):
         self.assertEqual(self.counted(_Plain('passes'), _Broken('passes'), _Broken('passes'))[1], 1)
         self.assertEqual(self.counted(_Broken('passes'), _Broken('is_skipped')), ('0 passed, 2 failed', 1))
-
-
-if __name__ == '__main__':
-    unittest.main()

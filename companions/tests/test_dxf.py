@@ -148,7 +148,3 @@ class Program(InFiles):
             self.assertEqual(run('dxf', *words, path).status, 2, words)
         outcome = run('dxf', '--face', '7', path)
         self.assertEqual((outcome.status, outcome.out, outcome.err), (3, '', 'gwb-dxf: there is no face 7\n'))
-
-
-if __name__ == '__main__':
-    unittest.main()

@@ -301,7 +301,3 @@ class Scripts(unittest.TestCase):
             outcome = run('explain', path, str(scripts()[0].with_suffix('.expected')))
         self.assertEqual(outcome.status, 3)
         self.assertEqual(outcome.err.count('\n'), 1)
-
-
-if __name__ == '__main__':
-    unittest.main()

@@ -172,7 +172,3 @@ class TouchingSolids(Read):
         hollow, walls = box((2, 2, 2), (7, 7, 7), 9)
         inner, others = box((3, 3, 3), (6, 6, 6), 17)
         self.assertEqual(list(touching_solids(model_in(listing(points + hollow + inner, faces + turned(walls), others)))), [])
-
-
-if __name__ == '__main__':
-    unittest.main()

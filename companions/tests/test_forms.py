@@ -178,7 +178,3 @@ class Readers(InFolder):
         self.assertNotIn('open', run('import', self.off(self.CUBE, Fraction(1, 2))).err)
         with self.assertRaises(Unfit):
             read_file(self.off(self.CUBE[:5]))
-
-
-if __name__ == '__main__':
-    unittest.main()

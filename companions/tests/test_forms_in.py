@@ -386,7 +386,3 @@ class Kinds(unittest.TestCase):
             outcome = run('import', *words)
             self.assertEqual(outcome.status, 3)
             self.assertIn('it is of no form that is known: STEP, GLB, 3MF, PLY, OFF, STL, AMF, OBJ; --form says which', outcome.err)
-
-
-if __name__ == '__main__':
-    unittest.main()

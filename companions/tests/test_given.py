@@ -1,7 +1,6 @@
 """What a companion is given: a script, replies, a listing and each form that is read, in each companion; names of scripts; comments of any letters."""
 
 import subprocess
-import unittest
 from pathlib import Path
 
 from support import InFolder, box, program, run, shells
@@ -205,7 +204,3 @@ class Letters(WithProgram):
     def test_an_empty_script(self):
         with self.assertRaises(CompanionError):
             given(self.file('part.gwb', '# \u00e4\n'))
-
-
-if __name__ == '__main__':
-    unittest.main()

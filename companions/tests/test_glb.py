@@ -172,7 +172,3 @@ class Read(InFiles):
         with mock.patch('gwb.formats.glb.MOST_POLYGONS', 10):
             self.refuse('it has more than 30 points, each counted as often as it is used', glb(described, buffer))
         self.assertEqual(len(self.read(glb(described, buffer)).solids), 8)
-
-
-if __name__ == '__main__':
-    unittest.main()

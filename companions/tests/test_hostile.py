@@ -143,7 +143,3 @@ class Hostile(unittest.TestCase):
                 file.truncate(2 ** 32)
             outcome = run('import', str(path))
         self.assertEqual((outcome.status, outcome.err), (3, 'gwb-import: the file has more than 300,000,000 bytes\n'))
-
-
-if __name__ == '__main__':
-    unittest.main()

@@ -3,7 +3,6 @@
 import io
 import struct
 import subprocess
-import unittest
 import zipfile
 from fractions import Fraction
 
@@ -361,7 +360,3 @@ class Refused(InFiles):
 
     def test_parts_without_faces(self):
         self.assertEqual(model_of_parts([Part([], [])], Fraction(1), False, False).model.faces, {})
-
-
-if __name__ == '__main__':
-    unittest.main()

@@ -58,7 +58,3 @@ class InsideOut(unittest.TestCase):
             self.assertEqual((outcome.status, outcome.out), (3, ''))
             self.assertIn('of solid 2 is inside out', outcome.err)
             self.assertEqual(outcome.err.count('\n'), 1)
-
-
-if __name__ == '__main__':
-    unittest.main()

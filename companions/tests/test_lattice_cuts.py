@@ -192,7 +192,3 @@ class Congruences(unittest.TestCase):
                 if both is not None:
                     self.assertEqual(both.remainder, wanted[0])
                     self.assertEqual([k for k in range(modulus * other) if both.at_most(k) == k], wanted)
-
-
-if __name__ == '__main__':
-    unittest.main()

@@ -175,7 +175,3 @@ class Refusing(unittest.TestCase):
         points = [(0, 0, 0), (4, 0, 0), (0, 4, 0), (-4, 0, 0), (0, -4, 0)]
         text = listing(points, [[(1, 2, 3)], [(3, 2, 1)], [(1, 4, 5)], [(5, 4, 1)]])
         self.refuse(text, NotAListing, 'vertex 1 form more than one fan')
-
-
-if __name__ == '__main__':
-    unittest.main()

@@ -35,7 +35,3 @@ class Loading(unittest.TestCase):
             with self.subTest(program):
                 found = loaded(f'import gwb.programs.{program}') - loaded('')
                 self.assertEqual({name for name in found if name in ('urllib.request', 'ssl', 'http.client', 'email')}, set())
-
-
-if __name__ == '__main__':
-    unittest.main()

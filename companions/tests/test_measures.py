@@ -213,7 +213,3 @@ class Sections(unittest.TestCase):
     def test_refusals(self):
         self.assertRaises(NoPart, section, BLOCK, 2, (0, 0, 1, -4))
         self.assertRaises(ValueError, section, BLOCK, 1, (0, 0, 0, -4))
-
-
-if __name__ == '__main__':
-    unittest.main()

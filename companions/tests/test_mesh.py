@@ -207,7 +207,3 @@ class Forms(unittest.TestCase):
         replies = str(examples()[0].with_suffix('.expected'))
         done = subprocess.run([sys.executable, COMPANIONS / 'gwb-mesh', '--form', '3mf', replies], capture_output=True, check=True)
         self.assertEqual(done.stdout, three_mf_bytes(mesh_of(read_model(Path(replies).read_bytes()))))
-
-
-if __name__ == '__main__':
-    unittest.main()

@@ -90,7 +90,3 @@ class Folders(unittest.TestCase):
             used = set(re.findall(r'^from \.\.([a-z]+)[. ]', path.read_text(), re.M)) - {'errors', 'meanings', 'refusals', 'version'}
             with self.subTest(path=path):
                 self.assertLessEqual(used, set(self.ORDER[:self.ORDER.index(path.parent.name)]))
-
-
-if __name__ == '__main__':
-    unittest.main()

@@ -1209,7 +1209,3 @@ class Speed(PageCase):
     def test_the_times_are_measured(self):
         told = times_of(blocks(2), (320, 240), 3)
         self.assertEqual({name: len(times['whole']) for name, times in told.items()}, {'opening': 1, 'turning': 3, 'pointing': 3, 'picking': 3, 'cutting': 3})
-
-
-if __name__ == '__main__':
-    unittest.main()

@@ -139,7 +139,3 @@ class ByProgram(AtRandom, unittest.TestCase):
     def test_a_library_that_is_named_and_not_there(self):
         with self.assertRaises(ProgramMissing):
             self.listings('/nowhere/libgwb.so')
-
-
-if __name__ == '__main__':
-    unittest.main()

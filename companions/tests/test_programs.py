@@ -115,7 +115,3 @@ class FilesOfPrograms(unittest.TestCase):
                     wrote = subprocess.run([program()], input='\n'.join([*lines, 'list\n']).encode(), capture_output=True, check=False).stdout
                     self.assertEqual(wrote.count(b'ok\n'), len(lines))
                     self.assertEqual(len(read_model(wrote).solids), len(wanted.volumes))
-
-
-if __name__ == '__main__':
-    unittest.main()

@@ -41,7 +41,3 @@ class Progresses(unittest.TestCase):
             time.sleep(.02)
             raise ValueError
         self.assertTrue(stream.getvalue().endswith('\r\x1b[K'))
-
-
-if __name__ == '__main__':
-    unittest.main()

@@ -35,7 +35,3 @@ class Readme(unittest.TestCase):
         with mock.patch.dict(os.environ, GWB=library()), redirect_stdout(printed):
             exec(compile(block, 'README.md', 'exec'), {})
         self.assertEqual(printed.getvalue().splitlines(), re.findall(r'print\(.*# (.*)', block))
-
-
-if __name__ == '__main__':
-    unittest.main()

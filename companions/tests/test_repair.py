@@ -1,6 +1,5 @@
 """What --repair mends, and that each is counted."""
 
-import unittest
 from fractions import Fraction
 
 from support import box
@@ -84,7 +83,3 @@ class Repairs(InFiles):
         points = [(0, 0, 0), (6, 0, 0), (6, 6, 0), (0, 6, 0), (3, 3, 4), (3, 2, 6)]
         plane = ['014', '015', '023', '025', '034', '123', '124', '135', '245', '345']
         self.refuse('face that turns', off(points, [tuple(map(int, face)) for face in plane]), repair=True)
-
-
-if __name__ == '__main__':
-    unittest.main()

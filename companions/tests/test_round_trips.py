@@ -131,7 +131,3 @@ class RandomSolids(unittest.TestCase):
                 self.assertTrue(is_back(part, form, text), f'model {number} as {form}:\n{script}')
             apart += any(len(nests(model, solid)) > 1 for solid in model.solids)
         self.assertGreater(apart, 0)
-
-
-if __name__ == '__main__':
-    unittest.main()

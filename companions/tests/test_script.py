@@ -241,7 +241,3 @@ class Options(InFolder):
                      good.replace('4 4 4', '4 4 1000000001'), good.replace('loop 6', 'loop six'), good + good[20:], bytes(range(256)),
                      good.replace('vertex 1 0 0 0\n', '')):
             self.refuse(3, 'gwb-script: ', self.file('listing', data))
-
-
-if __name__ == '__main__':
-    unittest.main()

@@ -11,7 +11,7 @@ from math import gcd
 from pathlib import Path
 from unittest import mock
 
-from support import STEP, library, scripts, step_of
+from support import STEP, library, opened, scripts, step_of
 
 from gwb import Complaint, Faulted, Lone, Refused, Workbench
 from gwb.errors import Ended, ProgramMissing
@@ -89,8 +89,7 @@ class Session(unittest.TestCase):
     """The workbench by itself."""
 
     def setUp(self):
-        self.bench = Workbench(library(), step=step_of(self, 'test_a_closed_session', 'test_words_are_separated_as_the_program_separates_them'))
-        self.addCleanup(self.bench.close)
+        self.bench = opened(self, step_of(self, 'test_a_closed_session', 'test_words_are_separated_as_the_program_separates_them'))
 
     def test_fresh_numbers_are_those_of_the_model(self):
         bench = self.bench
@@ -256,7 +255,3 @@ class WithoutALibrary(unittest.TestCase):
 
     def test_refused_memory(self):
         self.assertIsInstance(complaint('undo', Reply(('memory',))), Complaint)
-
-
-if __name__ == '__main__':
-    unittest.main()

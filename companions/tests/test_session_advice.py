@@ -9,7 +9,7 @@ from fractions import Fraction
 from pathlib import Path
 from unittest import mock
 
-from support import library, step_of
+from support import library, opened, step_of
 
 from gwb import Complaint, OffStep, Refused, Workbench
 from gwb.protocol.advice import advice
@@ -29,10 +29,9 @@ class Advice(unittest.TestCase):
     """A block of 7 by 5 by 3, and one beside it that is as high."""
 
     def setUp(self):
-        self.bench = Workbench(library(), step=step_of(
+        self.bench = opened(self, step_of(
             self, 'test_a_fraction_in_a_point', 'test_a_split_off_the_lattice', 'test_cuts_off_the_lattice', 'test_drafts', 'test_faces_that_do_not_match',
             'test_it_is_copied_and_pickled'))
-        self.addCleanup(self.bench.close)
         self.block, self.beside = self.bench.block((0, 0, 0), (7, 5, 3)), self.bench.block((7, 0, 0), (4, 5, 3))
 
     def refused(self, call):
@@ -130,7 +129,3 @@ class Advice(unittest.TestCase):
     def test_what_is_said_without_the_model(self):
         self.assertEqual(condition_text(37), 'the plane cuts edge X between whole coordinates; a finer unit would do, or a plane near by')
         self.assertEqual(condition_text(12), 'solid X has more than a vertex')
-
-
-if __name__ == '__main__':
-    unittest.main()

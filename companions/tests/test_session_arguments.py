@@ -269,7 +269,3 @@ class Things(unittest.TestCase):
             error = caught.exception
             for again in (pickle.loads(pickle.dumps(error)), copy(error)):
                 self.assertEqual((type(again), str(again), vars(again)), (type(error), str(error), vars(error)))
-
-
-if __name__ == '__main__':
-    unittest.main()

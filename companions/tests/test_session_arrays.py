@@ -2,17 +2,16 @@
 
 import unittest
 
-from support import library, step_of
+from support import opened, step_of
 
-from gwb import Ended, Refused, Workbench
+from gwb import Ended, Refused
 
 
 class Arrays(unittest.TestCase):
     """A block with a hole through it, and another one."""
 
     def setUp(self):
-        self.bench = Workbench(library(), step=step_of(self, 'test_a_solid_of_arrays', 'test_triangles', 'test_vertices'))
-        self.addCleanup(self.bench.close)
+        self.bench = opened(self, step_of(self, 'test_a_solid_of_arrays', 'test_triangles', 'test_vertices'))
         block = self.bench.block((0, 0, 0), (9, 9, 9))
         self.bench.hole(block.top, [(3, 3, 9), (6, 3, 9), (6, 6, 9), (3, 6, 9)])
         self.bench.block((-40, 0, 0), (1, 2, 3), solid=7)
@@ -97,7 +96,3 @@ class Arrays(unittest.TestCase):
 
 def _six_volume(a, b, c):
     return (a[0] * (b[1] * c[2] - b[2] * c[1]) + a[1] * (b[2] * c[0] - b[0] * c[2]) + a[2] * (b[0] * c[1] - b[1] * c[0]))
-
-
-if __name__ == '__main__':
-    unittest.main()

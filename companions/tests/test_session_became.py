@@ -83,7 +83,3 @@ class BecameOfThings(unittest.TestCase):
         self.assertEqual(bench.labels['face', made.face].name, 'own')
         bench.undo()
         self.assertEqual([*bench.labels], [('face', front)])
-
-
-if __name__ == '__main__':
-    unittest.main()

@@ -5,22 +5,17 @@ import warnings
 from fractions import Fraction
 from math import pi
 
-from support import library
+from support import opened
 
-from gwb import Refused, Workbench
+from gwb import Refused
 
 
 class Circles(unittest.TestCase):
     """A plate of 100 by 100 by 10."""
 
     def setUp(self):
-        self.bench = self.opened(1)
+        self.bench = opened(self, 1)
         self.plate = self.plate_of(self.bench)
-
-    def opened(self, step):
-        bench = Workbench(library(), step=step)
-        self.addCleanup(bench.close)
-        return bench
 
     def plate_of(self, bench):
         return bench.block((0, 0, 0), (100, 100, 10))
@@ -42,7 +37,7 @@ class Circles(unittest.TestCase):
         self.assertEqual(tried, 273)
 
     def test_what_lies_on_the_circle(self):
-        bench = self.opened(Fraction(1, 1000))
+        bench = opened(self, Fraction(1, 1000))
         top = self.plate_of(bench).top
         for circle, least, greatest in (('corners', 4.619, 5.001), ('flats', 5, 5.413), ('area', 4.868, 5.271)):
             hole = bench.drill(top, (50, 50, 10), 5, 8, circle=circle)
@@ -54,7 +49,7 @@ class Circles(unittest.TestCase):
             bench.undo()
 
     def test_sides_are_chosen(self):
-        bench = self.opened(Fraction(1, 1000))
+        bench = opened(self, Fraction(1, 1000))
         top = self.plate_of(bench).top
         for radius, within, sides in ((5, '1/20', 24), (20, '1/20', 48), (20, '1/2', 16), (1, '1/20', 12), (1, '1', 8)):
             hole = bench.drill(top, (50, 50, 10), radius, within=within, depth=1)
@@ -67,7 +62,7 @@ class Circles(unittest.TestCase):
             self.bench.drill(self.plate.top, (50, 50, 10), radius=5, sides=8)
         with self.assertWarnsRegex(UserWarning, '^polygon: sides and corners lie '):
             self.bench.sketch(self.plate.bottom).polygon((20, 20), 3, 8)
-        fine = self.opened(Fraction(1, 100))
+        fine = opened(self, Fraction(1, 100))
         with warnings.catch_warnings():
             warnings.simplefilter('error')
             fine.drill(self.plate_of(fine).top, (50, 50, 10), radius=5, sides=8)
@@ -91,7 +86,3 @@ class Circles(unittest.TestCase):
                 with self.assertRaises(Refused) as caught:
                     self.bench.drill(where, center, sides=8, **words)
                 self.assertEqual(caught.exception.name, name, words)
-
-
-if __name__ == '__main__':
-    unittest.main()

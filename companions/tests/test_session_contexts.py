@@ -8,7 +8,7 @@ import unittest
 from contextlib import ExitStack
 from pathlib import Path
 
-from support import STEP, library, step_of
+from support import library, opened, step_of
 
 from gwb import OutOfStep, Refused, Workbench
 
@@ -21,8 +21,7 @@ class Contexts(unittest.TestCase):
     """A bench with a block, and what is made of it in tasks, threads and generators."""
 
     def setUp(self):
-        self.bench = Workbench(library(), step=step_of(self, 'test_a_workbench_that_is_closed_in_another_task'))
-        self.addCleanup(self.bench.close)
+        self.bench = opened(self, step_of(self, 'test_a_workbench_that_is_closed_in_another_task'))
         self.bench.block((0, 0, 0), (2, 2, 2))
 
     def in_thread(self, act):
@@ -182,8 +181,7 @@ class Labels(unittest.TestCase):
     """Labels go with the command after which they were given."""
 
     def setUp(self):
-        self.bench = Workbench(library(), step=STEP)
-        self.addCleanup(self.bench.close)
+        self.bench = opened(self)
         self.base = self.bench.block((0, 0, 0), (9, 9, 9))
         self.bench.label(self.bench.face(self.base.top), 'base')
 
@@ -336,7 +334,3 @@ class Labels(unittest.TestCase):
                 again.undo()
                 again.block((0, 0, 0), (1, 1, 1))
                 self.assertEqual(dict(again.labels), {})
-
-
-if __name__ == '__main__':
-    unittest.main()

@@ -122,7 +122,3 @@ class Crossings(unittest.TestCase):
                 self.assertEqual((raised.exception.name, raised.exception.value), ('NoSolid', 9))
             with self.assertRaises(ValueError):
                 bench.crossings(block, 0)
-
-
-if __name__ == '__main__':
-    unittest.main()

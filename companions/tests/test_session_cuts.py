@@ -10,7 +10,7 @@ from fractions import Fraction
 from pathlib import Path
 from random import Random
 
-from support import folder_of, library, step_of
+from support import folder_of, library, opened, step_of
 
 from gwb import Refused, Workbench
 from gwb.checks.check import check
@@ -39,8 +39,7 @@ class Stepwise(unittest.TestCase):
     """A bench, and what each step on it leaves."""
 
     def setUp(self):
-        self.bench = Workbench(library(), step=step_of(self, 'test_one_that_split_takes'))
-        self.addCleanup(self.bench.close)
+        self.bench = opened(self, step_of(self, 'test_one_that_split_takes'))
 
     def one_step(self, act):
         """Does it, takes it back and does it again: what it returned. Nothing is wrong with what it makes."""
@@ -270,7 +269,3 @@ class Joined(Stepwise):
             warnings.simplefilter('error')
             self.bench.union([left, right])
         self.assertEqual(self.bench.labels['face', left.top].colour, (255, 0, 0))
-
-
-if __name__ == '__main__':
-    unittest.main()

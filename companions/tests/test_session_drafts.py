@@ -6,7 +6,7 @@ import tempfile
 import unittest
 from random import Random
 
-from support import STEP, as_listed, library
+from support import STEP, as_listed, library, opened
 
 from gwb import Complaint, InDraft, Lone, MemoryRefused, NoDraft, Refused, Unfit, Workbench
 from gwb.errors import Ended
@@ -29,8 +29,7 @@ class Drafts(unittest.TestCase):
     """Over a block, after which another one can be redone."""
 
     def setUp(self):
-        self.bench = Workbench(library(), step=STEP)
-        self.addCleanup(self.bench.close)
+        self.bench = opened(self)
         self.block = self.bench.block((0, 0, 0), (9, 9, 9))
         self.bench.block((20, 0, 0), (1, 1, 1))
         self.both = self.bench.listing()
@@ -553,7 +552,3 @@ class RandomLargerDrafts(unittest.TestCase):
             self.bench.save(f'{folder}/part.gwb')
             with Workbench.load(f'{folder}/part.gwb', library()) as again:
                 self.assertEqual((again.listing(), again.script()), (made, script), self.seed)
-
-
-if __name__ == '__main__':
-    unittest.main()

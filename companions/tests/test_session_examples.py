@@ -76,7 +76,3 @@ class Examples(unittest.TestCase):
         told = []
         doctest.DocTestRunner(verbose=False).run(doctest.DocTestParser().get_doctest(said, names, name, None, 0), out=told.append)
         self.assertEqual(''.join(told), '')
-
-
-if __name__ == '__main__':
-    unittest.main()

@@ -191,7 +191,3 @@ class Exports(unittest.TestCase):
         self.assertRaisesRegex(ValueError, '^name: .* no text in UTF-8 has$', self.bench.label, top, 'lid \udcff')
         self.assertEqual(self.bench.labels['face', self.base.top].name, '')
         self.bench.label(top, 'x' * 200)
-
-
-if __name__ == '__main__':
-    unittest.main()

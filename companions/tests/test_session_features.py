@@ -7,7 +7,7 @@ from fractions import Fraction
 from pathlib import Path
 from unittest import mock
 
-from support import STEP, library, step_of
+from support import STEP, library, opened, step_of
 
 from gwb import CompanionError, Impossible, NotOne, Refused, Unfit, Workbench
 from gwb.programs.playing import played
@@ -18,13 +18,11 @@ class OnABlock(unittest.TestCase):
     """A block of 10 by 10 by 10."""
 
     def setUp(self):
-        self.bench = Workbench(library(), step=step_of(self, 'test_a_condition_of_a_command_says_what_it_means', 'test_parts_are_those_of_the_listing'))
-        self.addCleanup(self.bench.close)
+        self.bench = opened(self, step_of(self, 'test_a_condition_of_a_command_says_what_it_means', 'test_parts_are_those_of_the_listing'))
         self.block = self.bench.block((0, 0, 0), (10, 10, 10))
 
     def test_what_was_met(self):
-        bench = Workbench(library(), step=1)
-        self.addCleanup(bench.close)
+        bench = opened(self, 1)
         block = bench.block((0, 0, 0), (10, 10, 10))
         edge = ('edge', bench.edges(between=(block.top, block.sides[1])).one().number)
         corner = ('vertex', bench.vertices(at=(10, 10, 10)).one().number)
@@ -70,8 +68,7 @@ class OnABlock(unittest.TestCase):
         self.assertLessEqual(commands[1], commands[0] + 8)
 
     def test_what_was_met_is_said_by_what_would_do(self):
-        bench = Workbench(library(), step=1)
-        self.addCleanup(bench.close)
+        bench = opened(self, 1)
         wedge = bench.profile([(0, 0, 0), (16, 0, 0), (0, 0, 12)], along=(0, -10, 0))
         slope = bench.faces(solid=wedge.solid, normal=(3, 0, 4)).one()
         outline = [(12, -2, 3), (8, -2, 6), (8, -5, 6)]
@@ -246,8 +243,7 @@ class Scripts(unittest.TestCase):
                 self.assertEqual((again.script(), bench.script()), (empty, empty))
 
     def test_drafts_and_groups_have_names(self):
-        bench = Workbench(library(), step=STEP)
-        self.addCleanup(bench.close)
+        bench = opened(self)
         with bench.draft('Geh\u00e4use, unten'):
             block = bench.block((0, 0, 0), (9, 9, 9))
             with bench.draft('bore'):
@@ -346,7 +342,3 @@ class Scripts(unittest.TestCase):
             bench.block((0, 0, 0), (1, 1, 1))
             self.assertTrue(bench._repr_svg_().startswith('<svg'))
             self.assertEqual(repr(bench), '<Workbench, 1 command held>')
-
-
-if __name__ == '__main__':
-    unittest.main()

@@ -175,7 +175,3 @@ class Imports(unittest.TestCase):
 def _sizes(model):
     """The sizes of the box around a model."""
     return tuple(max(along) - min(along) for along in zip(*model.vertices.values()))
-
-
-if __name__ == '__main__':
-    unittest.main()

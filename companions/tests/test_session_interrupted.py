@@ -14,7 +14,7 @@ from contextvars import copy_context
 from pathlib import Path
 from unittest import mock
 
-from support import STEP, as_listed, commands_of, library
+from support import STEP, as_listed, commands_of, library, opened
 
 import gwb
 from gwb import Complaint, Ended, InDraft, InGroup, OutOfStep, Workbench
@@ -454,8 +454,7 @@ class Threads(unittest.TestCase):
         interval = sys.getswitchinterval()
         self.addCleanup(sys.setswitchinterval, interval)
         sys.setswitchinterval(1e-5)
-        self.bench = Workbench(library(), step=STEP)
-        self.addCleanup(self.bench.close)
+        self.bench = opened(self)
         self.failed = []
 
     def run_all(self, work, count=4):
@@ -525,7 +524,3 @@ class Threads(unittest.TestCase):
         for name, method in inspect.getmembers(Workbench, inspect.isfunction):
             if not name.startswith('_'):
                 self.assertEqual(method.__code__.co_name, 'taken', name)
-
-
-if __name__ == '__main__':
-    unittest.main()

@@ -279,7 +279,3 @@ class RandomPrograms(unittest.TestCase):
          'shoulder': lambda: bench.shoulder(face, face.edges[0], size * times, depth), 'slopes': lambda: bench.chamfer_edges(face.edges[:2], size * times),
          'swing': lambda: bench.turn(solid, 'z', to=(4, 3), about=way),
          'sketch': lambda: bench.ring(face, bench.sketch(face).rectangle(at(1, 1), at(1, 2)))}[word]()
-
-
-if __name__ == '__main__':
-    unittest.main()

@@ -118,7 +118,3 @@ class OnOneSolid(unittest.TestCase):
         few, many = (self.calls(others, self.pocket, lambda bench, plate, number, others=others: self.notch(bench, plate, number - others))
                      for others in (5, 80))
         self.assertLess(many, 1.25 * few)
-
-
-if __name__ == '__main__':
-    unittest.main()

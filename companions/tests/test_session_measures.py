@@ -4,7 +4,7 @@ import unittest
 from fractions import Fraction
 from random import Random
 
-from support import STEP, library, step_of
+from support import STEP, library, opened, step_of
 
 from gwb import NotParallel, NoVolume, Refused, Workbench
 from gwb.geometry.lattice_cuts import off_lattice_cut
@@ -14,8 +14,7 @@ class Measures(unittest.TestCase):
     """A block of 2 by 3 by 6, and one of 5 beside it."""
 
     def setUp(self):
-        self.bench = Workbench(library(), step=step_of(self, 'test_cuts_off_the_lattice', 'test_planes_out_of_range'))
-        self.addCleanup(self.bench.close)
+        self.bench = opened(self, step_of(self, 'test_cuts_off_the_lattice', 'test_planes_out_of_range'))
         self.block = self.bench.block((0, 0, 0), (2, 3, 6))
         self.other = self.bench.block((100, 0, 0), (5, 5, 5))
 
@@ -116,7 +115,3 @@ class Measures(unittest.TestCase):
             second.block((0, 0, 0), (1, 1, 1))
             with self.assertRaises(ValueError):
                 self.bench.centroid(second.solid(1))
-
-
-if __name__ == '__main__':
-    unittest.main()

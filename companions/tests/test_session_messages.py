@@ -6,7 +6,7 @@ import unittest
 from fractions import Fraction
 from pathlib import Path
 
-from support import library
+from support import library, opened
 
 from gwb import Faulted, Impossible, MemoryRefused, Refused, Unfit, Workbench
 from gwb.protocol.complaints import memory_refused
@@ -18,8 +18,7 @@ class Messages(unittest.TestCase):
     """Each as it is read."""
 
     def setUp(self):
-        self.bench = Workbench(library(), step=1)
-        self.addCleanup(self.bench.close)
+        self.bench = opened(self, 1)
 
     def said(self, kind, give):
         """What an error says, in its first line."""
@@ -142,7 +141,3 @@ class Messages(unittest.TestCase):
         texts = [*MISFITS.values(), *TEXTS.values(), *(text for _, text in CAUSES.values())]
         self.assertGreater(len(texts), 80)
         self.assertEqual([text for text in texts if ', or ' in text or ' or ' in text], [])
-
-
-if __name__ == '__main__':
-    unittest.main()

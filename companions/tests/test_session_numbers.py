@@ -4,7 +4,7 @@ import os
 import unittest
 from random import Random
 
-from support import STEP, as_listed, library
+from support import STEP, as_listed, library, opened
 
 from gwb import Complaint, Lone, Workbench
 from gwb.geometry.free_numbers import KINDS
@@ -157,8 +157,7 @@ class Steps(unittest.TestCase):
     """Undo and redo by groups and by commands."""
 
     def setUp(self):
-        self.bench = Workbench(library(), step=STEP)
-        self.addCleanup(self.bench.close)
+        self.bench = opened(self)
 
     def test_a_group_is_one_step_of_commands(self):
         bench = self.bench
@@ -176,7 +175,3 @@ class Steps(unittest.TestCase):
         bench.undo(command=True)
         bench.undo()
         self.assertEqual(bench.listing(), held)
-
-
-if __name__ == '__main__':
-    unittest.main()

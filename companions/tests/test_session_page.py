@@ -47,7 +47,3 @@ class Page(unittest.TestCase):
         for name in dir(Workbench):
             for other in re.findall(r'[Rr]efused as `?([a-z_]+)`? is', getattr(Workbench, name).__doc__ or ''):
                 self.assertNotRegex(getattr(Workbench, other).__doc__, r'[Rr]efused as', name)
-
-
-if __name__ == '__main__':
-    unittest.main()

@@ -147,7 +147,3 @@ class Parts(unittest.TestCase):
                 bench.export(folder / f'part{form}')
                 made = again.import_file(folder / f'part{form}')
                 self.assertEqual((made.moved, sum(map(again.volume, again.solids()))), (0, sum(map(bench.volume, bench.solids()))))
-
-
-if __name__ == '__main__':
-    unittest.main()

@@ -49,7 +49,3 @@ class Reading(unittest.TestCase):
             for back in ((), ('undo', 'redo')):
                 short, long = (self.calls(script(count) + [word for word in back for _ in range(count // 2)]) for count in (150, 300))
                 self.assertLess(long, 2.1 * short, (name, back))
-
-
-if __name__ == '__main__':
-    unittest.main()

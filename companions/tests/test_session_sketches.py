@@ -3,9 +3,9 @@
 import unittest
 from fractions import Fraction
 
-from support import STEP, commands_of, library
+from support import STEP, commands_of, opened
 
-from gwb import Impossible, Refused, Workbench
+from gwb import Impossible, Refused
 from gwb.geometry.measures import area_vector
 from gwb.geometry.vectors import cross, dot, same_direction
 
@@ -14,8 +14,7 @@ class Sketched(unittest.TestCase):
     """A block of 40 by 20 by 10."""
 
     def setUp(self):
-        self.bench = Workbench(library(), step=STEP)
-        self.addCleanup(self.bench.close)
+        self.bench = opened(self)
         self.block = self.bench.block((100, 200, 300), (40, 20, 10))
 
     def refused(self, name, *words, **named):
@@ -125,8 +124,7 @@ class Leaning(unittest.TestCase):
     """Pockets, bosses and drills by a vector."""
 
     def setUp(self):
-        self.bench = Workbench(library(), step=STEP)
-        self.addCleanup(self.bench.close)
+        self.bench = opened(self)
 
     def test_a_chimney_in_a_roof(self):
         bench = self.bench
@@ -175,8 +173,7 @@ class Tapered(unittest.TestCase):
     BASE, SMALL = [(0, 0, 0), (10, 0, 0), (10, 10, 0), (0, 10, 0)], [(2, 2, 6), (8, 2, 6), (8, 8, 6), (2, 8, 6)]
 
     def setUp(self):
-        self.bench = Workbench(library(), step=STEP)
-        self.addCleanup(self.bench.close)
+        self.bench = opened(self)
 
     def test_a_stump(self):
         for base, top, along, way in ((self.BASE, self.SMALL, None, 1), (self.BASE[::-1], self.SMALL[::-1], None, 1),
@@ -204,7 +201,3 @@ class Tapered(unittest.TestCase):
         with self.assertRaisesRegex(TypeError, '^along: a vector is wanted, or top='):
             self.bench.profile(self.BASE)
         self.assertEqual(commands_of(self.bench), [])
-
-
-if __name__ == '__main__':
-    unittest.main()

@@ -3,17 +3,16 @@
 import random
 import unittest
 
-from support import STEP, library
+from support import opened
 
-from gwb import Refused, Workbench
+from gwb import Refused
 
 
 class Slopes(unittest.TestCase):
     """A workbench for each test."""
 
     def setUp(self):
-        self.bench = Workbench(library(), step=STEP)
-        self.addCleanup(self.bench.close)
+        self.bench = opened(self)
 
     def edges(self, *ends):
         """The numbers of the edges between points."""
@@ -75,7 +74,3 @@ class Slopes(unittest.TestCase):
         made = self.bench.chamfer_edges([edge.number for edge in self.bench.face(block.top).edges], 2)
         named = {number for (kind, number), _ in self.bench.labels.items() if kind == 'face'}
         self.assertEqual(named, {face.number for face in self.bench.faces()} - set(made))
-
-
-if __name__ == '__main__':
-    unittest.main()

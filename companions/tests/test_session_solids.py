@@ -2,9 +2,9 @@
 
 import unittest
 
-from support import library, scripts, step_of
+from support import opened, scripts, step_of
 
-from gwb import Refused, Workbench
+from gwb import Refused
 from gwb.checks.check import check
 from gwb.geometry.measures import six_volume
 from gwb.geometry.moved import changed, mirroring
@@ -32,8 +32,7 @@ class Whole(unittest.TestCase):
     """Each way, and what it leaves."""
 
     def setUp(self):
-        self.bench = Workbench(library(), step=step_of(self, 'test_a_copy_says_what_became_of_each_thing', 'test_points_follow', 'test_where_no_point_can_lie'))
-        self.addCleanup(self.bench.close)
+        self.bench = opened(self, step_of(self, 'test_a_copy_says_what_became_of_each_thing', 'test_points_follow', 'test_where_no_point_can_lie'))
 
     def six_volume(self, solid):
         """Six times the volume of a solid."""
@@ -156,7 +155,3 @@ class Whole(unittest.TestCase):
         for stem, model in listings():
             with self.subTest(stem):
                 self.assertEqual(changed(changed(model, mirroring((1, -1, 0, 4))), mirroring((1, -1, 0, 4))), model)
-
-
-if __name__ == '__main__':
-    unittest.main()

@@ -78,7 +78,3 @@ class Followed(unittest.TestCase):
         told['ok'] += 1
         told['rings'] += any(face.rings for face in after.faces.values())
         told['several pairs'] += len(made.faces) - len(made.lower_caps) - len(made.upper_caps) > straddling(before.only(solid), in_steps)
-
-
-if __name__ == '__main__':
-    unittest.main()

@@ -2,9 +2,9 @@
 
 import unittest
 
-from support import STEP, library
+from support import opened
 
-from gwb import Refused, Workbench
+from gwb import Refused
 from gwb.checks.check import check
 from gwb.geometry.whole_turns import nearest_turn, whole_turn
 
@@ -13,8 +13,7 @@ class Turns(unittest.TestCase):
     """A block of 30 by 40 by 20."""
 
     def setUp(self):
-        self.bench = Workbench(library(), step=STEP)
-        self.addCleanup(self.bench.close)
+        self.bench = opened(self)
         self.block = self.bench.block((0, 0, 0), (30, 40, 20))
 
     def box(self, solid):
@@ -82,7 +81,3 @@ class Turns(unittest.TestCase):
             self.assertEqual(near, whole_turn(*near.way))
             self.assertLess(abs((near.degrees - degrees + 180) % 360 - 180), 5.7)
         self.assertEqual((whole_turn(-8, 6), whole_turn(0, -7), whole_turn(1, 2)), (((-4, 3), 5), ((0, -1), 1), None))
-
-
-if __name__ == '__main__':
-    unittest.main()

@@ -257,7 +257,3 @@ class Began(unittest.TestCase):
             with Workbench(library()) as bench:
                 self.assertEqual(bench.step, Fraction(1, 1000))
                 self.assertRaisesRegex(AttributeError, f'^{name}: ', getattr, bench, name)
-
-
-if __name__ == '__main__':
-    unittest.main()

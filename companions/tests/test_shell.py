@@ -299,7 +299,3 @@ class Cures(unittest.TestCase):
         self.assertEqual({name: row.refusals for name, row in COMMAND_ROWS.items()}, {name: numbers for name, (numbers, _) in found.items()})
         for name, row in COMMAND_ROWS.items():
             self.assertTrue(row.example in found[name][1] if row.example else not found[name][1])
-
-
-if __name__ == '__main__':
-    unittest.main()

@@ -57,7 +57,3 @@ class Step(unittest.TestCase):
         self.refuse(listing(points, turned(faces)), 'inside out')
         self.refuse(listing(points[:4], [[(1, 2, 3, 4)], [(4, 3, 2, 1)]]), 'no volume')
         self.refuse(listing([(0, 0, 0), (4, 0, 0), (4, 0, 0)], [[(1, 2, 3)], [(3, 2, 1)]]), 'no area')
-
-
-if __name__ == '__main__':
-    unittest.main()

@@ -461,7 +461,3 @@ class Stored(unittest.TestCase):
         self.assertLess(found.square_moved, 1e-24)
         self.assertEqual(found.looks, {**{('solid', solid): Appearance('Plate', (255, 188, 0)) for solid in (1, 2, 3, 4)},
                                        ('solid', 5): Appearance('Cube', (0, 0, 255)), ('face', 25): Appearance('', (0, 255, 0))})
-
-
-if __name__ == '__main__':
-    unittest.main()

@@ -195,7 +195,3 @@ class Words(unittest.TestCase):
             self.assertEqual(run('svg', '--view', *view, '--', replies).status, 2)
         self.assertIn("'a' is no whole number; three are wanted, as in --view 2 -3 2", run('svg', '--view', 'a', '0', '1', replies).err)
         self.assertEqual(run('svg', '--solid', '9', replies).err, 'gwb-svg: there is no solid 9\n')
-
-
-if __name__ == '__main__':
-    unittest.main()

@@ -112,7 +112,3 @@ class Types(unittest.TestCase):
                     if function.__name__ != '<lambda>' and '<locals>' not in function.__qualname__:
                         self.assertEqual(set(parameters) - unnamed - set(hints), set())
                         self.assertIn('return', hints)
-
-
-if __name__ == '__main__':
-    unittest.main()

@@ -261,7 +261,3 @@ class Later(unittest.TestCase):
                     told = f'gwb-{name}: warning: {said} the model after this listing: `list` at the end of the script lists what it leaves\n'
                     outcome = run(name, str(path))
                     self.assertEqual((outcome.status, outcome.err), (0, told if said else ''))
-
-
-if __name__ == '__main__':
-    unittest.main()

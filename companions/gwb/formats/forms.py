@@ -3,7 +3,6 @@
 Import and export, in the companions and in Python, their words, usage lines and hints come from FORMS; so can pages that are made.
 """
 
-from fractions import Fraction
 from typing import Callable, Dict, FrozenSet, Iterator, List, NamedTuple, Optional, Tuple
 
 from ..geometry.model import Model

@@ -9,7 +9,7 @@ from .flat_face import ExactVector
 from .free_numbers import from_least
 from .model import Loop, Model
 from .plane_figures import Exact
-from .vectors import Vector, ZERO, add, dot, scaled, subtract
+from .vectors import Vector, ZERO, add, dot, subtract
 
 FARTHEST = 1_000_000_000
 
