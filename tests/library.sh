@@ -124,6 +124,12 @@ cp -pr "$dir/built" "$dir/alone"
 rm -f "$dir/alone/heap.o" "$dir/alone/libgwb.a" "$dir/alone/block_c"
 tried 'the library with each block alone' make -C bindings "ARCHIVE=$archive" "OUT=$dir/alone" 'CFLAGS=-O2 -DGWB_BLOCKS_ALONE' "$dir/alone/libgwb.a" \
     "$dir/alone/block_c"
+# The same over another C file for the heap, where it has no features.
+cp -pr "$dir/built" "$dir/own"
+rm -f "$dir/own/heap.o" "$dir/own/libgwb.a" "$dir/own/block_c"
+cp bindings/heap.c "$dir/own_heap.c"
+tried 'the library over another heap' make -C bindings "ARCHIVE=$archive" "OUT=$dir/own" "HEAP=$dir/own_heap.c" "$dir/own/libgwb.a" "$dir/own/block_c"
+prints 'the example in C over another heap' bindings/examples/block_c.expected "$dir/own/block_c"
 # over_both SOURCE COMPILER..: builds a program of the tests over both, where every warning is an error
 over_both() {
     source=$1

@@ -4,7 +4,7 @@
     tests/library_readme.py LIBRARY         LIBRARY is a libgwb.a
 
 Those in Rust are left out where beside the library there is no libgwb.rlib, which `make rust` leaves there where rustc is. Each has to compile
-without a warning and to end with status 0. The last line counts.
+without a warning, to end with status 0, and to print what the page says. The last line counts.
 """
 import os
 import re
@@ -16,6 +16,9 @@ from typing import Dict, List
 
 from counts import TOP, command_line, there
 
+# What the page says that programs print.
+PRINTS = {'part.c': r'(face \d has the loop \d\n){6}its volume is 64\nNotBare 1\n', 'plate.c': r"the pocket's floor is face 7\nOutlineOutside 1\n",
+          'plate.cpp': r'(1|7|11|12) looks up\n' * 4 + r'(# edge .* is cut at .*\n)+# times 2 .*\nsplit .*\n# parallel, .*\nsplit .*\n(# tilted, .*\nsplit .*\n)+'}
 INCLUDE = f'-I{TOP / "bindings" / "include"}'
 WARNINGS = ['-Wall', '-Wextra', '-Werror', INCLUDE]
 
@@ -44,7 +47,7 @@ def complaint(folder: Path, name: str, text: str, library: Path) -> str:
         done = subprocess.run(command, capture_output=True, text=True, timeout=300)
         if done.returncode != 0:
             return f'{name}: {command[0]} ends with status {done.returncode}: {done.stderr[:1000]}'
-    return ''
+    return '' if re.fullmatch(PRINTS.get(name, '(.*\n)*'), done.stdout) else f'{name} prints {done.stdout!r}'
 
 
 def main() -> int:

@@ -220,10 +220,57 @@ static void try_words(void)
     gwb_close(&g);
 }
 
+/* When recording can begin; and where memory for lines is refused. */
+static void try_beginning(void)
+{
+    gwb g = {0};
+    gwb_point points[64] = {{0, 0, 0}};
+    if (!gwb_open_in(&g, &heap))
+        abort();
+    check(gwb_record(&g) == GWB_OK && gwb_record(&g) == GWB_OK, "recorded before");
+    check(gwb_block(&g, 1, 0, 0, 0, 4, 4, 4) == GWB_OK && gwb_record(&g) == GWB_OK && gwb_recorded(&g) == 1, "recorded before a command");
+    refused_one_in = 1;
+    check(gwb_draft(&g) == GWB_MEMORY, "a draft where memory is refused");
+    check(gwb_lamina(&g, 1, points, 64) == GWB_MEMORY && gwb_recorded(&g) == 1, "memory for a line is refused");
+    check(gwb_line(&g, "volume 1", 8) == GWB_VOLUME && gwb_undo(&g) == GWB_OK && gwb_redo(&g) == GWB_OK && gwb_line(&g, "vol", 3) == GWB_FAULT, "other calls and lines");
+    refused_one_in = 0;
+    check(gwb_lamina(&g, 1, points, 64) == GWB_REFUSED, "the same command with memory");
+    gwb_close(&g);
+    if (!gwb_open(&g) || gwb_mvfs(&g, 1, 1, 1, 1, 0, 0, 0) != GWB_OK)
+        abort();
+    check(gwb_record(&g) == GWB_NO_CALL && gwb_recorded(&g) == 0 && gwb_depth(&g) == 1, "a session that has done something");
+    gwb_close(&g);
+}
+
+static bool is_another(const gwb *g, uint64_t *changes)
+{
+    const uint64_t before = *changes;
+    return (*changes = gwb_changes(g)) != before;
+}
+
+/* The number that tells that the model may have changed: by a command, undo, redo, and steps that were taken back. */
+static void try_changes(void)
+{
+    gwb g = {0};
+    uint64_t changes = 0;
+    check(gwb_changes(&g) == 0 && gwb_open(&g), "a closed handle has no changes");
+    is_another(&g, &changes);
+    check(gwb_block(&g, 1, 0, 0, 0, 4, 4, 4) == GWB_OK && is_another(&g, &changes), "a command");
+    check(gwb_line(&g, "block 2 9 9 9 1 1 1", 19) == GWB_OK && is_another(&g, &changes), "a line");
+    check(gwb_undo(&g) == GWB_OK && is_another(&g, &changes) && gwb_redo(&g) == GWB_OK && is_another(&g, &changes), "undo and redo");
+    check(gwb_draft(&g) == GWB_OK && gwb_kvfs(&g, 1) == GWB_REFUSED, "a draft");
+    is_another(&g, &changes);
+    check(gwb_sweep(&g, 1, 0, 0, 3) == GWB_OK && is_another(&g, &changes) && gwb_back(&g, 0) == GWB_OK && is_another(&g, &changes), "steps taken back");
+    check(gwb_sweep(&g, 1, 0, 0, 3) == GWB_OK && is_another(&g, &changes) && gwb_abandon(&g) == GWB_OK && is_another(&g, &changes), "a draft abandoned");
+    gwb_close(&g);
+}
+
 int main(int argc, char **argv)
 {
     const long rounds = argc > 1 ? strtol(argv[1], NULL, 10) : 200;
     try_words();
+    try_beginning();
+    try_changes();
     for (long round = 0; round < rounds; round++) {
         gwb g = {0};
         refused_one_in = 0;
