@@ -174,15 +174,18 @@ fn set(words: &mut Vec<u64>, number: u32)
     words[i] |= 1u64 << (number % WORD);
 }
 
-/// Clears the bit of the number.
-fn clear(words: &mut Vec<u64>, number: u32)
+/// Clears the bit of the number, and answers what is left of its word.
+fn clear(words: &mut Vec<u64>, number: u32) -> u64
     requires { number / 64 < length words.old.items }
+    ensures left { result ≡ word_at words.new.items (number / 64) }
     ensures uses { (q : ℕ) → uses words.new.items q ≡ cond (nat_eq q number) false (uses words.old.items q) }
     ensures others { (i : ℕ) → i ≢ number / 64 → word_at words.new.items i ≡ word_at words.old.items i }
     ensures len { length words.new.items ≡ length words.old.items }
 {
     let i = (number / WORD) as usize;
-    words[i] &= !(1u64 << (number % WORD));
+    let left = words[i] & !(1u64 << (number % WORD));
+    words[i] = left;
+    left
 }
 
 /// Sets the bit of the number, and that of its word if the word was 0.
@@ -210,8 +213,8 @@ fn take(words: &mut Vec<u64>, summaries: &mut Vec<u64>, number: u32)
     ensures len { length words.new.items ≡ length words.old.items }
 {
     let i = number / WORD;
-    clear(words, number);
-    if words[i as usize] == 0 {
+    let left = clear(words, number);
+    if left == 0 {
         clear(summaries, i);
     }
 }
