@@ -44,6 +44,7 @@ impl Arena {
     }
 
     /// Takes face f, which is there.
+    #[inline(always)]
     pub fn take_face(&mut self, f: u32)
         requires { has_number self.old Kind.Face f ≡ true }
         ensures { self.new ≡ take_face self.old f }
@@ -88,6 +89,7 @@ impl Arena {
     }
 
     /// Takes vertex v, which is there.
+    #[inline(always)]
     pub fn take_vertex(&mut self, v: u32)
         requires { has_number self.old Kind.Vertex v ≡ true }
         ensures { self.new ≡ take_vertex self.old v }
@@ -113,6 +115,7 @@ impl Arena {
     }
 
     /// Takes loop l, which is there and is empty or lone.
+    #[inline(always)]
     pub fn take_loop(&mut self, l: u32)
         requires there { has_number self.old Kind.Loop l ≡ true }
         requires bare { items_of (content self.old.model l) ≡ [] }
@@ -149,6 +152,7 @@ impl Arena {
     }
 
     /// Takes edge e, whose half-edges are loose, each a ring of its own.
+    #[inline(always)]
     pub fn take_edge(&mut self, e: u32)
         requires first { get self.old.loose (plus e) ≡ Some (plus e ∷ []) }
         requires second { get self.old.loose (minus e) ≡ Some (minus e ∷ []) }

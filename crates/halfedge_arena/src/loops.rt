@@ -48,6 +48,7 @@ impl Arena {
     /// loop, that loop is then empty.
     ///
     /// It walks round the shorter of the two rings, and writes labels only there.
+    #[inline(always)]
     pub fn join(&mut self, a: HalfEdge, b: HalfEdge)
         requires a_there { has_half self.old.model (code a) ≡ true }
         requires b_there { has_half self.old.model (code b) ≡ true }

@@ -56,6 +56,7 @@ impl Arena {
 
     /// How many rings face f, which is there, has: the loops that name it, without its outer loop. The count is kept, so this walks over
     /// nothing.
+    #[inline(always)]
     pub fn ring_count(&self, f: u32) -> u32
         requires { has_number self.now Kind.Face f ≡ true }
         ensures { result ≡ length (rings_of self.now.model f) }
