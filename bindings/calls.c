@@ -140,11 +140,10 @@ COMMAND(lamina, (gwb *g, uint32_t solid, const gwb_point *points, size_t n), (g,
 
 /* ---- undo and redo, and drafts */
 
-/* What the kernel answers, with a session's watch to see before what may change, and its record and watch to follow. */
-#define FOLLOWED(name, parameters, call, see, follow, end)                                                                                 \
-    static inline enum gwb_kind name parameters                                                                                            \
+/* What the kernel answers, where a session's watch sees before what may change, and its record and watch follow. */
+#define FOLLOWED(name, parameters, arguments, call, see, follow, end)                                                                      \
+    __attribute__((noinline)) static enum gwb_kind noted_##name parameters                                                                 \
     {                                                                                                                                      \
-        struct used before = entered(g);                                                                                                   \
         struct record *r = beside_of(g)->record;                                                                                           \
         struct watch *w = beside_of(g)->watch;                                                                                             \
         if (w != NULL)                                                                                                                     \
@@ -154,13 +153,19 @@ COMMAND(lamina, (gwb *g, uint32_t solid, const gwb_point *points, size_t n), (g,
             follow;                                                                                                                        \
         if (w != NULL && answer == GWB_OK)                                                                                                 \
             end;                                                                                                                           \
+        return answer;                                                                                                                     \
+    }                                                                                                                                      \
+    static inline enum gwb_kind followed_##name parameters                                                                                 \
+    {                                                                                                                                      \
+        struct used before = entered(g);                                                                                                   \
+        enum gwb_kind answer = is_noting(g) ? noted_##name arguments : call;                                                               \
         gwb_used = before;                                                                                                                 \
         return counted(g, answer);                                                                                                         \
     }
 
 #define STEP(name, parameters, arguments, see, follow, end)                                                                                \
     enum gwb_kind kernel_gwb_##name parameters;                                                                                            \
-    FOLLOWED(followed_##name, parameters, kernel_gwb_##name arguments, see, follow, end)                                                   \
+    FOLLOWED(name, parameters, arguments, kernel_gwb_##name arguments, see, follow, end)                                                   \
     enum gwb_kind gwb_##name parameters { return g->is_open ? followed_##name arguments : kernel_gwb_##name arguments; }
 
 STEP(undo, (gwb *g), (g), watch_see_undo(w, g), record_undo(r), watch_undo(w, g))
@@ -168,7 +173,7 @@ STEP(redo, (gwb *g), (g), watch_see_redo(w, g), record_redo(r), watch_redo(w, g)
 STEP(back, (gwb *g, size_t mark), (g, mark), watch_see_draft(w, g), record_back(r, mark), watch_back(w, g, mark))
 
 enum gwb_kind kernel_gwb_abandon(gwb *g);
-FOLLOWED(followed_abandon, (gwb *g), kernel_gwb_abandon(g), watch_see_draft(w, g), record_abandon(r), watch_abandon(w, g))
+FOLLOWED(abandon, (gwb *g), (g), kernel_gwb_abandon(g), watch_see_draft(w, g), record_abandon(r), watch_abandon(w, g))
 enum gwb_kind gwb_abandon(gwb *g)
 {
     if (!g->is_open)
@@ -229,8 +234,8 @@ static void touch_by_line(struct watch *w, const gwb *g, const struct word *comm
 }
 
 enum gwb_kind kernel_gwb_line(gwb *g, const char *line, size_t n);
-FOLLOWED(followed_undo_line, (gwb *g, const char *line, size_t n), kernel_gwb_line(g, line, n), watch_see_undo(w, g), record_undo(r), watch_undo(w, g))
-FOLLOWED(followed_redo_line, (gwb *g, const char *line, size_t n), kernel_gwb_line(g, line, n), watch_see_redo(w, g), record_redo(r), watch_redo(w, g))
+FOLLOWED(undo_line, (gwb *g, const char *line, size_t n), (g, line, n), kernel_gwb_line(g, line, n), watch_see_undo(w, g), record_undo(r), watch_undo(w, g))
+FOLLOWED(redo_line, (gwb *g, const char *line, size_t n), (g, line, n), kernel_gwb_line(g, line, n), watch_see_redo(w, g), record_redo(r), watch_redo(w, g))
 
 static enum gwb_kind noted_line(gwb *g, const struct word *command, const char *line, size_t n)
 {
