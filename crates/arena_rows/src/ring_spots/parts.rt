@@ -38,6 +38,7 @@ pub(crate) fn cut(rings: &mut Rings, labels: &mut Labels, a: u32, b: u32, l: u32
 /// `kept`.
 ///
 /// It walks twice round the shorter ring.
+#[inline(always)]
 pub(crate) fn join(rings: &mut Rings, labels: &mut Labels, a: u32, b: u32, kept: u32)
     requires whole { AreLabelled (spot rings.old) (contains_key rings.old) labels.old }
     requires a { live (spot rings.old) a ≡ true }
