@@ -10,6 +10,7 @@ from support import COMPANIONS, STEP, bench_and_folder, library
 
 from gwb import Refused, Unfit, Workbench
 from gwb.formats.appearance import Appearance, appearances_in
+from gwb.formats.forms import EXPORTED, endings
 
 FORMS = ('.step', '.stp', '.3mf', '.obj', '.off', '.stl', '.STL')
 
@@ -35,6 +36,10 @@ class Exports(unittest.TestCase):
         path.write_text(script, encoding='utf-8')
         with Workbench.load(path, library()) as bench:
             return sorted(bench.volume(solid) for solid in bench.solids())
+
+    def test_each_ending_is_named(self):
+        for ending in endings(EXPORTED):
+            self.assertRegex(Workbench.export.__doc__, rf'\{ending}\b')
 
     def test_each_form_is_read_again(self):
         for ending in FORMS:

@@ -122,7 +122,7 @@ class Exporting(Methods):
         return page_of(model, title_of(model, looks, title), looks, self.step)
 
     def export(self, path: arguments.Path) -> None:
-        """Writes what is held to a file, by the ending of its name: .step or .stp, .3mf, .glb, .obj (colours in a .mtl beside it), .off, .stl, .html.
+        """Writes what is held to a file, by the ending of its name: .step, .stp or .p21, .3mf, .glb, .obj (colours in a .mtl beside it), .off, .stl, .html.
         Names and colours go where the form has them. All have the size, in millimetres, GLB in metres; what is no decimal fraction of one
         is rounded to 9 places in OBJ, OFF and STL. Raises
         ValueError for another ending, Unfit where a face isn't flat and plain, nothing is held, or a coordinate is past what GLB holds exactly, OSError where
