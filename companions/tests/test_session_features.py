@@ -251,6 +251,12 @@ class Scripts(unittest.TestCase):
         with bench.group('feet'):
             bench.move(block, (0, 0, 1))
             bench.block((20, 0, 0), (1, 1, 1))
+        with bench.group('lid'):
+            bench.block((40, 0, 0), (1, 1, 1))
+        with bench.group():
+            with bench.draft('pin'):
+                bench.block((60, 0, 0), (1, 1, 1))
+            bench.block((80, 0, 0), (1, 1, 1))
         with self.assertRaises(KeyError), bench.draft('nothing'):
             bench.move(block, (0, 0, 1))
             raise KeyError
@@ -260,13 +266,15 @@ class Scripts(unittest.TestCase):
             bench.save(f'{folder}/part.gwb')
             saved = Path(f'{folder}/part.gwb').read_bytes()
             marks = [mark_in(line) for line in saved.splitlines()]
-            self.assertEqual([(mark.is_step, mark.names) for mark in marks if mark], [(False, ['Geh\u00e4use', 'unten']), (True, ['feet']), (False, ['feet'])])
+            self.assertEqual([(mark.is_step, mark.names) for mark in marks if mark], [
+                (False, ['Geh\u00e4use', 'unten']), (True, ['feet']), (False, ['feet']), (False, ['lid']), (True, ['pin', 'block']), (False, ['pin'])])
+            self.assertIn(b'\n# draft of 1 command: lid\n', saved)
             self.assertIn(rb': Geh\u00e4use, unten', saved)
             with Workbench.load(f'{folder}/part.gwb', library()) as again:
                 again.save(f'{folder}/again.gwb')
                 self.assertEqual(Path(f'{folder}/again.gwb').read_bytes(), saved)
             rows = [step.row for step in played(saved).steps if step.row]
-            self.assertEqual(rows, ['Geh\u00e4use, unten', 'feet'])
+            self.assertEqual(rows, ['Geh\u00e4use, unten', 'feet', 'lid', 'pin, block'])
         with self.assertRaisesRegex(TypeError, '^name: a str is wanted'):
             bench.draft(1)
 

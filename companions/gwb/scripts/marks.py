@@ -5,7 +5,7 @@ import re
 from typing import List, NamedTuple, Optional
 
 _LONGEST = 200
-_MARK = re.compile(rb'# (step|draft) of ([1-9][0-9]{0,8}) commands(?:: (.+))?')
+_MARK = re.compile(rb'# (step|draft) of ([1-9][0-9]{0,8}) commands?(?:: (.+))?')
 
 
 class Mark(NamedTuple):
@@ -33,5 +33,5 @@ def _plain(text: str) -> List[str]:
 
 def mark_line(mark: Mark) -> str:
     """The line of a script that is the mark."""
-    names = json.dumps(', '.join(mark.names)[:_LONGEST])[1:-1]
-    return f'# {"step" if mark.is_step else "draft"} of {mark.commands} commands{names and ": " + names}'
+    names, commands = json.dumps(', '.join(mark.names)[:_LONGEST])[1:-1], 'command' if mark.commands == 1 else 'commands'
+    return f'# {"step" if mark.is_step else "draft"} of {mark.commands} {commands}{names and ": " + names}'

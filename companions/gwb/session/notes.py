@@ -7,6 +7,10 @@ from typing import Dict, List, Mapping, Optional, Tuple
 from ..formats.appearance import Appearance, Thing
 
 
+class Given(str):
+    """A name that the caller gave, and not that of a method."""
+
+
 @dataclass(eq=False)
 class Note:
     """What goes with a command: whether a step to undo begins with it, the unit after it, the labels that were given from it up to the next

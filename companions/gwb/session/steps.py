@@ -5,6 +5,7 @@ from weakref import ReferenceType, ref
 
 from ..errors import MemoryRefused, NoDraft
 from .kernel import Kernel
+from .notes import Given
 from .turns import Holder
 
 
@@ -52,12 +53,12 @@ class _Work:
         kernel, notes, looks, unit = self._kernel, self._kernel.notes, self._kernel.notes.now.looks, self._kernel.notes.now.unit
         is_empty = self.is_draft and kernel.lines.mark() == 0
         if self._name and (self.is_draft or self._is_part):
-            notes.now.calls[self._now[2]:] = [self._name]
+            notes.now.calls[self._now[2]:] = [Given(self._name)]
         if self.is_draft:
             (kernel.lines.abandon if is_empty else kernel.lines.commit)()
         kernel.settle()
         for note in notes.all[self._before + 1:notes.at + 1] if self._name and not self._is_part else ():
-            note.calls[:] = [self._name]
+            note.calls[:] = [Given(self._name)]
         if is_empty:
             notes.put(*looks)
             notes.now.unit = unit

@@ -34,7 +34,7 @@ from .feature_methods import FeatureMethods
 from .kernel import Kernel
 from .lengths import DEFAULT_STEP
 from .library import find_path
-from .notes import Note
+from .notes import Given, Note
 from .results import Numbers
 from .selection import Reading
 from .solids import SolidMethods
@@ -215,7 +215,7 @@ class Workbench(SolidMethods, FeatureMethods, Commands, Reading, Exporting):
             elif mark and (not within or within.is_step and not mark.is_step):
                 notes, outer = self._kernel.notes, self._kernel.notes.called
                 with Block(self._kernel, mark.is_step):
-                    notes.called = mark.names
+                    notes.called = [*map(Given, mark.names)] if mark.commands == 1 else mark.names
                     given += self._take(file, lines, mark, min(mark.commands, most - given))
                 notes.called = outer
             elif is_answered(line) and not is_comment(line):
@@ -254,15 +254,18 @@ class Workbench(SolidMethods, FeatureMethods, Commands, Reading, Exporting):
 
 
 def _saved_lines(kernel: Kernel) -> Iterator[str]:
-    """The lines of what is held, the steps of a draft too. Before those that are one step, or one draft, stands a mark, and the unit where it
-    changes."""
+    """The lines of what is held, the steps of a draft too. Before those that are one step, or one draft, stands a mark, as before one to which the caller
+    gave a name; and the unit where it changes."""
     commands, notes, unit = _commands(kernel), kernel.notes.all[:kernel.notes.at + 1], Fraction(1)
     starts = [place for place, note in enumerate(notes) if place > 0 and (place == 1 or note.begins)]
     steps = {first: commands[first:last] for first, last in zip(starts, [*starts[1:], len(notes)])}
+    names: List[str] = []
     for place, (lines, note) in enumerate(zip(commands, [*notes, kernel.notes.now])):
+        if place in steps:
+            names = _called(notes[place:place + len(steps[place])]) if len(steps[place]) > 1 else []
         if len(steps.get(place, [])) > 1:
-            yield mark_line(Mark(True, sum(map(len, steps[place])), _called(notes[place:place + len(steps[place])])))
-        if len(lines) > 1 and place < len(notes):
+            yield mark_line(Mark(True, sum(map(len, steps[place])), names))
+        if place < len(notes) and (len(lines) > 1 or lines and note.calls != names and any(isinstance(name, Given) for name in note.calls)):
             yield mark_line(Mark(False, len(lines), _called([note])))
         yield from lines
         if note.unit != unit:
