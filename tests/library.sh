@@ -200,6 +200,7 @@ built 'threads in C++ are built' library_sharing.cpp "${CXX:-c++}" -std=c++17 -p
 counted 'threads that walk at once' "$dir/built/library_sharing"
 built 'heaps are built' library_heap.c "${CC:-cc}" -std=gnu11 -O2 -pthread
 counted 'heaps of sessions' "$dir/built/library_heap"
+counted 'heaps of sessions, each block alone' "$dir/alone/library_heap"
 built 'pages are built' library_pages.c "${CC:-cc}" -std=gnu11 -O2 -pthread
 counted 'small blocks from pages' "$dir/built/library_pages"
 built 'loading is built' library_load.c "${CC:-cc}" -std=gnu11 -O2

@@ -1,6 +1,6 @@
 /* Heaps of a session's own (gwb_use_heap, gwb_open_in): a pool for each of two sessions. All blocks of a session lie in its pool and are
  * given back to it, also by calls that come while another heap is used, or from another thread; where a pool is full, memory is refused and
- * the session goes on, and a part is told its first false condition before. The last line is 'N passed, M failed'. */
+ * the session goes on, and a part is told its first false condition before. Drafts end without memory. The last line is 'N passed, M failed'. */
 #include "checks.h"
 #include "gwb_names.h"
 #include "heaps.h"
@@ -133,8 +133,27 @@ static void try_part(void)
     check(pool.live == 0, "each block of theirs went back");
 }
 
+/* Ending a draft, or going back in it, asks for no memory, be it recorded and watched or not. */
+static void try_draft(bool is_followed)
+{
+    struct requests pool = {0};
+    gwb_heap heap = heap_of(&pool);
+    gwb g = {0};
+    check(gwb_open_in(&g, &heap) && (!is_followed || (gwb_record(&g) == GWB_OK && gwb_watch(&g, true) == GWB_OK)), "a session");
+    for (int way = 0; way < 2; way++) {
+        check(gwb_draft(&g) == GWB_OK && gwb_block(&g, 1, 0, 0, 0, 4, 4, 4) == GWB_OK && gwb_split(&g, 1, 0, 0, 1, -2, 2) == GWB_OK, "steps");
+        const long made = pool.made;
+        check(gwb_back(&g, 20) == GWB_OK && gwb_back(&g, 13) == GWB_OK && pool.made == made, "going back asks for memory");
+        check((way == 0 ? gwb_abandon(&g) : gwb_commit(&g)) == GWB_OK && pool.made == made, "ending a draft asks for memory");
+    }
+    gwb_close(&g);
+    check(pool.live == 0, "each block of a draft went back");
+}
+
 int main(void)
 {
+    try_draft(false);
+    try_draft(true);
     try_two();
     try_own();
     try_full();
