@@ -25,12 +25,13 @@ MISSING = [['tests/scripts.py', NOWHERE], ['tests/laws.py', NOWHERE], ['tests/pr
            ['tests/direct_calls.py', NOWHERE], ['tests/direct_calls.py', '/bin/sh', NOWHERE],
            ['tests/library.sh', NOWHERE], ['tests/library.sh', '/bin/sh', NOWHERE],
            ['tests/library_lines.py', NOWHERE, '/bin/sh'], ['tests/library_lines.py', '/bin/sh', NOWHERE],
-           ['tests/library_readers.py', NOWHERE], ['tests/unproved.py', NOWHERE], ['tests/dist.py', NOWHERE], ['tests/gallery.py', NOWHERE], ['tests/library_refusals.py', NOWHERE],
+           ['tests/library_readers.py', NOWHERE], ['tests/unproved.py', NOWHERE], ['tests/dist.py', NOWHERE], ['tests/gallery.py', NOWHERE],
+           ['tests/worked_change.py', NOWHERE], ['tests/library_refusals.py', NOWHERE],
            ['env', f'GWB={NOWHERE}', 'tests/library_companions.py'], ['env', '-u', 'GWB', 'tests/library_companions.py']]
 # Each test that skips all that it does where a tool isn't there, or a part of it.
 TOOLS = [['tests/refused_growths.py', '/bin/sh'], ['tests/direct_calls.py', '/bin/sh', '/bin/sh'], ['tests/library.sh', '/bin/sh'],
          ['tests/pages.py'], ['tests/versions.py'], ['tests/handed_on.py'], ['tests/unproved.py', '/bin/sh'],
-         ['tests/dist.py', '/bin/sh', '/bin/sh']]
+         ['tests/dist.py', '/bin/sh', '/bin/sh'], ['tests/worked_change.py', '/bin/sh']]
 # What needs something built, on what isn't there, and what its first line tells to type.
 UNBUILT = [(['make', '-s', '-C', 'bindings', f'ARCHIVE={NOWHERE}', 'OUT={folder}'], 'rt lib'),
            (['make', '-s', '-C', 'bench', 'library', f'LIBRARY={NOWHERE}'], 'make -C bindings bench'),

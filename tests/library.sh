@@ -305,6 +305,7 @@ if has "$program" '100,000 random lines'; then
 fi
 counted 'the tutorial' python3 tests/tutorial.py "$dir/built/libgwb.so"
 counted 'the gallery' python3 tests/gallery.py "$dir/built/libgwb.so"
+counted 'the worked change of CONTRIBUTING' python3 tests/worked_change.py "$dir/built/libgwb.so"
 counted "OpenSCAD's examples" python3 tests/openscad.py "$dir/built/libgwb.so"
 counted 'the session in Python over the library' env "GWB=$dir/built/libgwb.so" python3 tests/library_companions.py
 counted 'the session in thousandths of a millimetre' env "GWB=$dir/built/libgwb.so" GWB_TEST_STEP=1/1000 python3 tests/library_companions.py
