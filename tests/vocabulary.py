@@ -1,5 +1,5 @@
 #!/usr/bin/env python3
-"""Compares what the table in bindings/README.md says of features, their names and arguments in order, with the declarations in C, C++, Rust and Python, and
+"""Compares what the tables in bindings/README.md say of features, their names and arguments in order, with the declarations in C, C++, Rust and Python, and
 the names of what isn't possible, and of what comes back, in these languages with each other.
 
     tests/vocabulary.py
@@ -70,12 +70,12 @@ def in_brackets(text: str, begin: int) -> str:
 
 
 def table() -> Calls:
-    """The calls of the page; `groove(..)` has the arguments of the one before it."""
-    rows = text_of('bindings/README.md').partition('| Names and arguments | What comes back |\n|---|---|\n')[2].partition('\n\n')[0]
+    """The calls of the tables of the page; `groove(..)` has the arguments of the one before it."""
+    tables = text_of('bindings/README.md').partition('\n## Features\n')[2].partition('\nThe arguments:\n')[0]
     calls: Calls = {}
     last: Arguments = ()
-    for row in rows.splitlines():
-        for name, arguments in re.findall(r'`(\w+)\(([^)]*)\)`', row.split('|')[1]):
+    for row in re.findall(r'^\| (`.*?) \|', tables, re.MULTILINE):
+        for name, arguments in re.findall(r'`(\w+)\(([^)]*)\)`', row):
             last = last if arguments == '..' else tuple(parts_of(arguments))
             calls[name] = last
     return calls
@@ -181,7 +181,7 @@ def findings() -> Iterator[str]:
         for name, arguments in wanted.items():
             found = calls.pop(name, None)
             yield '' if found == arguments else f'{language}: {name}{found}, not {arguments}'
-        yield '' if language == 'Rust' or not calls else f'{language}: the table of bindings/README.md lacks {sorted(calls)}'
+        yield '' if language == 'Rust' or not calls else f'{language}: the tables of bindings/README.md lack {sorted(calls)}'
     for name, arguments in wanted.items():
         yield python_complaint(name, arguments, methods)
     for name in STRUCTURES:
