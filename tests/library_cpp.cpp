@@ -16,6 +16,10 @@ static std::uint32_t linked_version = GWB_VERSION;
 
 using namespace gwb_session;
 
+template <class Base, class... Kinds> constexpr bool are_kinds_of = (std::is_base_of_v<Base, Kinds> && ...);
+static_assert(are_kinds_of<std::runtime_error, Complaint> && are_kinds_of<Complaint, Refused, Impossible, Faulted>);
+static_assert(are_kinds_of<std::logic_error, NoCall, InDraft, NoDraft, Closed, Changed>);
+
 // Whether a call throws just this.
 template <class Thrown> static bool throws(const std::function<void()> &call)
 {

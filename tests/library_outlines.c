@@ -276,6 +276,24 @@ static void try_spent(void)
     gwb_close(&g);
 }
 
+/* Blocks, each of which is killed as soon as the next one is made, until edges run out. Low numbers are free, which a renumbering gives. */
+static void try_each_next(void)
+{
+    gwb g = {0};
+    gwb_refusal why = {0, 0};
+    long blocks = 0;
+    bool is_well = gwb_open(&g);
+    for (; is_well && gwb_block(&g, 1 + blocks % 2, 0, 0, 0, 1, 1, 1) == GWB_OK; blocks++)
+        is_well = blocks == 0 || gwb_kill_solid(&g, 2 - blocks % 2, &why) == GWB_OK;
+    check(is_well && blocks == 83333 && gwb_last_refusal(&g, &why) == GWB_FOUND && why.number == GWB_WHY_NUMBERS_SPENT, "so many blocks");
+    const uint32_t edge = (uint32_t)gwb_greatest_number(&g, GWB_EDGE);
+    check(gwb_mev(&g, gwb_plus(edge), gwb_plus(edge), 1000001, 999999, 9, 9, 9) == GWB_REFUSED && gwb_last_refusal(&g, &why) == GWB_FOUND &&
+              why.number == GWB_WHY_NUMBER_RANGE,
+          "an operator above all numbers");
+    check(gwb_renumber(&g, &why) == GWB_OK && gwb_greatest_number(&g, GWB_EDGE) == 12 && gwb_greatest_number(&g, GWB_SOLID) == 1, "low numbers");
+    gwb_close(&g);
+}
+
 /* Beside a plane that cuts a block between whole points. */
 static void try_tilted(void)
 {
@@ -307,5 +325,7 @@ int main(int argc, char **argv)
     try_numbers();
     try_spent();
     try_tilted();
+    if (argc == 1)
+        try_each_next();
     return counted();
 }
