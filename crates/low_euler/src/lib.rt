@@ -1,8 +1,8 @@
 #![tactic(auto)]
 //! The Euler operators in place. A caller tests an operator by `check`, asks for its room by `room_op`, and then applies it: by `apply`,
 //! which answers the operator that takes it back, or by `replay`, which answers nothing. `advance` is `room_op` and `apply` in one, and
-//! `advance_told` is `room_op` and `replay` for an operator that tells its inverse; `replay_told` takes such an operator back. Only `room_op`,
-//! `advance` and `advance_told` take memory. A number that has once got its room keeps it, so that an operator can be taken back and applied
+//! `advance_told` is `room_op` and `replay` for an operator that tells its inverse; `replay_told` takes such an operator back. A caller that
+//! knows which operator it replays can call `mvfs`, `kvfs`, `mev`, `kev`, `mef` or `kef`. Only `room_op`, `advance` and `advance_told` take memory. A number that has once got its room keeps it, so that an operator can be taken back and applied
 //! again even if no memory is left.
 //!
 //! `vertex_operators` makes and kills vertices (mvfs, kvfs, mev, kev). `loop_operators` parts and joins loops (mef, kef, kemr, mekr). Both
@@ -31,4 +31,6 @@ mod vertex_operators;
 pub use advancing::{advance, advance_told};
 pub use applying::{apply, replay, replay_told};
 pub use euler_conditions::{Arena, check};
+pub use loop_operators::{kef, mef};
 pub use making::{MovedFaces, room_op};
+pub use vertex_operators::{kev, kvfs, mev, mvfs};

@@ -5,5 +5,5 @@
 mod faces;
 mod loops;
 
-pub(crate) use faces::{kef, mef};
+pub use faces::{kef, mef};
 pub(crate) use loops::{kemr, mekr};

@@ -5,5 +5,5 @@
 mod edges;
 mod solids;
 
-pub(crate) use edges::{kev, mev};
-pub(crate) use solids::{kvfs, mvfs};
+pub use edges::{kev, mev};
+pub use solids::{kvfs, mvfs};

@@ -3,6 +3,7 @@ pub mod Raising
 pub mod Measures
 pub mod Machine
 pub mod Calls
+pub mod Asked
 pub use Rattle.euler_operators.specs.Items
 pub use Rattle.euler_operators.specs.Rings
 pub use Rattle.euler_laws.specs.Laws as OperatorLaws

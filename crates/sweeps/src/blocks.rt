@@ -10,17 +10,19 @@ ghost use Rattle.undo_journal.specs.Journal.{after_steps, record_of, recorded, I
 ghost use Rattle.undo_journal.specs.Machine.{held};
 ghost use Rattle.sweeps.specs.Machine.{block, block_refusal};
 ghost use Rattle.sweeps_laws.specs.block.BlockOps.{block_operators};
+ghost use Rattle.sweeps.specs.Asked.{asked};
 ghost use Rattle.sweeps.specs.Raising.{with_lamina};
 
 use crate::laminas::draw_lamina;
 use crate::raising::raise_items;
+use boundary_model::PackedPoint;
 use euler_conditions::Arena;
 use euler_operators::{
     HalfEdge, Kind, Point, Refusal, Why, is_number, point_in_range, refused, sum, sum_in_range,
 };
 use solid_walks::{Counters, check_left, counters_of};
 use std::alloc::{AllocError, Global};
-use undo_journal::{Draft, Failure, Session};
+use undo_journal::{Block, Draft, Failure, Session};
 
 /// Whether a point's coordinates are within the limit.
 fn is_near(point: Point) -> bool
@@ -193,6 +195,23 @@ pub fn block_in(
     block_of_in(draft, solid, corner, size)
 }
 
+/// A block as its record keeps it.
+fn asked(taken: &Counters, solid: u32, corner: Point, size: Point) -> Block
+    requires corner { IsInRange corner }
+    requires opposite { IsInRange (moved corner size) }
+    ensures { result ≡ asked (taken_of taken.now) solid corner size }
+{
+    Block {
+        solid,
+        faces: taken.faces,
+        loops: taken.loops,
+        edges: taken.edges,
+        vertices: taken.vertices,
+        near: PackedPoint::new(corner),
+        far: PackedPoint::new(sum(corner, size)),
+    }
+}
+
 /// A block as one command, with its sizes in one vector.
 fn block_of(
     session: Session,
@@ -218,7 +237,10 @@ fn block_of(
         Err((session, error)) => return (session, Err(Failure::Memory(error))),
     };
     match draw_block(&mut draft, &taken, solid, corner, size) {
-        Ok(()) => (draft.commit(), Ok(())),
+        Ok(()) => {
+            let block = asked(&taken, solid, corner, size);
+            (draft.commit_block(block), Ok(()))
+        }
         Err(error) => (draft.abandon(), Err(Failure::Memory(error))),
     }
 }

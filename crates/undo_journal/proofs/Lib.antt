@@ -9,3 +9,4 @@ pub mod Corners
 pub mod Kept
 pub mod Seen
 pub mod Inverses
+pub mod BlockSteps

@@ -13,6 +13,7 @@ pub use Rattle.std.proofs.Common.{Bool, Err, List, None, Ok, OnErr, OnOk, Option
 pub use Rattle.std.proofs.lemmas.Bool.Decides.{nat_tests}
 pub use Rattle.std.proofs.lemmas.List.{drop-drop, drop_all, drop_at, drop_more, get_or-append-add, get_or-drop, get_or-reverse, get_or_append_left, length-reverse, length_push, reverse-append, reverse-reverse, take-take, take_more, take_rest}
 pub use Rattle.std.proofs.lemmas.List.Elements.{filter-append}
+pub use Rattle.undo_journal.specs.Blocks.{block_steps}
 pub use Rattle.undo_journal.specs.Histories.{Call, Follows, IsConsistent, abandoned, acted, after_call, after_calls, committed, first_of, made, redone, redos, run_refusal, stopped, tried, undone, undos, unless}
 pub use Rattle.undo_journal.specs.Journal.{DraftJournal, IsMark, IsRecorded, Journal, after_act, after_commit, after_redo, after_step, after_steps, after_undo, back_at, each_inverse, new_draft, new_journal, record_of, recorded}
 unfoldable pub use Rattle.undo_journal.specs.Journal.{IsFurther}

@@ -7,3 +7,4 @@ pub mod Sessions
 pub mod Told
 pub mod Rings
 pub mod Records
+pub mod Blocks

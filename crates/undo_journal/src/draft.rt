@@ -2,12 +2,14 @@
 ghost use Rattle.std.specs.Prelude.{◌≡◌, ◌↔◌, OnOk, OnErr, IfOk, IfErr, None, Some, Err};
 ghost use Rattle.low_euler.specs.Ready.{IsReady};
 ghost use Rattle.euler_operators.specs.Common.{Sound, first_false};
+ghost use Rattle.undo_journal.specs.Blocks.{HasLeft, block_steps};
 ghost use Rattle.undo_journal.specs.Journal.{new_draft, after_step, after_commit, IsMark, IsFurther, back_at};
 ghost use Rattle.undo_journal.specs.Sessions.{RecordsHaveRoom, AllHaveRoom};
 ghost use Rattle.undo_journal.specs.Histories.{IsConsistent};
 ghost use Rattle.euler_operators.specs.declared.Refusal.{Refusal};
 
-use crate::record::{PLACES, Record, Spare, no_spare};
+use crate::blocks::Block;
+use crate::record::{PLACES, Record, Spare, no_spare, spare_lists};
 use crate::session::{Failure, Session, reuse_ahead};
 use crate::steps::{place_for_one, step};
 use crate::told::{replay_back, take_back};
@@ -179,6 +181,36 @@ impl Draft {
         } = self;
         reuse_ahead(alloc, &mut records, place, &mut *spare);
         records.push_reserved(Record::of_steps(steps, untold));
+        Session {
+            alloc,
+            arena,
+            records,
+            place: place + 1,
+            spare,
+        }
+    }
+
+    /// Makes the steps one command, as `commit` does, if they are those of a block: the record keeps the block in their place, and their list
+    /// is kept for the next draft. It takes no memory.
+    #[inline(always)]
+    pub fn commit_block(self, block: Block) -> Session
+        requires left { HasLeft block }
+        requires steps { block_steps block ≡ self.forward }
+        ensures { result ≡ after_commit self }
+    {
+        let Draft {
+            alloc,
+            arena,
+            mut records,
+            place,
+            steps,
+            untold,
+            mut spare,
+        } = self;
+        let kept = &mut *spare;
+        reuse_ahead(alloc, &mut records, place, kept);
+        *kept = spare_lists(alloc, steps, untold);
+        records.push_reserved(Record::of_block(block));
         Session {
             alloc,
             arena,

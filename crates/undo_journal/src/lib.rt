@@ -2,7 +2,7 @@
 //! The undo journal: a session of commands, each of which can be undone and redone without limit, and drafts of commands.
 //!
 //! A session holds one arena. Each command leaves a record: its operators, and those that take it back, but for those of either that the
-//! others tell. `undo` and `redo` replay these operators, and take no memory.
+//! others tell; of a block it is what was asked for, which tells them all. `undo` and `redo` replay these operators, and take no memory.
 //!
 //! # What is proved
 //!
@@ -21,6 +21,7 @@
 //! models ahead). A failed step changes nothing. `step_accepted` takes an operator that is known to be accepted, and fails only on refused
 //! memory; `commit` and `abandon` always succeed.
 
+mod blocks;
 mod draft;
 mod laws;
 mod record;
@@ -29,6 +30,7 @@ mod session;
 mod steps;
 mod told;
 
+pub use blocks::Block;
 pub use draft::Draft;
 pub use laws::{histories_are_consistent, machines_are_copies, undo_gives_the_model_before};
 pub use record::{Listed, Record};

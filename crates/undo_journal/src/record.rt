@@ -2,11 +2,13 @@
 ghost use Rattle.std.specs.Prelude.{◌≡◌, ◌<◌, [], ◌∷◌, ◌++◌, length, true, false, slice_index_or, vec_len, vec_capacity};
 ghost use Rattle.euler_laws.specs.Laws.{AreAccepted};
 ghost use Rattle.low_euler.specs.Ready.{IsReady};
+ghost use Rattle.undo_journal.specs.Blocks.{HasLeft, block_steps};
 ghost use Rattle.undo_journal.specs.Records.{one_record, op_of};
 ghost use Rattle.undo_journal.specs.Rings.{ring_op};
 ghost use Rattle.undo_journal.specs.Sessions.{AllHaveRoom, all_after};
 ghost use Rattle.undo_journal.specs.Told.{ArePaired, is_on_rings, tells, inverses_of, taken_back};
 
+use crate::blocks::{Block, STEPS, block_step, block_step_back, replay_block, replay_block_back};
 use crate::rings::RingOp;
 use crate::steps::replay_all;
 use crate::told::{inverse_at, replay_back, replay_paired, tells, told_inverse};
@@ -34,9 +36,13 @@ enum Steps {
     Unmade(Op),
     /// An operator on rings and its inverse, neither of which tells the other.
     Rings(RingOp, RingOp),
+    /// A block, as it was asked for.
+    Block(Block),
     /// Operators, and in their order the inverses that they don't tell.
     Many { ops: Vec<Op>, untold: Vec<Op> },
 }
+
+const _: () = prove!(size_of::<Steps>() == 56);
 
 /// An operator of a record: one that the record keeps, or one that was made from what it keeps.
 #[derive(Drop)]
@@ -127,6 +133,17 @@ impl Record {
         }
     }
 
+    /// The record of a block.
+    pub(crate) fn of_block(block: Block) -> Self
+        requires { HasLeft block }
+        ensures forward { result.forward ≡ block_steps block }
+        ensures back { result.back ≡ taken_back (block_steps block) [] }
+    {
+        Record {
+            steps: Steps::Block(block),
+        }
+    }
+
     /// Applies the operators of the command in turn. Each is accepted at its turn and has its room. It takes no memory.
     pub(crate) fn replay(&self, arena: &mut Arena)
         requires ready { IsReady arena.old }
@@ -139,6 +156,7 @@ impl Record {
             Steps::Made(op) => replay(arena, op),
             Steps::Unmade(inverse) => replay_paired(arena, inverse),
             Steps::Rings(op, _) => replay(arena, &op.op()),
+            Steps::Block(block) => replay_block(arena, block),
             Steps::Many { ops, .. } => replay_all(arena, ops.as_slice()),
         }
     }
@@ -155,6 +173,7 @@ impl Record {
             Steps::Made(op) => replay_paired(arena, op),
             Steps::Unmade(inverse) => replay(arena, inverse),
             Steps::Rings(_, inverse) => replay(arena, &inverse.op()),
+            Steps::Block(block) => replay_block_back(arena, block),
             Steps::Many { ops, untold } => replay_back(arena, ops.as_slice(), untold.as_slice()),
         }
     }
@@ -166,6 +185,7 @@ impl Record {
     {
         match &self.steps {
             Steps::Made(_) | Steps::Unmade(_) | Steps::Rings(_, _) => 1,
+            Steps::Block(_) => STEPS,
             Steps::Many { ops, .. } => ops.len(),
         }
     }
@@ -179,6 +199,7 @@ impl Record {
             Steps::Made(op) => Listed::Kept(op),
             Steps::Unmade(inverse) => told(inverse),
             Steps::Rings(op, _) => Listed::Made(op.op()),
+            Steps::Block(block) => Listed::Made(block_step(block, index)),
             Steps::Many { ops, .. } => Listed::Kept(&ops[index]),
         }
     }
@@ -192,6 +213,7 @@ impl Record {
             Steps::Made(op) => told(op),
             Steps::Unmade(inverse) => Listed::Kept(inverse),
             Steps::Rings(_, inverse) => Listed::Made(inverse.op()),
+            Steps::Block(block) => Listed::Made(block_step_back(block, index)),
             Steps::Many { ops, untold } => inverse_at(ops.as_slice(), untold.as_slice(), index),
         }
     }
@@ -251,13 +273,18 @@ fn emptied(alloc: Global, mut ops: Vec<Op>) -> Vec<Op> {
     ops
 }
 
+/// Two lists that are no longer needed, emptied.
+pub(crate) fn spare_lists(alloc: Global, steps: Vec<Op>, untold: Vec<Op>) -> Spare {
+    Spare {
+        steps: emptied(alloc, steps),
+        untold: emptied(alloc, untold),
+    }
+}
+
 /// The lists of a record that is dropped, emptied.
 pub(crate) fn spare_of(alloc: Global, record: Record) -> Spare {
     match record.steps {
-        Steps::Many { ops, untold } => Spare {
-            steps: emptied(alloc, ops),
-            untold: emptied(alloc, untold),
-        },
+        Steps::Many { ops, untold } => spare_lists(alloc, ops, untold),
         _ => no_spare(alloc),
     }
 }

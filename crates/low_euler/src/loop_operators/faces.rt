@@ -10,7 +10,7 @@ use euler_operators::{HalfEdge, Kind, Op};
 /// consists of what stands from the first corner up to before the second, and then the mate of `half`; the rest keeps its loop and its
 /// face. The cost is that of the shorter of the two loops, and of finding the places of the new loop and face among those of their owners.
 #[inline(always)]
-pub(crate) fn mef(
+pub fn mef(
     arena: &mut Arena,
     first: HalfEdge,
     second: HalfEdge,
@@ -35,7 +35,7 @@ pub(crate) fn mef(
 /// Kills an edge between two faces, with the face of the edge's mate and the one loop of that face. What stands in that
 /// loop goes to the loop of `half`, in the edge's place. The cost is that of the shorter of the two loops.
 #[inline(always)]
-pub(crate) fn kef(arena: &mut Arena, half: HalfEdge)
+pub fn kef(arena: &mut Arena, half: HalfEdge)
     requires { Accepts arena.old (Op.Kef half) }
     ensures { arena.new ≡ after arena.old (Op.Kef half) }
 {

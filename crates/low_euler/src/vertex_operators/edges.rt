@@ -16,7 +16,7 @@ use euler_operators::{Corner, HalfEdge, Op, Point};
 /// as half-edges move to the new vertex, takes no memory and never fails.
 #[inline(always)]
 #[tactic(auto, using(crate::proofs::vertex_operators_laws::Corners::lone_accepts, crate::proofs::vertex_operators_laws::Corners::never_mixed, crate::proofs::vertex_operators_laws::Corners::lone_after))]
-pub(crate) fn mev(
+pub fn mev(
     arena: &mut Arena,
     first: Corner,
     second: Corner,
@@ -74,7 +74,7 @@ fn mev_at(
 ///
 /// It costs as many steps as half-edges start at the killed vertex, takes no memory and never fails.
 #[inline(always)]
-pub(crate) fn kev(arena: &mut Arena, half: HalfEdge)
+pub fn kev(arena: &mut Arena, half: HalfEdge)
     requires { Accepts arena.old (Op.Kev half) }
     ensures { arena.new ≡ after arena.old (Op.Kev half) }
 {

@@ -10,7 +10,7 @@ use euler_operators::{Op, Point};
 /// room, and the point is in range. It costs the same in every model, takes no memory and never fails.
 #[inline(always)]
 #[tactic(auto, using(crate::proofs::Prelude::mvfs_goes, crate::proofs::vertex_operators_laws::SolidRows::was_begun))]
-pub(crate) fn mvfs(arena: &mut Arena, solid: u32, face: u32, outer: u32, vertex: u32, point: Point)
+pub fn mvfs(arena: &mut Arena, solid: u32, face: u32, outer: u32, vertex: u32, point: Point)
     requires { Accepts arena.old (Op.Mvfs solid face outer vertex point) }
     ensures { arena.new ≡ after arena.old (Op.Mvfs solid face outer vertex point) }
 {
@@ -25,7 +25,7 @@ pub(crate) fn mvfs(arena: &mut Arena, solid: u32, face: u32, outer: u32, vertex:
 /// It costs the same in every model, takes no memory and never fails.
 #[inline(always)]
 #[tactic(auto, using(crate::proofs::vertex_operators_laws::SolidRows::outer_there, crate::proofs::vertex_operators_laws::SolidRows::vertex_there))]
-pub(crate) fn kvfs(arena: &mut Arena, solid: u32)
+pub fn kvfs(arena: &mut Arena, solid: u32)
     requires { Accepts arena.old (Op.Kvfs solid) }
     ensures { arena.new ≡ after arena.old (Op.Kvfs solid) }
 {
