@@ -1,6 +1,7 @@
 /* Heaps of a session's own (gwb_use_heap, gwb_open_in): a pool for each of two sessions. All blocks of a session lie in its pool and are
  * given back to it, also by calls that come while another heap is used, or from another thread; where a pool is full, memory is refused and
- * the session goes on, and a part is told its first false condition before. Drafts end without memory. The last line is 'N passed, M failed'. */
+ * the session goes on, and a part is told its first false condition before. Drafts end, and undo, redo and questions are answered, without
+ * memory. The last line is 'N passed, M failed'. */
 #include "checks.h"
 #include "gwb_names.h"
 #include "heaps.h"
@@ -133,8 +134,8 @@ static void try_part(void)
     check(pool.live == 0, "each block of theirs went back");
 }
 
-/* Ending a draft, or going back in it, asks for no memory, be it recorded and watched or not. */
-static void try_draft(bool is_followed)
+/* Ending a draft, going back in it, undo, redo and questions ask for no memory, be it recorded and watched or not. */
+static void try_without(bool is_followed)
 {
     struct requests pool = {0};
     gwb_heap heap = heap_of(&pool);
@@ -146,14 +147,22 @@ static void try_draft(bool is_followed)
         check(gwb_back(&g, 20) == GWB_OK && gwb_back(&g, 13) == GWB_OK && pool.made == made, "going back asks for memory");
         check((way == 0 ? gwb_abandon(&g) : gwb_commit(&g)) == GWB_OK && pool.made == made, "ending a draft asks for memory");
     }
+    const long made = pool.made;
+    gwb_plane plane;
+    gwb_wide volume;
+    gwb_counts counts;
+    check(gwb_undo(&g) == GWB_OK && gwb_redo(&g) == GWB_OK && pool.made == made, "undo or redo asks for memory");
+    check(gwb_face_plane(&g, 1, &plane) == GWB_PLANE && gwb_volume(&g, 1, &volume) == GWB_VOLUME && gwb_count(&g, 1, &counts) == GWB_COUNT &&
+              gwb_line(&g, "undo", 4) == GWB_OK && gwb_line(&g, "redo", 4) == GWB_OK && gwb_line(&g, "volume 1", 8) == GWB_VOLUME && pool.made == made,
+          "a question or a line asks for memory");
     gwb_close(&g);
     check(pool.live == 0, "each block of a draft went back");
 }
 
 int main(void)
 {
-    try_draft(false);
-    try_draft(true);
+    try_without(false);
+    try_without(true);
     try_two();
     try_own();
     try_full();
