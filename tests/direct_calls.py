@@ -16,7 +16,7 @@ from counts import GWB, TOP, command_line, needs, there, told
 
 WANTED = {'act': 'ok', 'draft': 'ok', 'copy': 'memory'}
 BLOCKS = 'block 1 0 0 0 4 4 4;block 2 0 0 4 4 4 4'
-GROWTHS = 8  # that the fourteen steps of their glue ask for
+GROWTHS = 6  # that the fourteen steps of their glue ask for
 NO_WORD = 'spliced at'
 
 
