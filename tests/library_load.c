@@ -293,7 +293,10 @@ static void try_lines(void)
     gwb_refusal refusal;
     check(gwb_lines(&g, script, sizeof script - 1, &line) == GWB_CLOSED && line == 0, "a closed handle");
     check(gwb_load(&g, cones, sizeof cones - 1, &refusal) == GWB_CLOSED && !gwb_is_open(&g), "loading into a closed handle");
-    check(gwb_open(&g) && gwb_is_open(&g) && gwb_lines(&g, script, 0, &line) == GWB_SILENT && line == 0, "no script");
+    answers = 0;
+    gwb_stop_by(&g, is_over, NULL);
+    check(gwb_open(&g) && gwb_load(&g, cones, sizeof cones - 1, &refusal) == GWB_NO_CALL && answers == 0, "nothing is asked for of a closed handle");
+    check(gwb_is_open(&g) && gwb_lines(&g, script, 0, &line) == GWB_SILENT && line == 0, "no script");
     check(gwb_lines(&g, script, sizeof script - 1, &line) == GWB_REFUSED && line == 4 && gwb_depth(&g) == 1, "a script up to its line 4");
     check(gwb_load(&g, "solid 1\n", 8, &refusal) == GWB_NO_CALL && gwb_depth(&g) == 1, "a solid without a face");
     check(gwb_load(&g, cones, sizeof cones - 1, &refusal) == GWB_NO_CALL && gwb_depth(&g) == 1, "two solids in one that touch in a vertex");
