@@ -47,6 +47,14 @@ static size_t points(void)
         corners[count++] = point();
     return count;
 }
+/* The numbers that are left, in `others`. */
+static size_t names(void)
+{
+    size_t count = 0;
+    while (at < given)
+        others[count++] = name();
+    return count;
+}
 /* 0 and a vector; 1, an axis and how many quarter turns about it; 2 and an axis to mirror across. */
 static gwb_motion motion(void)
 {
@@ -451,28 +459,10 @@ static bool is_of_plane(const char *word, uint32_t solid)
     return true;
 }
 
-static void join(enum gwb_kind (*call)(gwb *, const uint32_t *, size_t, gwb_refusal *))
-{
-    size_t n = 0;
-    while (at < given)
-        others[n++] = name();
-    is_well(call(&g, others, n, &why));
-}
-
-static void subtract(uint32_t solid)
-{
-    size_t n = 0;
-    while (at < given)
-        others[n++] = name();
-    is_well(gwb_subtract(&g, solid, others, n, &why));
-}
-
 static void chamfer_edges(void)
 {
     const int64_t width = number();
-    size_t n = 0;
-    while (at < given)
-        others[n++] = name();
+    const size_t n = names();
     if (is_well(gwb_chamfer_edges(&g, others, n, width, made, &why)))
         put(made, n);
 }
@@ -499,11 +489,11 @@ static bool is_of_session(const char *word)
     } else if (strcmp(word, "scale") == 0) {
         is_well(gwb_scale(&g, number(), &why));
     } else if (strcmp(word, "glue_all") == 0) {
-        join(gwb_glue_all);
+        is_well(gwb_glue_all(&g, others, names(), &why));
     } else if (strcmp(word, "union") == 0) {
-        join(gwb_union);
+        is_well(gwb_union(&g, others, names(), &why));
     } else if (strcmp(word, "intersect") == 0) {
-        join(gwb_intersect);
+        is_well(gwb_intersect(&g, others, names(), &why));
     } else if (strcmp(word, "chamfer_edges") == 0) {
         chamfer_edges();
     } else if (strcmp(word, "faces") == 0) {
@@ -530,7 +520,7 @@ static void give(const char *word)
     else if (strcmp(word, "ring") == 0)
         ring(of);
     else if (strcmp(word, "subtract") == 0)
-        subtract(of);
+        is_well(gwb_subtract(&g, of, others, names(), &why));
     else if (strcmp(word, "drill") == 0 || strcmp(word, "drill_along") == 0)
         drill(of, strcmp(word, "drill_along") == 0);
     else if (strcmp(word, "crossings") == 0)

@@ -1,65 +1,32 @@
 // A program of features, by gwb_features.hpp: reads it line by line, and writes what each line gives. tests/library_same.py compares it with the same
 // program in other languages.
 #include "gwb_features.hpp"
+#include <functional>
 #include <iostream>
 #include <map>
 #include <numeric>
 #include <set>
 #include <sstream>
+#include <tuple>
 
 using namespace gwb_session;
+using Size = std::int64_t;
+using Count = std::uint32_t;
+using Points = std::vector<Point>;
+using Solids = std::vector<Solid>;
 
 // The words of a line after the first one: numbers, taken one after another.
 class Words {
 public:
     explicit Words(const std::string &line) : words_(line) {}
-    std::int64_t number()
+    // What the next ones say, of these kinds in their order. A vector takes all that are left.
+    template <class... Kinds> std::tuple<Kinds...> next()
     {
-        std::int64_t value = 0;
-        words_ >> value;
-        return value;
-    }
-    template <class Kind> Kind name() { return Kind(static_cast<std::uint32_t>(number())); }
-    // All that are left.
-    template <class Kind> std::vector<Kind> names()
-    {
-        std::vector<Kind> found;
-        while (has_more())
-            found.push_back(name<Kind>());
+        std::tuple<Kinds...> found;
+        std::apply([this](auto &...each) { (take(each), ...); }, found);
         return found;
     }
-    Point point()
-    {
-        const std::int64_t x = number(), y = number();
-        return {x, y, number()};
-    }
-    CutPlane plane()
-    {
-        const std::int64_t a = number(), b = number(), c = number();
-        return {a, b, c, number()};
-    }
-    Ratio ratio()
-    {
-        const auto numerator = static_cast<std::uint64_t>(number());
-        return {numerator, static_cast<std::uint64_t>(number())};
-    }
-    std::vector<Point> points()
-    {
-        std::vector<Point> found;
-        while (has_more())
-            found.push_back(point());
-        return found;
-    }
-    // 0 and a vector; 1, an axis and how many quarter turns about it; 2 and an axis to mirror across.
-    Motion motion()
-    {
-        const std::int64_t way = number();
-        if (way == 0)
-            return Motion::move(point());
-        const auto axis = static_cast<unsigned>(number());
-        return way == 1 ? Motion::quarter_turns(axis, static_cast<unsigned>(number())) : Motion::mirror(axis);
-    }
-    bool has_more() { return !(words_ >> std::ws).eof(); }
+    template <class Kind> Kind one() { return std::get<0>(next<Kind>()); }
     std::string text()
     {
         std::string left;
@@ -68,44 +35,69 @@ public:
     }
 
 private:
+    void take(Size &number) { words_ >> number; }
+    void take(Point &point) { std::tie(point.x, point.y, point.z) = next<Size, Size, Size>(); }
+    void take(CutPlane &plane) { std::tie(plane.a, plane.b, plane.c, plane.d) = next<Size, Size, Size, Size>(); }
+    void take(Ratio &ratio) { std::tie(ratio.numerator, ratio.denominator) = next<Size, Size>(); }
+    // 0 and a vector; 1, an axis and how many quarter turns about it; 2 and an axis to mirror across.
+    void take(Motion &motion)
+    {
+        const auto way = one<Size>();
+        const auto axis = way == 0 ? 0 : one<Count>();
+        motion = way == 0 ? Motion::move(one<Point>()) : way == 1 ? Motion::quarter_turns(axis, one<Count>()) : Motion::mirror(axis);
+    }
+    template <class Kind> void take(std::vector<Kind> &all)
+    {
+        while (!(words_ >> std::ws).eof())
+            all.push_back(one<Kind>());
+    }
+    template <class Kind> void take(Kind &name) { name = Kind(static_cast<std::uint32_t>(one<Size>())); }
+
     std::istringstream words_;
 };
 
-// What lines give.
-class Given {
-public:
-    void give(const std::string &word, Words &words)
-    {
-        const auto found = calls().find(word);
-        if (found == calls().end())
-            std::abort();
-        (this->*found->second)(words);
-    }
+// ---- what is written of what was made
 
-private:
-    using Call = void (Given::*)(Words &);
-    static const std::map<std::string, Call> &calls()
-    {
-        static const std::map<std::string, Call> all = {
-            {"part", &Given::part},         {"list", &Given::list},       {"undo", &Given::undo},         {"redo", &Given::redo},
-            {"draft", &Given::draft},       {"commit", &Given::commit},   {"abandon", &Given::abandon},   {"block", &Given::block},
-            {"profile", &Given::profile},   {"ring", &Given::ring},       {"pocket", &Given::pocket},     {"boss", &Given::boss},
-            {"pocket_along", &Given::pocket_along}, {"boss_along", &Given::boss_along}, {"drill_along", &Given::drill_along},
-            {"hole", &Given::hole},         {"drill", &Given::drill},     {"notch", &Given::notch},       {"slot", &Given::slot},
-            {"pad", &Given::pad},           {"notch_along", &Given::notch_along}, {"pad_along", &Given::pad_along},
-            {"slot_along", &Given::slot_along}, {"groove_along", &Given::groove_along}, {"shoulder_along", &Given::shoulder_along},
-            {"groove", &Given::groove},     {"shoulder", &Given::shoulder}, {"chamfer", &Given::chamfer}, {"kill", &Given::kill},
-            {"copy", &Given::copy},         {"move", &Given::move},       {"pattern", &Given::pattern},   {"scale", &Given::scale},
-            {"glue_all", &Given::glue_all}, {"split", &Given::split},     {"off_lattice", &Given::off_lattice}, {"cut", &Given::cut},
-            {"trim", &Given::trim},         {"union", &Given::unite},     {"load", &Given::load},       {"advice", &Given::advice},
-            {"subtract", &Given::subtract}, {"intersect", &Given::intersect}, {"separate", &Given::separate}, {"join_faces", &Given::join_faces},
-            {"faces", &Given::faces},       {"edges", &Given::edges},     {"crossings", &Given::crossings}, {"renumber", &Given::renumber},
-            {"polyhedron", &Given::polyhedron},     {"pattern_around", &Given::pattern_around}, {"chamfer_edges", &Given::chamfer_edges}};
-        return all;
+template <class Kind> static auto put(const Kind &name) -> decltype(void(name.number())) { std::cout << ' ' << name.number(); }
+static void put(const Point &point) { std::cout << ' ' << point.x << ' ' << point.y << ' ' << point.z; }
+template <class Kind> static void put(const std::vector<Kind> &all)
+{
+    for (const Kind &each : all)
+        put(each);
+}
+template <class Kind> static void put_counted(const std::vector<Kind> &all)
+{
+    std::cout << ' ' << all.size();
+    put(all);
+}
+static void put(const Profile &made) { put(made.far), put(made.base), put(made.sides); }
+static void put(const Ring &made) { put(made.face), put(made.loop), put(made.edges), put(made.vertices); }
+static void put(const Pocket &made) { put(made.face), put(made.loop), put(made.sides); }
+static void put(const Hole &made) { put(made.other), put(made.loop), put(made.sides); }
+static void put(const Notch &made) { put_counted(made.floor), put_counted(made.walls); }
+static void put(const Pad &made) { put_counted(made.top), put_counted(made.walls); }
+static void put(const Polyhedron &made) { put(made.first_vertex), put(made.first_face); }
+static void put(const Split &made) { put_counted(made.lower_caps), put_counted(made.upper_caps); }
+static void put(const Merger &) {} // (what faces became isn't written)
+static void put(const OffLattice &said) { std::cout << ' ' << said.cuts().size() << ' ' << said.factor().low; }
+
+template <class Place> static void put_place(const Place &place, std::int64_t scale)
+{
+    for (gwb_wide times : place) {
+        const std::int64_t part = narrow(times), common = std::gcd(part, scale);
+        std::cout << ' ' << part / common << (common != scale ? "/" + std::to_string(scale / common) : "");
     }
+}
+
+// ---- what lines give
+
+struct Given {
+    std::unique_ptr<Workbench> bench;
+    std::optional<Attempts> attempt;
+    std::optional<Draft> draft;
 
     // Whether a line was accepted. If not, its refusal is told.
-    template <class T> bool is_well(const Result<T> &result)
+    template <class T> bool is_well(const Result<T> &result) const
     {
         if (result || result.error().problem == Problem::no_call)
             std::cout << (result ? "ok" : "NoCall");
@@ -114,10 +106,10 @@ private:
         return static_cast<bool>(result);
     }
     // The name of what is refused and its value; and what was met, as far as that is told.
-    void put_refusal(const Failure &failure)
+    void put_refusal(const Failure &failure) const
     {
         constexpr std::array things = {"solid", "face", "loop", "edge", "vertex"};
-        const gwb_hit_row hit = failure.problem == Problem::impossible ? attempt_->hit().value_or(gwb_hit_row{}) : gwb_hit_row{};
+        const gwb_hit_row hit = failure.problem == Problem::impossible ? attempt->hit().value_or(gwb_hit_row{}) : gwb_hit_row{};
         std::cout << failure.name() << ' ' << failure.value << (hit.cause != 0 ? " " : "") << gwb_cause_name(hit.cause);
         if (hit.number != 0 && hit.kind < things.size())
             std::cout << ' ' << things[hit.kind] << ' ' << hit.number;
@@ -126,442 +118,207 @@ private:
             put_place(hit.point, narrow(hit.scale));
         }
     }
-    template <class Place> static void put_place(const Place &place, std::int64_t scale)
+    // The same, and what was made.
+    template <class T> void tell(const Result<T> &made) const
     {
-        for (gwb_wide times : place) {
-            const std::int64_t part = narrow(times), common = std::gcd(part, scale);
-            std::cout << ' ' << part / common << (common != scale ? "/" + std::to_string(scale / common) : "");
-        }
+        const bool is_told = is_well(made);
+        if constexpr (!std::is_void_v<T>)
+            if (is_told)
+                put(*made);
     }
-    template <class Kind> static void put(const std::vector<Kind> &numbers)
+    void drill(const Result<Hole> &made) const
     {
-        for (Kind number : numbers)
-            std::cout << ' ' << number.number();
+        if (is_well(made))
+            put(*made), put(made->points);
     }
-    template <class Kind> static void put_counted(const std::vector<Kind> &numbers)
+    void trim(Solid solid, const CutPlane &plane)
     {
-        std::cout << ' ' << numbers.size();
-        put(numbers);
+        const Result<std::vector<Face>> made = gwb_session::trim(*attempt, solid, plane);
+        if (is_well(made))
+            put_counted(*made);
     }
-    void put_notch(const Result<Notch> &made)
+    void open()
     {
-        if (is_well(made)) {
-            put_counted(made->floor);
-            put_counted(made->walls);
-        }
-    }
-    void put_pocket(const Result<Pocket> &made)
-    {
-        if (is_well(made)) {
-            std::cout << ' ' << made->face.number() << ' ' << made->loop.number();
-            put(made->sides);
-        }
-    }
-    bool put_hole(const Result<Hole> &made)
-    {
-        if (!is_well(made))
-            return false;
-        std::cout << ' ' << made->other.number() << ' ' << made->loop.number();
-        put(made->sides);
-        return true;
-    }
-
-    void part(Words &)
-    {
-        draft_.reset();
-        bench_ = std::make_unique<Workbench>();
-        attempt_.emplace(bench_->attempt());
-        std::cout << "ok";
-    }
-    void list(Words &) { std::cout << bench_->listing(); }
-    void undo(Words &) { is_well(attempt_->undo()); }
-    void redo(Words &) { is_well(attempt_->redo()); }
-    void draft(Words &)
-    {
-        draft_.emplace(bench_->draft());
-        std::cout << "ok";
-    }
-    void commit(Words &)
-    {
-        draft_->commit();
-        draft_.reset();
-        std::cout << "ok";
-    }
-    void abandon(Words &)
-    {
-        draft_.reset();
-        std::cout << "ok";
+        draft.reset();
+        bench = std::make_unique<Workbench>();
+        attempt.emplace(bench->attempt());
     }
     void block(Words &words)
     {
-        const auto solid = words.name<Solid>();
-        const Point corner = words.point();
-        if (is_well(attempt_->block(solid, corner, words.point()))) {
+        const auto [solid, corner, sizes] = words.next<Solid, Point, Point>();
+        if (is_well(attempt->block(solid, corner, sizes))) {
             gwb_block_faces faces{};
-            gwb_last_block(bench_->handle(), &faces);
+            gwb_last_block(bench->handle(), &faces);
             std::cout << ' ' << faces.top << ' ' << faces.bottom;
             for (std::uint32_t side : faces.sides)
                 std::cout << ' ' << side;
         }
     }
-    void profile(Words &words)
-    {
-        const auto solid = words.name<Solid>();
-        const Point along = words.point();
-        const Result<Profile> made = gwb_session::profile(*attempt_, solid, words.points(), along);
-        if (is_well(made)) {
-            std::cout << ' ' << made->far.number() << ' ' << made->base.number();
-            put(made->sides);
-        }
-    }
-    void ring(Words &words)
-    {
-        const auto face = words.name<Face>();
-        const Result<Ring> made = gwb_session::ring(*attempt_, face, words.points());
-        if (is_well(made)) {
-            std::cout << ' ' << made->face.number() << ' ' << made->loop.number();
-            put(made->edges);
-            put(made->vertices);
-        }
-    }
-    void pocket(Words &words)
-    {
-        const auto face = words.name<Face>();
-        const std::int64_t depth = words.number();
-        put_pocket(gwb_session::pocket(*attempt_, face, words.points(), depth));
-    }
-    void boss(Words &words)
-    {
-        const auto face = words.name<Face>();
-        const std::int64_t height = words.number();
-        put_pocket(gwb_session::boss(*attempt_, face, words.points(), height));
-    }
-    void pocket_along(Words &words)
-    {
-        const auto face = words.name<Face>();
-        const Point along = words.point();
-        put_pocket(gwb_session::pocket_along(*attempt_, face, words.points(), along));
-    }
-    void boss_along(Words &words)
-    {
-        const auto face = words.name<Face>();
-        const Point along = words.point();
-        put_pocket(gwb_session::boss_along(*attempt_, face, words.points(), along));
-    }
-    void hole(Words &words)
-    {
-        const auto face = words.name<Face>();
-        put_hole(gwb_session::hole(*attempt_, face, words.points()));
-    }
-    void drill(Words &words)
-    {
-        const auto face = words.name<Face>();
-        const Point center = words.point();
-        const std::int64_t radius = words.number();
-        const auto sides = static_cast<std::uint32_t>(words.number());
-        put_drilled(gwb_session::drill(*attempt_, face, center, radius, sides, words.number()));
-    }
-    void drill_along(Words &words)
-    {
-        const auto face = words.name<Face>();
-        const Point center = words.point();
-        const std::int64_t radius = words.number();
-        const auto sides = static_cast<std::uint32_t>(words.number());
-        put_drilled(gwb_session::drill_along(*attempt_, face, center, radius, sides, words.point()));
-    }
-    void put_drilled(const Result<Hole> &made)
-    {
-        if (put_hole(made))
-            for (const Point &at : made->points)
-                std::cout << ' ' << at.x << ' ' << at.y << ' ' << at.z;
-    }
-    void notch(Words &words)
-    {
-        const auto face = words.name<Face>();
-        const std::int64_t depth = words.number();
-        put_notch(gwb_session::notch(*attempt_, face, words.points(), depth));
-    }
-    void pad(Words &words)
-    {
-        const Face face = words.name<Face>();
-        const std::int64_t height = words.number();
-        put_pad(gwb_session::pad(*attempt_, face, words.points(), height));
-    }
-    void put_pad(const Result<Pad> &made)
-    {
-        if (is_well(made)) {
-            put_counted(made->top);
-            put_counted(made->walls);
-        }
-    }
-    void notch_along(Words &words)
-    {
-        const auto face = words.name<Face>();
-        const Point along = words.point();
-        put_notch(gwb_session::notch_along(*attempt_, face, words.points(), along));
-    }
-    void pad_along(Words &words)
-    {
-        const auto face = words.name<Face>();
-        const Point along = words.point();
-        put_pad(gwb_session::pad_along(*attempt_, face, words.points(), along));
-    }
-    void slot_along(Words &words)
-    {
-        const auto face = words.name<Face>();
-        const Point start = words.point(), end = words.point();
-        const std::int64_t width = words.number();
-        put_notch(gwb_session::slot_along(*attempt_, face, start, end, width, words.point()));
-    }
-    void groove_along(Words &words)
-    {
-        const auto face = words.name<Face>();
-        const Point start = words.point(), end = words.point();
-        const std::int64_t width = words.number();
-        put_notch(gwb_session::groove_along(*attempt_, face, start, end, width, words.point()));
-    }
-    void shoulder_along(Words &words)
-    {
-        const auto face = words.name<Face>();
-        const auto edge = words.name<Edge>();
-        const std::int64_t width = words.number();
-        put_notch(gwb_session::shoulder_along(*attempt_, face, edge, width, words.point()));
-    }
-    void slot(Words &words)
-    {
-        const auto face = words.name<Face>();
-        const Point start = words.point(), end = words.point();
-        const std::int64_t width = words.number();
-        put_notch(gwb_session::slot(*attempt_, face, start, end, width, words.number()));
-    }
-    void groove(Words &words)
-    {
-        const auto face = words.name<Face>();
-        const Point start = words.point(), end = words.point();
-        const std::int64_t width = words.number();
-        put_notch(gwb_session::groove(*attempt_, face, start, end, width, words.number()));
-    }
-    void shoulder(Words &words)
-    {
-        const auto face = words.name<Face>();
-        const auto edge = words.name<Edge>();
-        const std::int64_t width = words.number();
-        put_notch(gwb_session::shoulder(*attempt_, face, edge, width, words.number()));
-    }
-    void chamfer(Words &words)
-    {
-        const auto edge = words.name<Edge>();
-        const std::int64_t width = words.number();
-        const Result<Face> made = gwb_session::chamfer(*attempt_, edge, width, words.number());
-        if (is_well(made))
-            std::cout << ' ' << made->number();
-    }
-    void kill(Words &words) { is_well(kill_solid(*attempt_, words.name<Solid>())); }
     // The new faces of a copy, and the half-edges for the first ones of its edges.
     void copy(Words &words)
     {
-        const auto solid = words.name<Solid>();
-        const Result<Copy> made = copy_solid(*attempt_, solid, words.motion());
+        const auto [solid, motion] = words.next<Solid, Motion>();
+        const Result<Copy> made = copy_solid(*attempt, solid, motion);
         if (!is_well(made))
             return;
-        std::cout << ' ' << made->solid.number();
-        for (Face face : bench_->faces(solid))
-            std::cout << ' ' << made->of(face).number();
+        put(made->solid);
+        for (Face face : bench->faces(solid))
+            put(made->of(face));
         std::set<Edge> edges;
-        for (const gwb_half_edge_row &row : bench_->half_edge_rows(solid))
+        for (const gwb_half_edge_row &row : bench->half_edge_rows(solid))
             edges.insert(HalfEdge(row.half_edge).edge());
         for (Edge edge : edges)
             std::cout << ' ' << made->of(plus(edge)).code();
     }
-    void move(Words &words)
-    {
-        const auto solid = words.name<Solid>();
-        is_well(move_solid(*attempt_, solid, words.motion()));
-    }
-    void pattern(Words &words)
-    {
-        const auto solid = words.name<Solid>();
-        const auto count = static_cast<std::uint32_t>(words.number());
-        const Result<std::vector<Solid>> made = gwb_session::pattern(*attempt_, solid, count, words.point());
-        if (is_well(made))
-            put(*made);
-    }
-    void pattern_around(Words &words)
-    {
-        const auto solid = words.name<Solid>();
-        const auto count = static_cast<std::uint32_t>(words.number()), axis = static_cast<std::uint32_t>(words.number());
-        const auto quarters = static_cast<std::uint32_t>(words.number());
-        const Result<std::vector<Solid>> made = gwb_session::pattern_around(*attempt_, solid, count, axis, quarters, words.point());
-        if (is_well(made))
-            put(*made);
-    }
-    void chamfer_edges(Words &words)
-    {
-        const std::int64_t width = words.number();
-        const Result<std::vector<Face>> made = gwb_session::chamfer_edges(*attempt_, words.names<Edge>(), width);
-        if (is_well(made))
-            put(*made);
-    }
     void polyhedron(Words &words)
     {
-        const auto solid = words.name<Solid>();
-        const auto count = static_cast<std::size_t>(words.number());
-        const auto size = static_cast<std::uint32_t>(words.number());
-        std::vector<Point> points(count);
+        const auto [solid, count, size] = words.next<Solid, Count, Count>();
+        Points points(count);
         for (Point &point : points)
-            point = words.point();
-        std::vector<std::uint32_t> corners;
-        while (words.has_more())
-            corners.push_back(static_cast<std::uint32_t>(words.number()));
-        const std::vector<std::uint32_t> sizes(corners.size() / size, size);
-        const Result<Polyhedron> made = gwb_session::polyhedron(*attempt_, solid, points, corners, sizes);
-        if (is_well(made))
-            std::cout << ' ' << made->first_vertex.number() << ' ' << made->first_face.number();
+            point = words.one<Point>();
+        const auto corners = words.one<std::vector<std::uint32_t>>();
+        tell(gwb_session::polyhedron(*attempt, solid, points, corners, std::vector<std::uint32_t>(corners.size() / size, size)));
     }
-    void renumber(Words &)
+    void renumber()
     {
-        std::vector<Solid> solids;
-        for (Solid solid : bench_->numbers<Solid>())
+        Solids solids;
+        for (Solid solid : bench->numbers<Solid>())
             solids.push_back(solid);
-        const Result<Renumbered> made = gwb_session::renumber(*attempt_);
+        const Result<Renumbered> made = gwb_session::renumber(*attempt);
         if (!is_well(made))
             return;
         std::cout << ' ' << 2 * solids.size();
         for (Solid solid : solids)
-            std::cout << ' ' << solid.number() << ' ' << made->of(solid).number();
+            put(solid), put(made->of(solid));
     }
-    void scale(Words &words) { is_well(gwb_session::scale(*attempt_, words.number())); }
-    void glue_all(Words &words)
+    void separate(Solid solid)
     {
-        is_well(gwb_session::glue_all(*attempt_, words.names<Solid>()));
-    }
-    void unite(Words &words)
-    {
-        is_well(gwb_session::unite(*attempt_, words.names<Solid>()));
-    }
-    void subtract(Words &words)
-    {
-        const auto solid = words.name<Solid>();
-        is_well(gwb_session::subtract(*attempt_, solid, words.names<Solid>()));
-    }
-    void intersect(Words &words)
-    {
-        is_well(gwb_session::intersect(*attempt_, words.names<Solid>()));
-    }
-    void separate(Words &words)
-    {
-        const auto solid = words.name<Solid>();
-        const Result<std::vector<Solid>> made = gwb_session::separate(*attempt_, solid);
+        const Result<Solids> made = gwb_session::separate(*attempt, solid);
         if (!is_well(made))
             return;
         std::cout << ' ' << 2 * made->size();
         for (Solid part : *made)
-            std::cout << ' ' << solid.number() << ' ' << part.number();
-    }
-    void join_faces(Words &words)
-    {
-        is_well(gwb_session::join_faces(*attempt_, words.name<Solid>()));
-    }
-    void put_split(const Result<Split> &made)
-    {
-        if (is_well(made)) {
-            put_counted(made->lower_caps);
-            put_counted(made->upper_caps);
-        }
-    }
-    void split(Words &words)
-    {
-        const auto solid = words.name<Solid>();
-        const CutPlane plane = words.plane();
-        put_split(split_solid(*attempt_, solid, plane, words.name<Solid>()));
-    }
-    void cut(Words &words)
-    {
-        const auto solid = words.name<Solid>();
-        const CutPlane plane = words.plane();
-        put_split(gwb_session::cut(*attempt_, solid, plane, words.name<Solid>()));
-    }
-    void trim(Words &words)
-    {
-        const auto solid = words.name<Solid>();
-        const Result<std::vector<Face>> made = gwb_session::trim(*attempt_, solid, words.plane());
-        if (is_well(made))
-            put_counted(*made);
-    }
-    void off_lattice(Words &words)
-    {
-        const auto solid = words.name<Solid>();
-        const Result<OffLattice> said = gwb_session::off_lattice(*attempt_, solid, words.plane());
-        if (is_well(said))
-            std::cout << ' ' << said->cuts().size() << ' ' << said->factor().low;
-    }
-    void advice(Words &words)
-    {
-        const auto solid = words.name<Solid>();
-        std::cout << gwb_session::off_lattice(*bench_, solid, words.plane()).advice(Solid(77));
+            put(solid), put(part);
     }
     // A listing, in which ';' stands for the end of a line.
-    void load(Words &words)
+    void load(std::string listing)
     {
-        std::string listing = words.text();
         std::replace(listing.begin(), listing.end(), ';', '\n');
-        bench_->load(listing + '\n');
-        std::cout << "ok";
+        bench->load(listing + '\n');
     }
     void faces(Words &words)
     {
-        const auto solid = words.name<Solid>();
-        const std::int64_t what = words.number();
+        const auto [solid, what] = words.next<Solid, Size>();
         FaceQuery query;
         if (solid != Solid()) // (0 stands for any)
             query.solid = solid;
         if (what == 1)
-            query.plane = words.plane();
+            query.plane = words.one<CutPlane>();
         if (what == 2)
-            query.normal = words.point();
+            query.normal = words.one<Point>();
         if (what == 3)
-            query.containing = words.point();
+            query.containing = words.one<Point>();
         if (what == 4)
-            query.area = words.ratio();
-        const Result<std::vector<Face>> found = find_faces(*attempt_, query);
-        if (is_well(found))
-            put(*found);
-    }
-    void crossings(Words &words)
-    {
-        const auto solid = words.name<Solid>(), other = words.name<Solid>();
-        const auto found = find_crossings(*attempt_, solid, other != Solid() ? std::optional(other) : std::nullopt); // (0 stands for none)
-        if (!is_well(found))
-            return;
-        for (const Crossing &crossing : *found) {
-            std::cout << ' ' << crossing.first.number() << ' ' << crossing.second.number();
-            put_place(crossing.point, narrow(crossing.scale));
-        }
+            query.area = words.one<Ratio>();
+        tell(find_faces(*attempt, query));
     }
     void edges(Words &words)
     {
-        const auto solid = words.name<Solid>();
-        const std::int64_t what = words.number();
+        const auto [solid, what] = words.next<Solid, Size>();
         EdgeQuery query;
         if (solid != Solid()) // (0 stands for any)
             query.solid = solid;
         if (what == 1) {
-            const auto one = words.name<Face>();
-            query.between = {one, words.name<Face>()};
+            const auto [one, other] = words.next<Face, Face>();
+            query.between = {one, other};
         }
         if (what == 2)
-            query.along = words.point();
+            query.along = words.one<Point>();
         if (what == 3)
-            query.length = words.ratio();
-        const Result<std::vector<Edge>> found = find_edges(*attempt_, query);
-        if (is_well(found))
-            put(*found);
+            query.length = words.one<Ratio>();
+        tell(find_edges(*attempt, query));
     }
-
-    std::unique_ptr<Workbench> bench_;
-    std::optional<Attempts> attempt_;
-    std::optional<Draft> draft_;
+    void crossings(Solid solid, Solid other)
+    {
+        const auto found = find_crossings(*attempt, solid, other != Solid() ? std::optional(other) : std::nullopt); // (0 stands for none)
+        if (!is_well(found))
+            return;
+        for (const Crossing &crossing : *found) {
+            put(crossing.first), put(crossing.second);
+            put_place(crossing.point, narrow(crossing.scale));
+        }
+    }
 };
+
+using Call = std::function<void(Given &, Words &)>;
+
+// What a line gives by a call that takes what the words say, of these kinds in their order.
+template <class... Kinds, class Made> static Call in_order(Made call)
+{
+    return [call](Given &on, Words &words) {
+        std::apply([&](const auto &...each) { on.tell(call(*on.attempt, each...)); }, words.next<Kinds...>());
+    };
+}
+
+static const std::map<std::string, Call> CALLS = {
+    {"part", [](Given &on, Words &) { on.open(), std::cout << "ok"; }},
+    {"list", [](Given &on, Words &) { std::cout << on.bench->listing(); }},
+    {"load", [](Given &on, Words &words) { on.load(words.text()), std::cout << "ok"; }},
+    {"draft", [](Given &on, Words &) { on.draft.emplace(on.bench->draft()), std::cout << "ok"; }},
+    {"commit", [](Given &on, Words &) { on.draft->commit(), on.draft.reset(), std::cout << "ok"; }},
+    {"abandon", [](Given &on, Words &) { on.draft.reset(), std::cout << "ok"; }},
+    {"undo", [](Given &on, Words &) { on.tell(on.attempt->undo()); }},
+    {"redo", [](Given &on, Words &) { on.tell(on.attempt->redo()); }},
+    {"block", [](Given &on, Words &words) { on.block(words); }},
+    {"polyhedron", [](Given &on, Words &words) { on.polyhedron(words); }},
+    {"copy", [](Given &on, Words &words) { on.copy(words); }},
+    {"renumber", [](Given &on, Words &) { on.renumber(); }},
+    {"separate", [](Given &on, Words &words) { on.separate(words.one<Solid>()); }},
+    {"faces", [](Given &on, Words &words) { on.faces(words); }},
+    {"edges", [](Given &on, Words &words) { on.edges(words); }},
+    {"crossings", [](Given &on, Words &words) { std::apply([&on](const auto &...all) { on.crossings(all...); }, words.next<Solid, Solid>()); }},
+    {"trim", [](Given &on, Words &words) { std::apply([&on](const auto &...all) { on.trim(all...); }, words.next<Solid, CutPlane>()); }},
+    {"profile", in_order<Solid, Point, Points>([](auto &bench, Solid solid, auto &along, auto &points) { return profile(bench, solid, points, along); })},
+    {"ring", in_order<Face, Points>([](auto &...all) { return ring(all...); })},
+    {"hole", in_order<Face, Points>([](auto &...all) { return hole(all...); })},
+    {"pocket", in_order<Face, Size, Points>([](auto &bench, Face face, Size depth, auto &points) { return pocket(bench, face, points, depth); })},
+    {"boss", in_order<Face, Size, Points>([](auto &bench, Face face, Size height, auto &points) { return boss(bench, face, points, height); })},
+    {"notch", in_order<Face, Size, Points>([](auto &bench, Face face, Size depth, auto &points) { return notch(bench, face, points, depth); })},
+    {"pad", in_order<Face, Size, Points>([](auto &bench, Face face, Size height, auto &points) { return pad(bench, face, points, height); })},
+    {"pocket_along", in_order<Face, Point, Points>([](auto &bench, Face face, auto &along, auto &points) { return pocket_along(bench, face, points, along); })},
+    {"boss_along", in_order<Face, Point, Points>([](auto &bench, Face face, auto &along, auto &points) { return boss_along(bench, face, points, along); })},
+    {"notch_along", in_order<Face, Point, Points>([](auto &bench, Face face, auto &along, auto &points) { return notch_along(bench, face, points, along); })},
+    {"pad_along", in_order<Face, Point, Points>([](auto &bench, Face face, auto &along, auto &points) { return pad_along(bench, face, points, along); })},
+    {"drill", [](Given &on, Words &words) {
+         std::apply([&on](const auto &...all) { on.drill(drill(*on.attempt, all...)); }, words.next<Face, Point, Size, Count, Size>());
+     }},
+    {"drill_along", [](Given &on, Words &words) {
+         std::apply([&on](const auto &...all) { on.drill(drill_along(*on.attempt, all...)); }, words.next<Face, Point, Size, Count, Point>());
+     }},
+    {"slot", in_order<Face, Point, Point, Size, Size>([](auto &...all) { return slot(all...); })},
+    {"slot_along", in_order<Face, Point, Point, Size, Point>([](auto &...all) { return slot_along(all...); })},
+    {"groove", in_order<Face, Point, Point, Size, Size>([](auto &...all) { return groove(all...); })},
+    {"groove_along", in_order<Face, Point, Point, Size, Point>([](auto &...all) { return groove_along(all...); })},
+    {"shoulder", in_order<Face, Edge, Size, Size>([](auto &...all) { return shoulder(all...); })},
+    {"shoulder_along", in_order<Face, Edge, Size, Point>([](auto &...all) { return shoulder_along(all...); })},
+    {"chamfer", in_order<Edge, Size, Size>([](auto &...all) { return chamfer(all...); })},
+    {"chamfer_edges", in_order<Size, std::vector<Edge>>([](auto &bench, Size width, auto &edges) { return chamfer_edges(bench, edges, width); })},
+    {"kill", in_order<Solid>([](auto &...all) { return kill_solid(all...); })},
+    {"move", in_order<Solid, Motion>([](auto &...all) { return move_solid(all...); })},
+    {"pattern", in_order<Solid, Count, Point>([](auto &...all) { return pattern(all...); })},
+    {"pattern_around", in_order<Solid, Count, Count, Count, Point>([](auto &...all) { return pattern_around(all...); })},
+    {"scale", in_order<Size>([](auto &...all) { return scale(all...); })},
+    {"glue_all", in_order<Solids>([](auto &...all) { return glue_all(all...); })},
+    {"union", in_order<Solids>([](auto &...all) { return unite(all...); })},
+    {"intersect", in_order<Solids>([](auto &...all) { return intersect(all...); })},
+    {"subtract", in_order<Solid, Solids>([](auto &...all) { return subtract(all...); })},
+    {"join_faces", in_order<Solid>([](auto &...all) { return join_faces(all...); })},
+    {"split", in_order<Solid, CutPlane, Solid>([](auto &...all) { return split_solid(all...); })},
+    {"cut", in_order<Solid, CutPlane, Solid>([](auto &...all) { return cut(all...); })},
+    {"off_lattice", in_order<Solid, CutPlane>([](auto &...all) { return off_lattice(all...); })},
+    {"advice", [](Given &on, Words &words) {
+         std::apply([&on](const auto &...all) { std::cout << off_lattice(*on.bench, all...).advice(Solid(77)); }, words.next<Solid, CutPlane>());
+     }}};
 
 int main()
 {
@@ -571,7 +328,7 @@ int main()
         const std::string word = line.substr(0, space);
         Words words(line.substr(std::min(space + 1, line.size())));
         std::cout << "> " << word << '\n';
-        given.give(word, words);
+        CALLS.at(word)(given, words);
         std::cout << '\n';
     }
 }
