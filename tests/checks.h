@@ -1,7 +1,8 @@
-/* What tests of the library in C and C++ count: what holds, and what doesn't, which is named. */
+/* What tests of the library in C and C++ count: what holds, and what doesn't, which is named; and numbers at random, the same in each run. */
 #ifndef GWB_TESTS_CHECKS_H
 #define GWB_TESTS_CHECKS_H
 #include <stdbool.h>
+#include <stdint.h>
 #include <stdio.h>
 
 static long passed, failed;
@@ -18,6 +19,14 @@ static inline bool check(bool holds, const char *what)
 #include <string>
 static inline bool check(bool holds, const std::string &what) { return check(holds, what.c_str()); }
 #endif
+
+/* A number below another, by this state, which changes. */
+static inline uint32_t at_random(uint64_t *state, uint32_t n)
+{
+    *state = *state * UINT64_C(6364136223846793005) + UINT64_C(1442695040888963407);
+    const uint32_t high = *state >> 33;
+    return high % n;
+}
 
 /* The status of a program, when it has told how many hold. */
 static inline int counted(void)

@@ -11,11 +11,7 @@
 enum { COMMANDS = 60, ROOM = 4000, TEXT = 400000 };
 
 static uint64_t seed = 3;
-static uint32_t below(uint32_t n)
-{
-    seed = seed * UINT64_C(6364136223846793005) + UINT64_C(1442695040888963407);
-    return (uint32_t)(seed >> 33) % n;
-}
+static uint32_t below(uint32_t n) { return at_random(&seed, n); }
 
 /* ---- what is told */
 

@@ -168,11 +168,7 @@ public:
     static std::map<std::string, long> counts;
 
 private:
-    std::uint32_t below(std::uint32_t n)
-    {
-        state_ = state_ * UINT64_C(6364136223846793005) + UINT64_C(1442695040888963407);
-        return static_cast<std::uint32_t>(state_ >> 33) % n;
-    }
+    std::uint32_t below(std::uint32_t n) { return at_random(&state_, n); }
 
     // ---- what is in use
 

@@ -11,12 +11,8 @@ enum { ROOM = 1 << 16 };
 
 static long changes = 4000;
 
-static uint32_t random_below(uint32_t most)
-{
-    static uint64_t state = 12345;
-    state = state * UINT64_C(6364136223846793005) + 1442695040888963407;
-    return (uint32_t)(state >> 33) % most;
-}
+static uint64_t seed = 12345;
+static uint32_t below(uint32_t n) { return at_random(&seed, n); }
 
 /* The scripts of models: a wire, a triangle, a block beside one with a hole, a face with a lone ring, and four solids. */
 static const char *const scripts[] = {
@@ -50,10 +46,10 @@ static void add_hole(gwb *g)
 static size_t change(char *text, size_t length)
 {
     static const char bytes[] = "0123456789 +-\nabcdefghijklmnopqrstuvwxyz";
-    size_t at = random_below((uint32_t)length), end = at;
-    switch (random_below(4)) {
-    case 0: text[at] = bytes[random_below(sizeof bytes - 1)]; return length;
-    case 1: text[at] = (char)('0' + random_below(10)); return length;
+    size_t at = below((uint32_t)length), end = at;
+    switch (below(4)) {
+    case 0: text[at] = bytes[below(sizeof bytes - 1)]; return length;
+    case 1: text[at] = (char)('0' + below(10)); return length;
     case 2:
         while (end < length && text[end] != '\n')
             end++;
@@ -164,7 +160,7 @@ static void draw_edges(struct map *map, uint32_t vertices, uint32_t edges)
 {
     map->vertices = vertices, map->edges = edges;
     for (uint32_t i = 0; i < edges; i++) {
-        uint32_t one = i + 1 < vertices ? i + 1 : random_below(vertices), other = random_below(i + 1 < vertices ? i + 1 : vertices);
+        uint32_t one = i + 1 < vertices ? i + 1 : below(vertices), other = below(i + 1 < vertices ? i + 1 : vertices);
         map->ends[2 * i] = one;
         map->ends[2 * i + 1] = other != one ? other : (one + 1) % vertices;
     }
@@ -178,7 +174,7 @@ static void draw_orders(struct map *map)
     memset(last, 0xff, sizeof last);
     for (uint32_t i = 0; i < 2 * map->edges; i++) {
         uint32_t at = last[map->ends[i]];
-        for (uint32_t steps = at != UINT32_MAX ? random_below(5) : 0; steps > 0; steps--)
+        for (uint32_t steps = at != UINT32_MAX ? below(5) : 0; steps > 0; steps--)
             at = round[at];
         round[i] = at != UINT32_MAX ? round[at] : i;
         round[at != UINT32_MAX ? at : i] = i;
@@ -196,7 +192,7 @@ static void draw_faces(struct map *map)
     for (uint32_t i = 0; i < 2 * map->edges; i++) {
         if (map->loop[i] != 0)
             continue;
-        map->faces += map->faces == 0 || random_below(4) != 0;
+        map->faces += map->faces == 0 || below(4) != 0;
         map->face[map->loops++] = map->faces;
         for (uint32_t at = i; map->loop[at] == 0; at = map->after[at])
             map->loop[at] = map->loops;
@@ -230,7 +226,7 @@ static size_t write_map(const struct map *map, char *text)
     for (uint32_t i = 0; i < map->edges; i++)
         at += sprintf(at, "edge %u %u %u\n", i + 1, map->ends[2 * i] + 1, map->ends[2 * i + 1] + 1);
     for (uint32_t i = 0; i < map->vertices; i++)
-        at += sprintf(at, "vertex %u %u %u 0\n", i + 1, random_below(100), i);
+        at += sprintf(at, "vertex %u %u %u 0\n", i + 1, below(100), i);
     return (size_t)(at - text);
 }
 
@@ -252,7 +248,7 @@ static void try_map(uint32_t vertices, uint32_t edges, bool is_refused)
 static void try_maps(void)
 {
     for (long i = 0; i < changes / 8 + 4; i++)
-        try_map(2 + random_below(8), 9 + random_below(30), i % 50 == 0);
+        try_map(2 + below(8), 9 + below(30), i % 50 == 0);
     for (uint32_t i = 0; i < 4; i++)
         try_map(2 + i * i * i * 100, EDGES, false);
 }

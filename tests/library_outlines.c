@@ -13,11 +13,7 @@
 enum { MOST = 20000 };
 
 static uint64_t seed = 11;
-static int64_t below(int64_t n)
-{
-    seed = seed * UINT64_C(6364136223846793005) + UINT64_C(1442695040888963407);
-    return (int64_t)(seed >> 33) % n;
-}
+static int64_t below(int64_t n) { return at_random(&seed, (uint32_t)n); }
 
 /* ---- all pairs of sides compared */
 

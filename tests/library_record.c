@@ -3,7 +3,7 @@
  *
  *     library_record [ROUNDS]     so many sessions: 200 where none is said */
 #include "checks.h"
-#include "gwb.h"
+#include "heaps.h"
 #include <stdio.h>
 #include <stdlib.h>
 #include <string.h>
@@ -11,40 +11,10 @@
 enum { ROOM = 400000, TURNS = 60 };
 
 static uint64_t seed = 7;
-static uint32_t below(uint32_t n)
-{
-    seed = seed * UINT64_C(6364136223846793005) + UINT64_C(1442695040888963407);
-    return (uint32_t)(seed >> 33) % n;
-}
+static uint32_t below(uint32_t n) { return at_random(&seed, n); }
 
-/* ---- a heap that refuses one request in so many */
-
-static long requests, refused_one_in, live;
-
-static bool refuses(void) { return refused_one_in != 0 && ++requests % refused_one_in == 0; }
-
-static void *take(void *user, size_t size)
-{
-    (void)user;
-    void *block = refuses() ? NULL : malloc(size);
-    live += block != NULL;
-    return block;
-}
-
-static void *grow(void *user, void *block, size_t size)
-{
-    (void)user;
-    return refuses() ? NULL : realloc(block, size);
-}
-
-static void give_back(void *user, void *block)
-{
-    (void)user;
-    live -= block != NULL;
-    free(block);
-}
-
-static const gwb_heap heap = {take, grow, give_back, NULL};
+static struct requests requests; /* of which one in so many is refused */
+static const gwb_heap heap = {take, grow, give_back, &requests};
 
 /* ---- random commands */
 
@@ -182,7 +152,7 @@ static void round_of(gwb *g)
     }
     if (below(2) == 0)
         give_part(g);
-    refused_one_in = 0; /* a listing takes memory too */
+    requests.one_in = 0; /* a listing takes memory too */
     if (is_script(g))
         give_again(g);
     else
@@ -229,11 +199,11 @@ static void try_beginning(void)
         abort();
     check(gwb_record(&g) == GWB_OK && gwb_record(&g) == GWB_OK, "recorded before");
     check(gwb_block(&g, 1, 0, 0, 0, 4, 4, 4) == GWB_OK && gwb_record(&g) == GWB_OK && gwb_recorded(&g) == 1, "recorded before a command");
-    refused_one_in = 1;
+    requests.one_in = 1;
     check(gwb_draft(&g) == GWB_MEMORY, "a draft where memory is refused");
     check(gwb_lamina(&g, 1, points, 64) == GWB_MEMORY && gwb_recorded(&g) == 1, "memory for a line is refused");
     check(gwb_line(&g, "volume 1", 8) == GWB_VOLUME && gwb_undo(&g) == GWB_OK && gwb_redo(&g) == GWB_OK && gwb_line(&g, "vol", 3) == GWB_FAULT, "other calls and lines");
-    refused_one_in = 0;
+    requests.one_in = 0;
     check(gwb_lamina(&g, 1, points, 64) == GWB_REFUSED, "the same command with memory");
     gwb_close(&g);
     if (!gwb_open(&g) || gwb_mvfs(&g, 1, 1, 1, 1, 0, 0, 0) != GWB_OK)
@@ -273,16 +243,16 @@ int main(int argc, char **argv)
     try_changes();
     for (long round = 0; round < rounds; round++) {
         gwb g = {0};
-        refused_one_in = 0;
+        requests.one_in = 0;
         if (!gwb_open_in(&g, &heap))
             abort();
-        refused_one_in = round % 2 == 0 ? 0 : 3 + (long)below(40);
+        requests.one_in = round % 2 == 0 ? 0 : 3 + (long)below(40);
         while (gwb_record(&g) == GWB_MEMORY)
             ;
         round_of(&g);
         gwb_close(&g);
-        check(live == 0, "leaks");
-        live = 0;
+        check(requests.live == 0, "leaks");
+        requests.live = 0;
     }
     return counted();
 }

@@ -12,11 +12,7 @@
 enum { ROOM = 200000, TURNS = 80, MOST = 4000, KINDS = 2 };
 
 static uint64_t seed = 5;
-static uint32_t below(uint32_t n)
-{
-    seed = seed * UINT64_C(6364136223846793005) + UINT64_C(1442695040888963407);
-    return (uint32_t)(seed >> 33) % n;
-}
+static uint32_t below(uint32_t n) { return at_random(&seed, n); }
 
 /* ---- calls, the same to each session */
 
