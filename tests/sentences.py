@@ -4,12 +4,13 @@
     tests/sentences.py [--write] [--index]
 
 A theorem is a definition of crates/*/specs or a public function of crates/*/src, by its contract. A sentence has those that it names between backticks,
-the last one before a quotation also those that are quoted, and else those of its paragraph (an item of a list, a table) in tests/sentences.txt. There
-a line has how many sentences the paragraph has, its theorems and, behind `<`, its first words; in the place of theorems stands `explains` where the
-kernel is claimed nothing of that isn't said elsewhere, and `tested`, or the name of a file of tests/, where a claim is tested and not proved. In gwb.h a
-comment is a paragraph, known by the call or type below it, and what stands beside the members of a type belongs to it. So a sentence that is added or
-taken away shows. --write lists the paragraphs anew, new ones with `?`, which is wrong as long as it stands there; --index prints each sentence with the
-files and lines of its theorems. The last line counts the paragraphs.
+but calls of C (gwb_..); the last one before a quotation also those that are quoted. It has besides those of its paragraph (an item of a list, a table) in
+tests/sentences.txt, where each paragraph stands in which a sentence has none of its own, and any other that needs more than it names. There a line has
+how many sentences the paragraph has, its theorems and, behind `<`, its first words; in the place of theorems stands `explains` where the kernel is claimed
+nothing of that isn't said elsewhere, and `tested`, or the name of a file of tests/, where a claim is tested and not proved. In gwb.h a comment is a
+paragraph, known by the call or type below it, and what stands beside the members of a type belongs to it. So a sentence that is added or taken away
+shows. --write lists the paragraphs anew, new ones with `?`, which is wrong as long as it stands there; --index prints each sentence with the files and
+lines of its theorems. The last line counts the paragraphs.
 """
 import re
 import sys
@@ -128,9 +129,9 @@ def said_in(page: str) -> List[Paragraph]:
 
 
 def named(sentence: str, known: Places) -> List[str]:
-    """The theorems that a sentence names: names of more than one word, as `MarksLeadBack`, `Session::undo`, `make_all`."""
+    """The theorems that a sentence names: names of more than one word, as `MarksLeadBack`, `Session::undo`, `make_all`, that aren't calls of C."""
     words = (word.replace('.', '::') for word in _NAMED.findall(sentence))
-    return [word for word in words if word in known and re.search(r'_|::|[a-z][A-Z]|^[A-Z][a-z]+$', word)]
+    return [word for word in words if word in known and re.search(r'_|::|[a-z][A-Z]|^[A-Z][a-z]+$', word) and not word.startswith('gwb_')]
 
 
 def own(paragraph: Paragraph, known: Places) -> List[List[str]]:
@@ -151,10 +152,11 @@ def listed() -> Dict[str, Tuple[int, List[str]]]:
 
 
 def needed(known: Places) -> Dict[str, Paragraph]:
-    """The paragraphs of which some sentence has no theorem of its own."""
+    """The paragraphs of which some sentence has no theorem of its own, and those that are listed all the same."""
     found: Dict[str, Paragraph] = {}
+    rows = listed()
     for paragraph in (it for page in PAGES for it in said_in(page)):
-        if not all(own(paragraph, known)):
+        if paragraph.key in rows or not all(own(paragraph, known)):
             assert paragraph.key not in found, f'two paragraphs begin {paragraph.key!r}'
             found[paragraph.key] = paragraph
     return found
@@ -193,7 +195,7 @@ def index(known: Places) -> Iterator[str]:
     for paragraph in (it for page in PAGES for it in said_in(page)):
         for sentence, names in zip(paragraph.sentences, own(paragraph, known)):
             yield f'{paragraph.page}: {sentence}'
-            for name in names or rows.get(paragraph.key, (0, ['?']))[1]:
+            for name in dict.fromkeys([*names, *rows.get(paragraph.key, (0, [] if names else ['?']))[1]]):
                 yield f'    {name} {" ".join(known.get(name, []))}'
 
 
