@@ -6,7 +6,7 @@ from typing import Callable, Dict, Hashable, Iterator, List, NamedTuple, Optiona
 from ..errors import Unfit
 from ..geometry.flat_face import ExactVector
 from ..geometry.free_numbers import from_least, sorted_model
-from ..geometry.measures import anchor, normal, why_unfit
+from ..geometry.measures import area_vector, normal, why_unfit
 from ..geometry.model import Face, Loop, Model
 from ..geometry.nesting import Enclosures, Shell, nests
 from ..geometry.plane_figures import Exact
@@ -38,15 +38,20 @@ class Imported(NamedTuple):
     wrong: List[str]
 
 
-def model_of_parts(parts: Sequence[Part], scale: Exact, rounded: bool, keep_triangles: bool, repair: bool = False,
+def model_of_parts(parts: List[Part], scale: Exact, rounded: bool, keep_triangles: bool, repair: bool = False,
                    stage: Stage = lambda name: None, within: Exact = 0) -> Imported:
     """The model with a solid for each part, for the parts of one named solid together, or for each outer shell where the file doesn't
-    say which shells are a solid."""
+    say which shells are a solid. The polygons of parts, which are as large as the model, are taken out of the list."""
     work = _Work(Grid(scale, rounded, within), scale, keep_triangles, repair)
-    found = [(part, surface) for part, surface in ((part, work.surface(number, part)) for number, part in enumerate(parts, 1))
-             if surface is not None]
-    held, surfaces = [(part, surface.origins) for part, surface in found], [surface for _, surface in found]
-    del found    # (the sides of surfaces are as large as the model)
+    held: List[Tuple[Part, Sequence[Sequence[int]]]] = []
+    surfaces: List[Surface] = []
+    for place, part in enumerate(parts):
+        surface = work.surface(place + 1, part)
+        parts[place] = part._replace(points=[], polygons=[])
+        if surface is not None:
+            held.append((parts[place], surface.origins))
+            surfaces.append(surface)
+    del part, surface
     model = model_of_surfaces(surfaces)
     stage('looking for shells')
     shells, measured = {solid: model.shells(solid) for solid in model.solids}, _Measured(model)
@@ -158,18 +163,18 @@ class _Measured:
 
     def __init__(self, model: Model) -> None:
         self.unfit: Dict[int, str] = {}
-        self._volumes: Dict[int, int] = {}
+        self._volumes: List[int] = []    # (by the faces' numbers, which are 1 and on)
         for face, row in model.faces.items():
-            across = normal(model, face)
-            self._volumes[face] = dot(across, anchor(model, face))
-            is_triangle = not row.rings and len(model.loops[row.outer].halves) == 3
-            why = None if is_triangle and across != ZERO else why_unfit(model, face)
+            points = model.loop_points(row.outer)
+            across = normal(model, face) if row.rings else area_vector(points)
+            self._volumes.append(dot(across, points[0]))
+            why = None if len(points) == 3 and not row.rings and across != ZERO else why_unfit(model, face)
             if why is not None:
                 self.unfit[face] = why
 
     def volume(self, faces: Sequence[int]) -> int:
         """Six times the volume that faces enclose."""
-        return sum(self._volumes[face] for face in faces)
+        return sum(self._volumes[face - 1] for face in faces)
 
     def are_fit(self, faces: Sequence[int]) -> bool:
         """Whether all of the faces are plain flat ones."""
@@ -246,11 +251,12 @@ def _with_solids(model: Model, groups: Sequence[_Solid]) -> Model:
 def _looks(held: Sequence[Tuple[Part, Sequence[Sequence[int]]]], groups: Sequence[_Solid], model: Model) -> Dict[Thing, Appearance]:
     """The names and colours of solids and of faces by their numbers."""
     plain = Appearance()
-    origins = dict(zip(model.faces, ((part, origins) for part, of_faces in held for origins in of_faces)))
+    marked = any(part.groups or part.face_looks for part, _ in held)
+    origins = dict(zip(model.faces, ((part, origins) for part, of_faces in held for origins in of_faces))) if marked else {}
     looks: Dict[Thing, Appearance] = {}
     for solid, group in enumerate(groups, 1):
         part = held[group.part][0]
-        looks['solid', solid] = part.look._replace(name=part.look.name or _group_of(part, [origins[face][1] for face in group.faces]))
+        looks['solid', solid] = part.look._replace(name=part.look.name or _group_of(part, [origins[face][1] for face in group.faces] if part.groups else []))
     for face, (part, places) in origins.items():
         looks['face', face] = part.face_looks.get(places[0], plain)
     shown = ((thing, look.unnumbered()) for thing, look in looks.items() if look != plain)

@@ -3,7 +3,7 @@
 import struct
 from fractions import Fraction
 from math import sqrt
-from typing import Dict, Iterator, List, NamedTuple, Optional, Sequence, Tuple
+from typing import Dict, Iterator, List, Optional, Sequence, Tuple
 
 from ..geometry.flat_face import ExactVector
 from ..geometry.vectors import Vector, cross, subtract
@@ -109,26 +109,22 @@ class _Block:
         return self._places.put(key, self._numbers.point(words)) if place is None else place
 
 
-class _Floats(NamedTuple):
-    """Twelve numbers of a facet: its normal, and three points."""
-
-    parts: Sequence[float]
-
-    def corner(self, number: int) -> Tuple[float, ...]:
-        """The corner 0, 1 or 2."""
-        return tuple(self.parts[3 * number + 3:3 * number + 6])
-
-
 def _binary(data: bytes) -> Part:
     count, behind = _facets(data)
     require_few(count)
-    places = _Places()
-    gathered = Gathered(places.points)
-    for parts in struct.iter_unpack('<12fH', data[_HEAD:_HEAD + _FACET * count]):
-        facet = _Floats(parts)
-        gathered.add([_float_corner(facet.corner(number), places) for number in range(3)])
+    places: Dict[Tuple[float, ...], int] = {}
+    name = [places.setdefault(corner, len(places)) for corner in _corners(data[_HEAD:_HEAD + _FACET * count])]
     notes = (f'{behind} bytes behind the last facet were left out',) if behind else ()
-    return Part(gathered.points, gathered.polygons, parted=True, notes=notes)
+    points = [(of_float(x), of_float(y), of_float(z)) for x, y, z in places]
+    return Part(points, [[name[at:at + 3]] for at in range(0, len(name), 3)], parted=True, notes=notes)
+
+
+def _corners(facets: bytes) -> Iterator[Tuple[float, ...]]:
+    """The corners of facets, of which each has a normal, three corners and two bytes more."""
+    for x, y, z, a, b, c, u, v, w in struct.iter_unpack('<12x9f2x', facets):
+        yield x, y, z
+        yield a, b, c
+        yield u, v, w
 
 
 def _facets(data: bytes) -> Tuple[int, int]:
@@ -140,14 +136,6 @@ def _facets(data: bytes) -> Tuple[int, int]:
     if behind < 0 or behind and behind % _FACET == 0:
         raise NotAMesh(f'it is binary STL whose head says {said:,} facets, and there are {room // _FACET:,}')
     return said, behind
-
-
-def _float_corner(corner: Tuple[float, ...], places: _Places) -> int:
-    place = places.known(corner)
-    if place is not None:
-        return place
-    x, y, z = map(of_float, corner)
-    return places.put(corner, (x, y, z))
 
 
 def stl_text(mesh: Mesh, unit: Fraction = Fraction(1)) -> str:

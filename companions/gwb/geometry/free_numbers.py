@@ -82,7 +82,8 @@ def from_least(halves: Iterable[int]) -> Tuple[int, ...]:
     """The cycle from its least half-edge on, by edge, `+` before `-`."""
     cycle = tuple(halves)
     least = min([abs(half) for half in cycle])
-    return begun_at(cycle, least if least in cycle else -least)
+    least = least if least in cycle else -least
+    return cycle if cycle[0] == least else begun_at(cycle, least)
 
 
 def begun_at(cycle: Tuple[Item, ...], first: Item) -> Tuple[Item, ...]:

@@ -1,6 +1,6 @@
 """Sets that only grow together (union-find)."""
 
-from typing import Dict
+from typing import Dict, List
 
 
 class JoinedSets:
@@ -24,3 +24,10 @@ class JoinedSets:
         if name != other:
             self._above[other] = name
         return name != other
+
+    def sets(self) -> List[List[int]]:
+        """The members, rising, of each set of two or more."""
+        found: Dict[int, List[int]] = {}
+        for member in sorted({*self._above, *self._above.values()}):
+            found.setdefault(self.name(member), []).append(member)
+        return list(found.values())

@@ -1,12 +1,35 @@
 """The boundary model that a listing describes: solids, faces, loops, half-edges and vertices by their numbers."""
 
+from array import array
+from collections import defaultdict
 from dataclasses import dataclass, field
 from functools import cached_property
 from itertools import chain
 from operator import neg
-from typing import Dict, Iterable, Iterator, List, NamedTuple, Optional, Set, Tuple
+from typing import DefaultDict, Dict, Iterable, Iterator, List, MutableSequence, NamedTuple, Optional, Set, Tuple, Union
 
 from .vectors import Vector
+
+_SPARSE = 8
+
+# No number is 0, so that 0 stands for none.
+ByHalf = Union[MutableSequence[int], DefaultDict[int, int]]
+
+
+def by_half(greatest: int, count: int) -> ByHalf:
+    """A table of zeros for the half-edges of edges up to the greatest, of which some `count` are used.
+
+    It is an array, which -e indexes from its end; for few edges of large numbers it is a dictionary."""
+    if greatest > _SPARSE * (count + _SPARSE):
+        return defaultdict(int)
+    return array('i', bytes(4 * (2 * greatest + 1)))
+
+
+def are_of_the_same(one: ByHalf, other: ByHalf) -> bool:
+    """Whether two tables up to the same edge have numbers for the same half-edges."""
+    if isinstance(one, dict) and isinstance(other, dict):
+        return {half for half, number in one.items() if number} == {half for half, number in other.items() if number}
+    return list(map(bool, one)) == list(map(bool, other))
 
 
 class Loop(NamedTuple):
@@ -37,7 +60,7 @@ class Face(NamedTuple):
 class Outlines(Dict[int, Tuple[int, ...]]):
     """The vertices of loops in their order. Those of a loop are found when they are first asked for."""
 
-    def __init__(self, loops: Dict[int, Loop], tails: Dict[int, int]) -> None:
+    def __init__(self, loops: Dict[int, Loop], tails: ByHalf) -> None:
         super().__init__()
         self._loops, self._tail = loops, tails.__getitem__
 
@@ -62,15 +85,27 @@ class Model:
     edges: Dict[int, Tuple[int, int]]
     vertices: Dict[int, Vector]
     outlines: Outlines = field(init=False, repr=False, compare=False)
-    _sides: Dict[int, int] = field(init=False, repr=False, compare=False)
-    _tails: Dict[int, int] = field(init=False, repr=False, compare=False)
+    _sides: ByHalf = field(init=False, repr=False, compare=False)
+    _tails: ByHalf = field(init=False, repr=False, compare=False)
 
     def __post_init__(self) -> None:
-        sides = {half: number for number, face in self.faces.items()
-                 for loop in face.loops if loop in self.loops
-                 for half in self.loops[loop].halves}
-        tails = {edge: start for edge, (start, _) in self.edges.items()}
-        tails.update({-edge: end for edge, (_, end) in self.edges.items()})
+        try:
+            self._take(*(by_half(self._greatest(), len(self.edges)) for _ in range(2)))
+        except OverflowError:    # (where numbers are out of range, which is told later)
+            self._take(defaultdict(int), defaultdict(int))
+
+    def _greatest(self) -> int:
+        """The greatest number of an edge that is there, or is named by a loop."""
+        return max(max(self.edges, default=0), max([abs(half) for row in self.loops.values() for half in row.halves], default=0))
+
+    def _take(self, sides: ByHalf, tails: ByHalf) -> None:
+        """Puts the faces of half-edges, and the vertices at which they start, into tables."""
+        for number, face in self.faces.items():
+            for loop in face.loops if face.rings else (face.outer,):
+                for half in self.loops[loop].halves if loop in self.loops else ():
+                    sides[half] = number
+        for edge, (start, end) in self.edges.items():
+            tails[edge], tails[-edge] = start, end
         object.__setattr__(self, '_sides', sides)
         object.__setattr__(self, '_tails', tails)
         object.__setattr__(self, 'outlines', Outlines(self.loops, tails))
@@ -90,11 +125,13 @@ class Model:
 
     def is_paired(self) -> bool:
         """Whether the half-edges that stand in the loops of faces are the two of each edge."""
-        return self._sides.keys() == self._tails.keys()
+        return are_of_the_same(self._sides, self._tails)
 
     def some_half_at(self) -> Dict[int, int]:
         """For each vertex with edges one half-edge that starts there."""
-        return dict(zip(self._tails.values(), self._tails))
+        found = {start: edge for edge, (start, _) in self.edges.items()}
+        found.update({end: -edge for edge, (_, end) in self.edges.items()})
+        return found
 
     def face_of(self, half: int) -> int:
         """The face in whose loops the half-edge stands."""
@@ -122,9 +159,10 @@ class Model:
         return list(self.outlines[loop])
 
     def loop_points(self, loop: int) -> List[Vector]:
-        """The points of the loop in its order."""
-        vertices = self.vertices
-        return [vertices[vertex] for vertex in self.outlines[loop]]
+        """The points of the loop in its order. They are found without its outline, where that isn't known yet."""
+        halves, lone = self.loops[loop]
+        outline = self.outlines.get(loop) or (map(self._tails.__getitem__, halves) if lone is None else (lone,))
+        return list(map(self.vertices.__getitem__, outline))
 
     def face_halves(self, face: int) -> Iterator[int]:
         """The half-edges of all loops of the face."""
@@ -163,7 +201,8 @@ class Model:
         seen.add(start)
         reached, sides, faces, loops = [start], self._sides, self.faces, self.loops
         for face in reached:
-            for loop in faces[face].loops:
+            row = faces[face]
+            for loop in row.loops if row.rings else (row.outer,):
                 for half in loops[loop].halves:
                     beyond = sides[-half]
                     if beyond not in seen:

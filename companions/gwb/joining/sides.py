@@ -1,7 +1,9 @@
 """The sides of polygons, paired where faces meet."""
 
+from array import array
 from functools import cmp_to_key
-from typing import Dict, List, NamedTuple, Optional, Sequence, Set, Tuple
+from itertools import chain, repeat
+from typing import Dict, List, MutableSequence, NamedTuple, Optional, Sequence, Set, Tuple
 
 from ..errors import Unfit
 from ..geometry.vectors import Vector, ZERO, cross, dot, negative, subtract
@@ -26,28 +28,23 @@ class Sides:
     def __init__(self, soup: Soup) -> None:
         """Raises NotClosed, with the place, where the faces aren't a closed surface."""
         self.points = soup.points
-        self.start: List[int] = []
-        self.after: List[int] = []
-        self.face: List[int] = []
-        for place, face in enumerate(soup.faces):
-            for cycle in face:
-                self._take(place, cycle)
+        self.start = array('i', chain.from_iterable(chain.from_iterable(soup.faces)))
+        self.after = array('i', range(1, len(self.start) + 1))
+        self.face = array('i', chain.from_iterable([repeat(place, sum(map(len, face))) for place, face in enumerate(soup.faces)]))
+        first = 0
+        for cycle in chain.from_iterable(soup.faces):
+            last = first + len(cycle)
+            self.after[last - 1] = first
+            first = last
         self.mate = _mates(self, soup)
-
-    def _take(self, place: int, cycle: List[int]) -> None:
-        first, count = len(self.start), len(cycle)
-        self.start += cycle
-        self.after += range(first + 1, first + count)
-        self.after.append(first)
-        self.face += [place] * count
 
     def end(self, side: int) -> int:
         """The place of the point at which the side ends."""
         return self.start[self.after[side]]
 
-    def vertices(self) -> List[int]:
+    def vertices(self) -> MutableSequence[int]:
         """For each side the number of the vertex at which it starts. Where fans of faces meet at a point alone each has a vertex there."""
-        vertex = [-1] * len(self.start)
+        vertex = _none(len(self.start))
         count = 0
         for side in range(len(vertex)):
             if vertex[side] < 0:
@@ -55,11 +52,11 @@ class Sides:
                 count += 1
         return vertex
 
-    def _name_fan(self, first: int, name: int, vertex: List[int]) -> None:
-        side = first
+    def _name_fan(self, first: int, name: int, vertex: MutableSequence[int]) -> None:
+        side, after, mate = first, self.after, self.mate
         while vertex[side] < 0:
             vertex[side] = name
-            side = self.after[self.mate[side]]
+            side = after[mate[side]]
 
 
 class _Wrong(NamedTuple):
@@ -71,10 +68,16 @@ class _Wrong(NamedTuple):
     back: int
 
 
-def _mates(sides: Sides, soup: Soup) -> List[int]:
-    mate = [-1] * len(sides.start)
+def _none(count: int) -> MutableSequence[int]:
+    """So many places, each -1, which no side and no vertex has."""
+    return array('i', (-1,)) * count
+
+
+def _mates(sides: Sides, soup: Soup) -> MutableSequence[int]:
+    mate = _none(len(sides.start))
+    left = _left_alone(sides, mate)
     wrong: List[_Wrong] = []
-    for held in _by_ends(sides).values():
+    for held in _by_ends(sides, left).values():
         pairs = _pairs(held, sides, soup)
         if pairs is None:
             forth = [side for side in held if sides.start[side] == sides.start[held[0]]]
@@ -88,13 +91,35 @@ def _mates(sides: Sides, soup: Soup) -> List[int]:
     return mate
 
 
-def _by_ends(sides: Sides) -> Dict[int, List[int]]:
-    """The sides between the same two points, either way."""
-    held: Dict[int, List[int]] = {}
+def _left_alone(sides: Sides, mate: MutableSequence[int]) -> List[int]:
+    """Makes mates of the sides that are two between their points and run against each other. These are the others, rising."""
+    first: Dict[int, int] = {}
+    crowded: Set[int] = set()
     count, start, after = len(sides.points), sides.start, sides.after
     for side, begin in enumerate(start):
         end = start[after[side]]
-        held.setdefault(begin * count + end if begin < end else end * count + begin, []).append(side)
+        ends = begin * count + end if begin < end else end * count + begin
+        other = first.setdefault(ends, side)
+        if other == side:
+            continue
+        if mate[other] < 0 and start[other] != begin:
+            mate[side], mate[other] = other, side
+        else:
+            crowded.add(ends)
+    return [side for side, other in enumerate(mate) if other < 0 or crowded and _ends(sides, side) in crowded]
+
+
+def _ends(sides: Sides, side: int) -> int:
+    """A number for the two points that a side lies between, whichever way it runs."""
+    begin, end = sides.start[side], sides.end(side)
+    return min(begin, end) * len(sides.points) + max(begin, end)
+
+
+def _by_ends(sides: Sides, some: Sequence[int]) -> Dict[int, List[int]]:
+    """Some sides, by the two points that they lie between."""
+    held: Dict[int, List[int]] = {}
+    for side in some:
+        held.setdefault(_ends(sides, side), []).append(side)
     return held
 
 

@@ -25,6 +25,8 @@ def soup_of(points: Sequence[Vector], polygons: Sequence[Cycles]) -> Soup:
     than three corners; a surface that was closed stays closed."""
     places: Dict[Vector, int] = {}
     name = [places.setdefault(point, len(places)) for point in points]
+    if len(places) == len(points) and all(map(_is_plain, polygons)):
+        return Soup(list(points), list(polygons), list(range(len(polygons))))
     soup = Soup(list(places), [], [])
     for origin, polygon in enumerate(polygons):
         cycles = [_distinct([name[vertex] for vertex in cycle]) for cycle in polygon]
@@ -32,6 +34,11 @@ def soup_of(points: Sequence[Vector], polygons: Sequence[Cycles]) -> Soup:
             soup.faces.append([cycle for cycle in cycles if len(cycle) > 2])
             soup.origins.append(origin)
     return soup
+
+
+def _is_plain(polygon: Cycles) -> bool:
+    """Whether no corner of a polygon repeats another one of its cycle, and each cycle has at least three."""
+    return all(len(set(cycle)) == len(cycle) > 2 for cycle in polygon)
 
 
 def _distinct(cycle: List[int]) -> List[int]:
@@ -54,5 +61,5 @@ def is_bent(loops: Sequence[Sequence[Vector]], normal: Vector) -> bool:
 
 def direction(loops: Sequence[Sequence[Vector]]) -> Vector:
     """The way that a flat face looks; zero for one that is bent or has no area."""
-    normal = across(loops)
+    normal = across(loops) if len(loops) > 1 else area_vector(loops[0])
     return ZERO if normal == ZERO or is_bent(loops, normal) else reduced(normal)

@@ -1,7 +1,7 @@
 """Closed surfaces of polygons as models: faces of one plane joined, edges paired, vertices numbered."""
 
-from itertools import accumulate, chain
-from typing import Dict, Hashable, List, NamedTuple, Sequence, Tuple
+from itertools import accumulate, chain, islice
+from typing import Dict, Hashable, Iterator, List, MutableSequence, NamedTuple, Sequence, Tuple
 
 from ..errors import Unfit
 from ..geometry.free_numbers import LARGEST, from_least
@@ -20,7 +20,7 @@ class Surface(NamedTuple):
     sides: Sides
     faces: List[Sequence[Sequence[int]]]
     origins: List[Tuple[int, ...]]
-    vertex: List[int]
+    vertex: MutableSequence[int]
 
     def cycle_points(self, cycle: Sequence[int]) -> List[Vector]:
         """The points along a cycle of sides."""
@@ -30,9 +30,9 @@ class Surface(NamedTuple):
 def surface_of(soup: Soup) -> Surface:
     """The soup as a closed surface. Raises Unfit, with the place, where it isn't closed."""
     sides = Sides(soup)
-    first = chain((0,), accumulate(len(cycle) for face in soup.faces for cycle in face))
-    faces: List[Sequence[Sequence[int]]] = [[range(at, at + len(cycle)) for cycle, at in zip(face, first)] for face in soup.faces]
-    return Surface(sides, faces, [(origin,) for origin in soup.origins], sides.vertices())
+    ends = list(accumulate(chain((0,), (len(cycle) for face in soup.faces for cycle in face))))
+    cycles = map(range, ends, islice(ends, 1, None))
+    return Surface(sides, [tuple(islice(cycles, len(face))) for face in soup.faces], [(origin,) for origin in soup.origins], sides.vertices())
 
 
 def with_joined_faces(surface: Surface, tags: Sequence[Hashable], drop_arealess: bool = False) -> Surface:
@@ -40,21 +40,30 @@ def with_joined_faces(surface: Surface, tags: Sequence[Hashable], drop_arealess:
 
     Where faces without an area are to be dropped, each is joined to the face across its longest side.
     """
-    directions = [direction([surface.cycle_points(cycle) for cycle in face]) for face in surface.faces]
+    start, points = surface.sides.start, surface.sides.points
+    directions = [direction([[points[start[side]] for side in cycle] for cycle in face]) for face in surface.faces]
     regions = _regions(surface, directions, tags)
     if drop_arealess:
         _join_arealess(surface, regions)
-    members: Dict[int, List[int]] = {}
-    for place in range(len(surface.faces)):
-        members.setdefault(regions.name(place), []).append(place)
+    sets = regions.sets()
+    first, later = {held[0]: held for held in sets}, {place for held in sets for place in held[1:]}
     found = surface._replace(faces=[], origins=[])
-    for held in members.values():
-        looks = next((directions[place] for place in held if directions[place] != ZERO), ZERO)
-        faces: Sequence[Sequence[Sequence[int]]] = _joined(surface, held, looks, regions) if len(held) > 1 else []
-        found.faces.extend(faces or [surface.faces[place] for place in held])
-        origins = [surface.origins[place] for place in held]
-        found.origins.extend([tuple(chain.from_iterable(origins))] if faces else origins)
+    for place, face in enumerate(surface.faces):
+        if place in first:
+            _put_joined(found, surface, first[place], directions, regions)
+        elif place not in later:
+            found.faces.append(face)
+            found.origins.append(surface.origins[place])
     return found
+
+
+def _put_joined(found: Surface, surface: Surface, held: Sequence[int], directions: Sequence[Vector], regions: JoinedSets) -> None:
+    """Appends the one face that some are together, or each of them where they are none."""
+    looks = next((directions[place] for place in held if directions[place] != ZERO), ZERO)
+    faces: Sequence[Sequence[Sequence[int]]] = _joined(surface, held, looks, regions)
+    origins = [surface.origins[place] for place in held]
+    found.faces.extend(faces or [surface.faces[place] for place in held])
+    found.origins.extend([tuple(chain.from_iterable(origins))] if faces else origins)
 
 
 def _regions(surface: Surface, directions: Sequence[Vector], tags: Sequence[Hashable]) -> JoinedSets:
@@ -62,10 +71,10 @@ def _regions(surface: Surface, directions: Sequence[Vector], tags: Sequence[Hash
     regions = JoinedSets()
     face, origins = surface.sides.face, surface.origins
     for side, mate in enumerate(surface.sides.mate):
-        one, other = face[side], face[mate]
-        if (side < mate and directions[one] == directions[other] and directions[one] != ZERO
-                and tags[origins[one][0]] == tags[origins[other][0]]):
-            regions.join(one, other)
+        if side < mate:
+            one, other = face[side], face[mate]
+            if directions[one] == directions[other] != ZERO and tags[origins[one][0]] == tags[origins[other][0]]:
+                regions.join(one, other)
     return regions
 
 
@@ -130,6 +139,11 @@ def model_of_surfaces(surfaces: List[Surface]) -> Model:
     return builder.model(solids)
 
 
+def _used(surface: Surface) -> Iterator[int]:
+    """The sides of the faces, in their order."""
+    return chain.from_iterable(chain.from_iterable(surface.faces))
+
+
 class _Builder:
     """A model as it grows."""
 
@@ -141,34 +155,34 @@ class _Builder:
 
     def add(self, solid: int, surface: Surface) -> None:
         """One more solid."""
-        sides, vertex = surface.sides, surface.vertex
-        names = self._named(surface)
-        half: Dict[int, int] = {}
+        half = self._numbered(surface)
         for face in surface.faces:
-            first = len(self._loops) + 1
-            self._faces[len(self._faces) + 1] = Face(solid, first, tuple(range(first + 1, first + len(face))))
-            for cycle in face:
-                ends = [names[vertex[side]] for side in cycle]
-                self._loops[len(self._loops) + 1] = Loop(self._halves(cycle, ends, half, sides))
+            number, first = len(self._faces) + 1, len(self._loops) + 1
+            first = number if first == number else first    # (one object for both takes less room)
+            rings = tuple(range(first + 1, first + len(face))) if len(face) > 1 else ()
+            self._faces[number] = Face(solid, first, rings)
+            for loop, cycle in zip((first, *rings), face):
+                self._loops[loop] = Loop(from_least(map(half.__getitem__, cycle)))
 
-    def _named(self, surface: Surface) -> Dict[int, int]:
-        """The numbers of the surface's vertices that are used, in order of their use."""
-        names: Dict[int, int] = {}
-        used = (side for face in surface.faces for cycle in face for side in cycle)
-        for side in used:
-            if surface.vertex[side] not in names:
-                names[surface.vertex[side]] = len(self._vertices) + 1
-                self._vertices[len(self._vertices) + 1] = surface.sides.points[surface.sides.start[side]]
-        return names
+    def _numbered(self, surface: Surface) -> List[int]:
+        """For each side its half-edge, or 0 where it isn't used. Vertices and edges are numbered in the order of their first use."""
+        vertex, mate, half = self._named(surface), surface.sides.mate, [0] * len(surface.vertex)
+        for side in _used(surface):
+            if not half[side]:
+                edge, other = len(self._edges) + 1, mate[side]
+                self._edges[edge] = (vertex[side], vertex[other])
+                half[side], half[other] = edge, -edge
+        return half
 
-    def _halves(self, cycle: Sequence[int], ends: Sequence[int], half: Dict[int, int], sides: Sides) -> Tuple[int, ...]:
-        """The half-edges along a cycle; an edge is begun by the first of its sides."""
-        for place, side in enumerate(cycle):
-            if side not in half:
-                edge = len(self._edges) + 1
-                self._edges[edge] = (ends[place], ends[(place + 1) % len(ends)])
-                half[side], half[sides.mate[side]] = edge, -edge
-        return from_least(half[side] for side in cycle)
+    def _named(self, surface: Surface) -> List[int]:
+        """For each side the number of the vertex at which it starts, or 0 where none of its vertex's sides is used."""
+        vertex, start, points = surface.vertex, surface.sides.start, surface.sides.points
+        names = [0] * (max(vertex, default=-1) + 1)
+        for side in _used(surface):
+            if not names[vertex[side]]:
+                names[vertex[side]] = number = len(self._vertices) + 1
+                self._vertices[number] = points[start[side]]
+        return list(map(names.__getitem__, vertex))
 
     def model(self, solids: int) -> Model:
         """The model. Raises Unfit where it has more edges than there are numbers, or a point is out of range."""

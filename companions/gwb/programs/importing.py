@@ -47,8 +47,7 @@ def work(words: Optional[Sequence[str]]) -> int:
         progress.stage('writing')
         lines = [*comments(found.looks), *script_of(found.model)]
     _say(found, options.round)
-    for line in lines:
-        print(line)
+    sys.stdout.writelines(map('{}\n'.format, lines))
     return FOUND if found.wrong else OK
 
 

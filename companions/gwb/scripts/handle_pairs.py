@@ -13,10 +13,10 @@ def handle_pairs(cycle: List[int]) -> Iterator[Tuple[int, int]]:
     of an edge were met. What lies between them has one side only of each edge, so each of it leads across. What was met and is still
     in one piece needn't be walked again.
     """
-    ring, left = LinkedHalves([Loop(tuple(cycle))]), list(cycle)
+    ring, left, standing = LinkedHalves([Loop(tuple(cycle))]), list(cycle), len(cycle)
     met: List[int] = []
     known = set(met)
-    while ring.after:
+    while standing:
         half = ring.after[met[-1]] if met else _last_left(ring, left)
         if -half not in known:
             met.append(half)
@@ -28,13 +28,14 @@ def handle_pairs(cycle: List[int]) -> Iterator[Tuple[int, int]]:
         yield (abs(half), abs(across)) if (half < 0) == (across < 0) else (abs(across), abs(half))
         for gone in (half, across):
             ring.take(abs(gone))
+        standing -= 4
         met = _one_piece(before, between, -across)
         known = set(met)
 
 
 def _last_left(ring: LinkedHalves, left: List[int]) -> int:
     """The last half-edge of the list that still stands in the ring."""
-    while left[-1] not in ring.after:
+    while not ring.after[left[-1]]:
         left.pop()
     return left[-1]
 

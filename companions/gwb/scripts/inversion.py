@@ -4,11 +4,11 @@ Each solid is taken apart by operators whose inverses the script can say; these,
 edges between two faces go until each connected part has one; then handles go, two edges at a time, and the tree that is left.
 """
 
-from typing import Dict, List, NamedTuple, Sequence, Set
+from typing import Dict, List, Sequence, Set
 
 from ..geometry.free_numbers import FreeNumbers, numbers_of
 from ..geometry.joined_sets import JoinedSets
-from ..geometry.model import Model
+from ..geometry.model import Model, by_half
 from ..geometry.solids_apart import solids_apart
 from .handle_pairs import handle_pairs
 from .linked_halves import LinkedHalves
@@ -30,7 +30,7 @@ def taking_away(model: Model, beside: Sequence[Model] = ()) -> List[str]:
 
     Raises Unfit as script_of does. Cost: as script_of."""
     free = spare_numbers((model, *beside))
-    return [step.takes for alone in solids_apart(model) for step in steps_apart(alone, free)]
+    return [line for alone in solids_apart(model) for line in TakenApart(alone, free, is_making=False).steps()]
 
 
 def spare_numbers(held: Sequence[Model]) -> Dict[str, FreeNumbers]:
@@ -39,37 +39,29 @@ def spare_numbers(held: Sequence[Model]) -> Dict[str, FreeNumbers]:
 
 
 def solid_script(model: Model, free: Dict[str, FreeNumbers]) -> List[str]:
-    """The script of a model that has one solid."""
-    return [step.makes for step in reversed(steps_apart(model, free))]
-
-
-class Step(NamedTuple):
-    """An operator that takes something of a model away, and the one that makes it again."""
-
-    takes: str
-    makes: str
-
-
-def steps_apart(model: Model, free: Dict[str, FreeNumbers]) -> List[Step]:
-    """The steps that take a model of one solid away, in their order. Raises Unfit where a spare number is needed and none is free."""
-    return TakenApart(model, free).steps()
+    """The script of a model that has one solid. Raises Unfit where a spare number is needed and none is free."""
+    return TakenApart(model, free, is_making=True).steps()[::-1]
 
 
 class TakenApart:
-    """A solid as it is taken apart."""
+    """A solid as it is taken apart: of each step the operator is kept that takes something away, or the one that makes it again."""
 
-    def __init__(self, model: Model, free: Dict[str, FreeNumbers]) -> None:
+    def __init__(self, model: Model, free: Dict[str, FreeNumbers], is_making: bool) -> None:
+        self._is_making = is_making
         self._model = model
         self._free = free
-        self._steps: List[Step] = []
+        self._steps: List[str] = []
         self._halves = LinkedHalves(model.loops.values())
-        self._loop_of = {half: loop for loop, row in model.loops.items() for half in row.halves}
+        self._loop_of = by_half(max(model.edges, default=0), len(model.edges))
+        for loop, (halves, _) in model.loops.items():
+            for half in halves:
+                self._loop_of[half] = loop
         self._face_of = {row.outer: face for face, row in model.faces.items()}
         self._loops = JoinedSets()
         self._vertices = JoinedSets()
 
-    def steps(self) -> List[Step]:
-        """The steps, in the order in which they take the solid away."""
+    def steps(self) -> List[str]:
+        """The steps, in the order in which they take the solid away. Raises Unfit where a spare number is needed and none is free."""
         spare_faces = self._rings_out()
         trees = spanning_trees(self._model, self._model.vertices, list(self._model.edges))
         handles = self._merge_faces({abs(half) for tree in trees for half in tree.halves})
@@ -82,7 +74,7 @@ class TakenApart:
         return self._steps
 
     def _step(self, takes: str, makes: str) -> None:
-        self._steps.append(Step(takes, makes))
+        self._steps.append(makes if self._is_making else takes)
 
     def _rings_out(self) -> List[int]:
         """Each ring becomes the outer loop of a face of its own: these faces."""
@@ -99,21 +91,22 @@ class TakenApart:
 
     def _merge_faces(self, kept: Set[int]) -> List[int]:
         """All edges between two faces go except the kept ones. Returns the edges that then have one face on both sides."""
-        handles = []
+        handles, name, loop_of = [], self._loops.name, self._loop_of
         for edge in self._model.edges:
             if edge not in kept:
-                if self._loop(edge) == self._loop(-edge):
+                kept_loop, gone = name(loop_of[edge]), name(loop_of[-edge])
+                if kept_loop == gone:
                     handles.append(edge)
                 else:
-                    self._kef(edge)
+                    self._kef(edge, gone)
+                    self._loops.join(kept_loop, gone)
         return handles
 
-    def _kef(self, edge: int) -> None:
+    def _kef(self, edge: int, gone: int) -> None:
         """The edge goes, and the face and the loop on its mate's side."""
-        after, gone = self._halves.after, self._loop(-edge)
+        after = self._halves.after
         self._step(f'kef +{edge}', f'mef {after[-edge]:+d} {after[edge]:+d} {edge} {self._face_of[gone]} {gone}')
         self._halves.take(edge)
-        self._loops.join(self._loop(edge), gone)
 
     def _handles_out(self, edges: List[int]) -> None:
         """The edges that have one loop on both sides go, in each connected part by itself."""
@@ -193,7 +186,7 @@ class TakenApart:
     def _join_parts(self, roots: List[int]) -> None:
         """What is left is a face of one vertex for each part: all but the first grow from it by an edge that is cut again."""
         lone = {row.vertex: loop for loop, row in self._model.loops.items()}
-        some_half = {self._model.tail(half): half for half in self._loop_of}
+        some_half = self._model.some_half_at()
         ends = [(self._loop(some_half[root]) if root in some_half else lone[root], self._vertices.name(root)) for root in roots]
         (first, vertex), *others = ends
         for loop, grown in others:
