@@ -113,7 +113,7 @@ pub fn act(console: &mut Console, op: Op) -> u32
 }
 
 /// Takes the last command back, in place. A draft doesn't have this call.
-#[inline(never)]
+#[inline(always)]
 pub(crate) fn undo(console: &mut Console) -> u32
     ensures { ConsoleHeeds console.old (gives Command.Undo) console.new result }
 {
@@ -128,7 +128,7 @@ pub(crate) fn undo(console: &mut Console) -> u32
 }
 
 /// Does the next command again, in place. A draft doesn't have this call.
-#[inline(never)]
+#[inline(always)]
 pub(crate) fn redo(console: &mut Console) -> u32
     ensures { ConsoleHeeds console.old (gives Command.Redo) console.new result }
 {
