@@ -103,18 +103,24 @@ HEAD = """# Statements
 
 This page is for readers who want to check for themselves *what* is proved of gwb. A machine checked the proofs, so you needn't read them: you trust the
 prover, and read the theorems and the definitions of their words. Begin with [PROOFS.md](PROOFS.md), which says in plain words what the theorems promise, and
-explains [the signs](PROOFS.md#how-to-read-a-statement). There `f x y` is the value of the function f for x and y, `P → Q` says "if P, then Q", and
+explains [the signs](PROOFS.md#how-to-read-a-statement). In both pages `f x y` is the value of the function f for x and y, `P → Q` says "if P, then Q", and
 `(x : T) → Q` says "Q, for every x of the type T".
 
-Here are `make_all` and `run`, which say what gwb does, all laws of handles and of the bytes of scripts, and some laws of drafts, models and solids. A
-*law* is a theorem with a name. [PROOFS](PROOFS.md) names more laws, which have no chapter here: `grep -rw NAME crates/*/specs` finds each.
+A *law* is a theorem with a name. This page has a chapter for each of
 
-One limit first: the theorems about scripts speak of bytes in memory: if a run reads a file or a pipe, or writes to one, *nothing* is proved of
+- the two largest theorems, `make_all` and `run`, which say what gwb does
+- all laws of handles and of the bytes of scripts
+- some laws of drafts, models and solids. PROOFS names more, which have no chapter here: `grep -rw NAME crates/*/specs` finds each.
+
+One limit first: the theorems about scripts speak of bytes in memory. If a run reads a file or a pipe, or writes to one, *nothing* is proved of
 its bytes ([run](#run)). PROOFS says [what else is not proved](PROOFS.md#what-is-not-proved).
 
-If you have one hour, read [AnswersStay](#answersstay), [OthersCanBeLeftOut](#otherscanbeleftout) and [RepliesTell](#repliestell), which are short; then in
-PROOFS [the formulas](PROOFS.md#the-headline) of `make_all` and [Sound](PROOFS.md#sound-models); then those in [run](#run), and a law whose subject you know,
-such as [BlocksMeasure](#blocksmeasure).
+If you have one hour, read
+
+1. [How to read a chapter](#how-to-read-a-chapter)
+2. three short chapters: [AnswersStay](#answersstay), [OthersCanBeLeftOut](#otherscanbeleftout) and [RepliesTell](#repliestell)
+3. in PROOFS the definitions of [make_all](PROOFS.md#the-headline) and of [Sound](PROOFS.md#sound-models)
+4. the definitions in [run](#run), and a law whose subject you know, such as [BlocksMeasure](#blocksmeasure).
 
 The page is made from the sources by `tests/statement.py --write`: edit nothing here.
 
@@ -122,42 +128,50 @@ The page is made from the sources by `tests/statement.py --write`: edit nothing 
 """
 BELOW = """## How to read a chapter
 
-A chapter is about one theorem. Begin with a short one, such as [AnswersStay](#answersstay). A chapter has, in this order:
+A chapter is about one theorem. Take [AnswersStay](#answersstay), and read the first line of its definitions aloud: for every `script` and every text `more`, if
+the script is empty or ends with a newline (`EndsLine`), then there is a `reply` such that the lines of `more`, added to the script, add exactly this reply to
+what is answered (`Adds`). The lines below it define these words, and a comment above each (`--`) says the same in English.
 
-1. what the theorem says, in words
-2. its *contract*: the head of a function, and what is proved of it (`ensures`). Most contracts only name a law: then there is a link to the function instead
-3. the definition of this law, and those of the words in it that say most; if all definitions that it uses have at most 12 lines together, all of them. What
-   an earlier chapter quotes isn't quoted again. Above each stands a comment (`--`): one that begins with a name, its arguments and a colon is this page's, any
-   other is the source's
-4. a list of the other names in these definitions, each with its arguments and what it means. This is a help to read, not a part of the theorem. A name that
-   *To read* doesn't list has a link to its file. What at most three earlier chapters of the same group explain isn't explained again: the last item names
-   these chapters
-5. *To read*: how many definitions there are to read for this theorem, if you want to see for yourself what each word means, and how many lines they have;
-   then their names, below the files in which they stand, in the order in which they are first used; if there are more than 40, only how many each crate has.
-   If an earlier chapter lists or counts most of them already, only the others are named here
-6. *Not followed further*: definitions that are used, but aren't counted in *To read*, and neither is what they use in their turn
-7. *Types*: the types of the program that the definitions use. The last chapter says where each is declared
-8. *Sum*: twelve hexadecimal digits, to compare two versions of gwb. If a theorem has the same sum in both, then nothing of what there is to read for it has
-   changed, not even a comment. Compare also the sums of the chapters that have what isn't followed further: if they are the same too, you needn't read again
-   what you read once
+A chapter has, in this order:
 
-This command writes, for each theorem, a page that can be read alone, with everything in *To read* in full. *Sum* is the beginning of the SHA-256 checksum of
+1. *In words*: what the theorem says.
+2. *The contract*: the head of a function, and what is proved of it (`ensures`). Most contracts only name a law; then a link to the function stands there.
+3. *Definitions*: that of the law, and of the words in it that say most. If all definitions that it uses have at most 12 lines together, all of them stand
+   there. What an earlier chapter quotes isn't quoted again. A comment that begins with a name, its arguments and a colon is this page's; any other is the
+   source's.
+4. *Other names* in these definitions, each with its arguments and what it means. This list helps you to read; it isn't a part of the theorem. A name that
+   *To read* doesn't list has a link to its file. If at most three earlier chapters of the same group explain a name, it isn't explained again: the last item
+   names these chapters.
+5. *To read*: how many definitions there are to read for this theorem, if you want to see for yourself what each word means, and how many lines they have.
+   Then come their names, below the files in which they stand, in the order in which they are first used. If there are more than 40, you find only how many
+   each crate has. If an earlier chapter lists or counts most of them already, only the others are named.
+6. *Not followed further*: definitions that the theorem uses, but that *To read* doesn't count, and neither what they use in their turn.
+7. *Types*: the types of the program that the definitions use. The last chapter says where each is declared.
+8. *Sum*: twelve hexadecimal digits, to compare two versions of gwb. If a theorem has the same sum in both, nothing of what there is to read for it has
+   changed, not even a comment. If the sums of the chapters to which *Not followed further* leads are the same too, you needn't read again what you read once.
+
+This command writes for each theorem a page that can be read alone, with everything in *To read* in full. *Sum* is the beginning of the SHA-256 checksum of
 that page:
 
     tests/statement.py --pages FOLDER
 
-Some definitions are not followed further, since another chapter has them, and its sum covers them:
+What isn't followed further is counted, and covered by the sum, in another chapter:
 
-- in `make_all` and `run` those of the larger commands, which [a chapter of their own](#larger-commands) counts
-- in the laws of handles `Tells` and `IsWhole`, which [make_all](#make_all) counts, and `new_journal`, which [run](#run) counts
+- in `make_all` and `run` the larger commands: in [a chapter of their own](#larger-commands)
+- in the laws of handles `Tells` and `IsWhole`: in [make_all](#make_all); `new_journal`: in [run](#run)
 - in the laws of drafts, of what changes leave alone, of models and of convex solids all that [make_all](#make_all) counts, and the larger commands
-- in the laws of scripts `output_of`, by which `answers` is defined, `Outs`, `summary_of` and `new_journal`, all of which [run](#run) counts
+- in the laws of scripts `output_of`, by which `answers` is defined, `Outs`, `summary_of` and `new_journal`: in [run](#run)
 
 Of the names that no chapter explains, [MODEL](MODEL.md#operators) has the operators, such as `Mvfs`, and [REFUSALS](REFUSALS.md) the reasons, such as
 `NoSolid`. Others, such as `map`, are those of the prover's library, which you trust with the prover: `rt lemma NAME` shows their definitions.
-`IfOk r (λ x. P)` says P of the value x, if r is Ok. An argument in braces, as `{R}`, is left out where the definition is used. `codes "ok"` are the bytes of
-this text; in it, a backslash at the end of a line means that it goes on in the next line, behind the blanks. `told.Steps` is the case `Steps` of the type
-`Told`, while `told` alone is a list of answers. `R.asks` of a run has nothing to do with the `asks` of handles, nor `answers` with `Answers`.
+
+A few signs more:
+
+- `IfOk r (λ x. P)` says P of the value x, if r is Ok.
+- An argument in braces, as `{R}`, is left out where the definition is used.
+- `codes "ok"` are the bytes of this text. A backslash at the end of a line in it means that it goes on in the next line, behind the blanks.
+- `told.Steps` is the case `Steps` of the type `Told`, while `told` alone is a list of answers.
+- `R.asks` of a run has nothing to do with the `asks` of handles, nor `answers` with `Answers`.
 """
 # What the chapter of a run says of the bytes that it reads and writes, before what the standard library says of them.
 BYTES_SAY = """A run takes its bytes from a reader and gives them to a writer. If these are lists of bytes in memory (`Some xs`), the theorem says exactly which
