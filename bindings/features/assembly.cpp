@@ -46,11 +46,12 @@ private:
         Placed *after = nullptr, *mate = nullptr;
         bool goes_on = false; ///< straight from the one before it, as one edge
         const Placed *edge = nullptr; ///< the first one of that edge
-        std::vector<Side> parts = {}; ///< of the first one: all of them
+        std::vector<Side> parts = {}; ///< of the first one: all of them, where these are several
         Vertex start = {};
         HalfEdge half = {};
 
         [[nodiscard]] bool runs_back(const Vector &way) const { return dot(way, side.way()) < 0; }
+        [[nodiscard]] const Side &first_part() const { return parts.empty() ? side : parts[0]; }
     };
     using Row = std::vector<Placed *>;
 
@@ -67,13 +68,17 @@ private:
     /// Sides that are both half-edges of an old edge are mates.
     void pair_whole()
     {
-        std::unordered_map<HalfEdge, Placed *> whole;
+        using Whole = std::pair<HalfEdge, Placed *>;
+        std::vector<Whole> whole; // of each half-edge the last one
         for (Placed &placed : sides_)
             if (held_.is_whole(placed.side))
-                whole[placed.side.half] = &placed;
+                whole.emplace_back(placed.side.half, &placed);
+        std::stable_sort(whole.begin(), whole.end(), [](const Whole &one, const Whole &other) { return one.first < other.first; });
+        const auto is_same = [](const Whole &one, const Whole &other) { return one.first == other.first; };
+        whole.erase(whole.begin(), std::unique(whole.rbegin(), whole.rend(), is_same).base());
         for (const auto &[half, placed] : whole)
-            if (const auto mate = whole.find(half.twin()); mate != whole.end())
-                placed->mate = mate->second;
+            if (const std::size_t mate = place_of(whole, half.twin().code()); mate != whole.size())
+                placed->mate = whole[mate].second;
     }
 
     /// The other sides are cut where the sides on one line end, and pair up.
@@ -148,18 +153,19 @@ private:
         const Placed &onward = *placed.mate->after;
         if (is_run(placed.side.half) || is_run(onward.side.half))
             return false;
-        return &onward != &placed && onward.mate->after == &placed && !held_.is_fixed(placed.side.start) &&
-               reduced(placed.side.way()) == negative(reduced(onward.side.way()));
+        return &onward != &placed && onward.mate->after == &placed && reduced(placed.side.way()) == negative(reduced(onward.side.way())) &&
+               !held_.is_fixed(placed.side);
     }
 
     /// The sides from one on that are one edge become this one, with the first old half-edge of its parts.
     static void join(Placed &own)
     {
         own.edge = &own;
-        own.parts = {own.side};
         for (; own.after->goes_on; own.after = own.after->after) {
             Placed &part = *own.after;
             part.edge = &own;
+            if (own.parts.empty())
+                own.parts = {own.side};
             own.parts.push_back(part.side);
             own.side = {own.side.start, part.side.end, own.side.is_old() ? own.side.half : part.side.half};
             own.mate = part.mate;
@@ -174,7 +180,7 @@ private:
                 for (Placed *side = first.mate->after; side != &first; side = side->mate->after)
                     fan.push_back(side);
                 const Vertex vertex = names_.vertices.one(old_vertices(fan));
-                made.vertices[vertex] = first.side.start;
+                made.vertices.put(vertex, first.side.start);
                 for (Placed *side : fan)
                     side->start = vertex;
             }
@@ -183,10 +189,9 @@ private:
     /// The old vertices at the point where sides start: those first at which half-edges of theirs did.
     [[nodiscard]] std::vector<Vertex> old_vertices(const Row &fan) const
     {
-        const std::vector<Vertex> *here = look_up(held_.vertices_at, fan[0]->side.start);
-        std::vector<Vertex> found = here != nullptr ? *here : std::vector<Vertex>();
+        std::vector<Vertex> found = held_.vertices_at(fan[0]->side.start);
         std::stable_partition(found.begin(), found.end(), [&](Vertex vertex) {
-            return any(fan, [&](const Placed *side) { return side->parts[0].is_old() && held_.model.start(side->parts[0].half) == vertex; });
+            return any(fan, [&](const Placed *side) { return side->first_part().is_old() && held_.model.start(side->first_part().half) == vertex; });
         });
         return found;
     }
@@ -204,19 +209,21 @@ private:
                     const bool is_second = old != halves.end() ? old->is_second() : mate.start < own.start;
                     own.half = is_second ? minus(edge) : plus(edge);
                     mate.half = own.half.twin();
-                    made.edges[edge] = is_second ? std::pair(mate.start, own.start) : std::pair(own.start, mate.start);
+                    made.edges.put(edge, is_second ? std::pair(mate.start, own.start) : std::pair(own.start, mate.start));
                 }
     }
 
     /// The old half-edges that the edge of a side is made of, as it runs: those that it is all of first.
     [[nodiscard]] std::vector<HalfEdge> old_halves(const Placed &own) const
     {
-        std::vector<Side> parts = own.parts;
-        append(parts, mapped(own.mate->parts, [](const Side &part) { return part.turned(); }));
         std::vector<HalfEdge> halves, others;
-        for (const Side &side : parts)
+        const auto take = [&](const Side &side) {
             if (side.is_old())
                 (held_.is_whole(side) ? halves : others).push_back(side.half);
+        };
+        const Placed &mate = *own.mate;
+        own.parts.empty() ? take(own.side) : (void)std::for_each(own.parts.begin(), own.parts.end(), take);
+        mate.parts.empty() ? take(mate.side.turned()) : (void)std::for_each(mate.parts.begin(), mate.parts.end(), [&](const Side &side) { take(side.turned()); });
         std::sort(halves.begin(), halves.end());
         append(halves, others);
         return halves;
@@ -236,11 +243,11 @@ private:
                 edge = edge->after;
             } while (edge != start->edge);
             row.push_back(names_.loops.one(wanted));
-            made.loops[row.back()] = from_least(std::move(halves));
+            made.loops.put(row.back(), from_least(std::move(halves)));
         }
         std::sort(row.begin() + 1, row.end());
         region.face = names_.faces.one(region.owners);
-        made.faces[region.face] = row;
+        made.faces.put(region.face, std::move(row));
     }
 
     const Held &held_;
@@ -258,8 +265,8 @@ private:
 Held::Held(const Bench &bench, Model parts, bool keeps_vertices, const std::set<Solid> &gone)
     : model(std::move(parts)), bench_(bench), keeps_vertices_(keeps_vertices)
 {
-    for (const auto &[vertex, at] : model.vertices)
-        vertices_at[at].push_back(vertex);
+    by_points_ = mapped(model.vertices, [](const auto &row) { return std::pair(SmallBox::corner(row.second), row.first); });
+    std::sort(by_points_.begin(), by_points_.end());
     for (const auto &[half, run] : model.runs)
         put_ends(half, *run);
     put_rest(gone);
@@ -268,19 +275,32 @@ Held::Held(const Bench &bench, Model parts, bool keeps_vertices, const std::set<
 Loop Held::loop_of(HalfEdge half) const
 {
     const Loop loop = bench_.loop_of(first_of(half));
-    return model.loops.count(loop) != 0 ? loop : Loop();
+    return model.loops.has(loop) ? loop : Loop();
 }
 
 bool Held::is_whole(const Side &side) const
 {
-    return side.is_old() && model.at(side.half) == side.start && model.at(side.half.twin()) == side.end;
+    if (!side.is_old())
+        return false;
+    const auto &[from, to] = model.edges.at(side.half.edge());
+    const bool is_second = side.half.is_second();
+    return model.vertices.at(is_second ? to : from) == side.start && model.vertices.at(is_second ? from : to) == side.end;
 }
 
-bool Held::is_fixed(const Vector &point) const
+std::vector<Vertex> Held::vertices_at(const Vector &point) const
 {
-    const std::vector<Vertex> *here = look_up(vertices_at, point);
-    return here != nullptr && any(*here, [&](Vertex vertex) {
-        const auto halves = bench_.around(vertex);
+    const SmallBox::Corner here = SmallBox::corner(point);
+    std::vector<Vertex> found;
+    for (auto at = std::lower_bound(by_points_.begin(), by_points_.end(), std::pair(here, Vertex())); at != by_points_.end() && at->first == here; ++at)
+        found.push_back(at->second);
+    return found;
+}
+
+bool Held::is_fixed(const Side &side) const
+{
+    return any(vertices_at(side.start), [&](Vertex vertex) {
+        const bool starts_here = side.is_old() && model.start(side.half) == vertex; // (so that nothing has to be looked for)
+        const auto halves = starts_here ? bench_.around(side.half) : bench_.around(vertex);
         return any(halves, [&](HalfEdge half) { return !is_held(half) && !is_held(half.twin()); }) ||
                (keeps_vertices_ && std::distance(halves.begin(), halves.end()) == 2);
     });
@@ -302,19 +322,22 @@ bool Held::is_held(HalfEdge half) const
 
 void Held::put_rest(const std::set<Solid> &gone)
 {
-    std::set<HalfEdge> left;
+    std::vector<HalfEdge> left;
     for (const auto &[loop, halves] : model.loops)
         if (gone.empty() || gone.count(bench_.face(bench_.face_of(loop)).solid) == 0)
             for (HalfEdge half : halves)
                 if (is_run(half) || !is_held(half.twin()))
-                    left.insert(half.twin());
-    while (!left.empty()) {
-        Cycle &cycle = rest.emplace_back();
-        for (HalfEdge half = *left.begin(); left.erase(half) != 0; half = after(half)) {
+                    left.push_back(half.twin());
+    make_rise(left);
+    std::vector<bool> is_put(left.size());
+    for (std::size_t first = 0; first < left.size(); first++)
+        for (std::size_t at = first; at < left.size() && !is_put[at]; at = place_of(left, after(left[at]).code())) {
             go_on();
-            cycle.push_back(model.side(half));
+            if (at == first)
+                rest.emplace_back();
+            is_put[at] = true;
+            rest.back().push_back(model.side(left[at]));
         }
-    }
 }
 
 HalfEdge Held::after(HalfEdge half) const

@@ -16,12 +16,13 @@ public:
     [[nodiscard]] Loop loop_of(HalfEdge half) const;
     /// Whether the side is all of a half-edge.
     [[nodiscard]] bool is_whole(const Side &side) const;
-    /// Whether a vertex at the point stays: it has two edges, so that somebody wanted it there, or one that is of the rest alone.
-    [[nodiscard]] bool is_fixed(const Vector &point) const;
+    /// Whether a vertex where a side starts stays: it has two edges, so that somebody wanted it there, or one that is of the rest alone.
+    [[nodiscard]] bool is_fixed(const Side &side) const;
+    /// The vertices at a point, rising.
+    [[nodiscard]] std::vector<Vertex> vertices_at(const Vector &point) const;
 
     Model model;
     std::vector<Cycle> rest; ///< the half-edges of the rest at the open edges, in cycles
-    std::map<Vector, std::vector<Vertex>> vertices_at;
 
 private:
     /// The loop has a run, of which the half-edges are of the rest as well.
@@ -32,7 +33,8 @@ private:
     void put_rest(const std::set<Solid> &gone);
     [[nodiscard]] HalfEdge after(HalfEdge half) const;
 
-    std::unordered_map<HalfEdge, HalfEdge> run_to_; ///< by the last half-edge of each
+    std::vector<std::pair<SmallBox::Corner, Vertex>> by_points_; ///< rising
+    std::unordered_map<HalfEdge, HalfEdge> run_to_;    ///< by the last half-edge of each
     std::unordered_set<Loop> loops_with_runs_;
     std::unordered_set<HalfEdge> beside_runs_; ///< of these loops
     const Bench &bench_;

@@ -48,10 +48,7 @@ Operand operand_near(Bench &bench, Operation operation, Solid first, Solid solid
     Surroundings &known = Surroundings::of(bench);
     const Surface &surface = known.surface(bench, solid), &beside = known.surface(bench, first);
     if (operation == Operation::unite && surface.is_even() && beside.is_even() && has_room_to_join(bench)) {
-        std::size_t near = 0;
-        for (const auto &[face, loops] : surface.near(bench, box))
-            near += loops.size();
-        if (16 * (surface.size() - near) > surface.size() + beside.size())
+        if (16 * (surface.size() - surface.count_near(box)) > surface.size() + beside.size())
             return {solid, box, true};
     }
     if (operation != Operation::unite && surface.is_even())

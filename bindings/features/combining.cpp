@@ -26,14 +26,26 @@ void read_face(const Bench &bench, const Surface &surface, Face face, const std:
             near.sides = surface.chain(loop).sides();
         else
             near = surface.chain(loop).near(box);
-        is_whole ? to.model.read(bench, face, loop) : to.model.read(bench, face, loop, near);
+        is_whole ? to.model.read(bench, loop) : to.model.read(bench, loop, near);
         const auto least = std::min_element(near.sides.begin(), near.sides.end(), [](const Side &one, const Side &other) { return one.half < other.half; });
         std::rotate(near.sides.begin(), least, near.sides.end());
         return std::move(near.sides);
     };
+    to.model.faces.put(face, loops);
     const std::vector<Cycle> cycles = mapped(loops, read);
     if (surface.is_even())
         to.sheets.push_back({Shape(*plane, cycles), {face}, {}});
+}
+
+/// A loop of a face comes to others.
+void put(NearFaces &faces, Face face, Loop loop)
+{
+    const auto is_before = [](const auto &near, Face of) { return near.first < of; };
+    auto at = std::lower_bound(faces.begin(), faces.end(), face, is_before);
+    if (at == faces.end() || at->first != face)
+        at = faces.insert(at, {face, {}});
+    at->second.push_back(loop);
+    make_rise(at->second);
 }
 
 /// A solid so far as the outlines of its faces meet a box or are wanted.
@@ -43,9 +55,8 @@ untouched::NearSolid solid_near(const Bench &bench, const Operand &operand, cons
     untouched::NearSolid found{&surface, surface.near(bench, *operand.near), operand.stays};
     for (Loop loop : wanted)
         if (const Face face = bench.face_of(loop); bench.face(face).solid == operand.solid)
-            found.faces[face].insert(loop);
-    for (auto near = found.faces.begin(); near != found.faces.end();)
-        near = near->second.count(bench.face(near->first).outer_loop) != 0 ? std::next(near) : found.faces.erase(near);
+            put(found.faces, face, loop);
+    found.faces = filtered(found.faces, [&](const auto &near) { return has(near.second, bench.face(near.first).outer_loop); });
     return found;
 }
 
@@ -55,13 +66,13 @@ Part part_near(const Bench &bench, const untouched::NearSolid &near, const Opera
     Part found{Model(operand.solid), {}, {}};
     const Surface &surface = *near.surface;
     for (const auto &[face, loops] : near.faces) {
-        if (alike.others.count(face) != 0)
+        if (has(alike.others, face))
             continue;
         const Loop outer = bench.face(face).outer_loop;
         const Plane *plane = surface.plane(face);
         const bool needs_all = plane == nullptr || dot(plane->across, surface.chain(outer).area()) <= 0;
         const auto rings = bench.rings(face);
-        const bool is_fast = !needs_all && any(rings, [&near = loops](Loop ring) { return near.count(ring) == 0; });
+        const bool is_fast = !needs_all && any(rings, [&near = loops](Loop ring) { return !has(near, ring); });
         if (is_fast)
             found.fast.insert(face);
         std::vector<Loop> read = {outer};
@@ -71,6 +82,7 @@ Part part_near(const Bench &bench, const untouched::NearSolid &near, const Opera
             read.insert(read.end(), rings.begin(), rings.end());
         read_face(bench, surface, face, read, *operand.near, wanted, found);
     }
+    found.model.read_edges(bench);
     return found;
 }
 
@@ -100,27 +112,28 @@ struct Parts {
         return mapped(all, [](const Part &part) { return &part.model; });
     }
     /// The model of them all, or of those that stay, with the faces that are gone and weren't looked at.
-    [[nodiscard]] Model joined(const Bench &bench, const std::vector<Operand> &operands, const std::set<Face> &gone, bool has_all) const
+    [[nodiscard]] Model joined(const Bench &bench, const std::vector<Operand> &operands, const std::vector<Face> &gone, bool has_all) const
     {
         Model found(operands[0].solid);
         for (std::size_t at = 0; at < operands.size(); at++)
             if (has_all || operands[at].stays)
                 found.take_in(all[at].model);
         for (Face face : gone)
-            for (Loop loop : bench.loops_of(face))
-                found.read(bench, face, loop);
+            found.read(bench, face);
+        found.read_edges(bench);
         return found;
     }
     /// The faces that weren't looked at, and go as those that they are like are none of what is made.
-    [[nodiscard]] std::set<Face> gone_from(const std::vector<Sheet> &made) const
+    [[nodiscard]] std::vector<Face> gone_from(const std::vector<Sheet> &made) const
     {
-        std::set<Face> left;
+        std::vector<Face> left, found;
         for (const Sheet &region : made)
-            left.insert(region.owners.begin(), region.owners.end());
-        std::set<Face> found;
+            append(left, region.owners);
+        make_rise(left);
         for (const auto &[face, others] : alike.of)
-            if (left.count(face) == 0)
-                found.insert(others.begin(), others.end());
+            if (!has(left, face))
+                append(found, others);
+        make_rise(found);
         return found;
     }
 
@@ -142,7 +155,7 @@ private:
 bool has_all_faces(const Bench &bench, const std::vector<Operand> &operands, const Model &model)
 {
     return all(operands, [&](const Operand &operand) {
-        return !operand.stays || all(bench.faces(operand.solid), [&](Face face) { return model.faces.count(face) != 0; });
+        return !operand.stays || all(bench.faces(operand.solid), [&](Face face) { return model.faces.has(face); });
     });
 }
 
@@ -163,7 +176,7 @@ Changed combined(const Bench &bench, const std::vector<Operand> &operands, Parts
     take(0);
     const std::vector<Sheet> regions = lay(sheets, parts.alike.behind);
     const Solid solid = operands[0].solid;
-    const std::set<Face> gone_alike = parts.gone_from(regions);
+    const std::vector<Face> gone_alike = parts.gone_from(regions);
     Model joined = parts.joined(bench, operands, gone_alike, true);
     if (regions.empty() && has_all_faces(bench, operands, joined))
         throw impossible(Misfit::nothing_left, solid.number());
@@ -244,7 +257,7 @@ void follow(Surface &surface, const Model &part, const Model &made)
             const std::vector<HalfEdge> &halves = model.loops.at(loop);
             return other.loops.at(loop) == halves && all(halves, [&](HalfEdge half) { return other.at(half) == model.at(half); });
         };
-        const std::vector<Loop> *loops = look_up(other.faces, face);
+        const std::vector<Loop> *loops = other.faces.find(face);
         return loops != nullptr && *loops == model.faces.at(face) && all(*loops, is_same);
     };
     for (const auto &[face, loops] : part.faces)

@@ -132,10 +132,10 @@ private:
 };
 
 /// A face near a box: none where it isn't.
-std::optional<Near> near(const Bench &bench, const Surface &surface, Face face, const std::set<Loop> &loops)
+std::optional<Near> near(const Bench &bench, const Surface &surface, Face face, const std::vector<Loop> &loops)
 {
     require(surface.plane(face) != nullptr, refused(GWB_WHY_NOT_FLAT, face.number()));
-    if (loops.count(bench.face(face).outer_loop) == 0)
+    if (!has(loops, bench.face(face).outer_loop))
         return std::nullopt;
     return Near{face, surface.shape(face, loops)};
 }
@@ -151,8 +151,9 @@ std::vector<Crossing> all(const Bench &bench, Solid solid, std::optional<Solid> 
     std::vector<Crossing> found;
     for (Face face : bench.faces(solid)) {
         go_on();
-        const auto loops = bench.loops_of(face);
-        const std::optional<Near> own = near(bench, surface, face, {loops.begin(), loops.end()});
+        std::vector<Loop> loops = mapped(bench.loops_of(face), [](Loop loop) { return loop; });
+        make_rise(loops);
+        const std::optional<Near> own = near(bench, surface, face, loops);
         for (const auto &[beside, of_it] : (beyond ? *beyond : surface).near(bench, own->shape.box))
             if (beyond || beside > face)
                 if (const std::optional<Near> two = near(bench, beyond ? *beyond : surface, beside, of_it))

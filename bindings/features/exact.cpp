@@ -2,7 +2,7 @@
 
 namespace gwb_session::exact {
 
-BoxIndex::Short BoxIndex::short_of(const Vector &at)
+SmallBox::Corner SmallBox::corner(const Vector &at)
 {
     constexpr Wide most = (Wide{1} << 30) - 1;
     static_assert(farthest <= most, "a box of points that are in range stays as it is");
@@ -10,91 +10,146 @@ BoxIndex::Short BoxIndex::short_of(const Vector &at)
     return {part(0), part(1), part(2)};
 }
 
-BoxIndex::Row BoxIndex::row(const Box &box, std::size_t number)
+// ---- halves
+
+Halves::Halves(Rows rows) : rows_(std::move(rows)), around_(rows_.size())
 {
-    const Row found{0, short_of(box.low), short_of(box.high), static_cast<std::uint32_t>(number)};
-    std::uint32_t length = 0;
-    for (std::size_t axis = 0; axis < 3; axis++)
-        length = std::max(length, static_cast<std::uint32_t>(found.high[axis] - found.low[axis]));
-    return {length == 0 ? 0 : 32 - __builtin_clz(length), found.low, found.high, found.number};
+    if (!rows_.empty())
+        halve(all());
 }
 
-void BoxIndex::settle() const
+void Halves::halve(Part part)
 {
-    if (fresh_.size() <= 16 + sorted_.size() / 64)
+    SmallBox around = rows_[part.first].box;
+    for (std::size_t at = part.first; at < part.last; at++)
+        around.take(rows_[at].box);
+    around_[part.middle()] = around;
+    if (part.is_small())
         return;
-    std::sort(fresh_.begin(), fresh_.end());
-    const auto middle = static_cast<std::ptrdiff_t>(sorted_.size());
-    sorted_.insert(sorted_.end(), fresh_.begin(), fresh_.end());
-    fresh_.clear();
-    std::inplace_merge(sorted_.begin(), sorted_.begin() + middle, sorted_.end());
+    std::size_t longest = 0;
+    for (std::size_t axis : {1, 2})
+        if (around.high[axis] - around.low[axis] > around.high[longest] - around.low[longest])
+            longest = axis;
+    const auto at = [&](std::size_t place) { return rows_.begin() + static_cast<std::ptrdiff_t>(place); };
+    std::nth_element(at(part.first), at(part.middle()), at(part.last), [longest](const Row &one, const Row &other) {
+        return std::int64_t{one.box.low[longest]} + one.box.high[longest] < std::int64_t{other.box.low[longest]} + other.box.high[longest];
+    });
+    for (const Part &half : part.halves())
+        halve(half);
 }
 
-void BoxIndex::take_in(BoxIndex &&other)
+void Halves::put_meeting(Part part, const SmallBox &box, std::vector<std::size_t> &found) const
 {
-    const auto middle = static_cast<std::ptrdiff_t>(sorted_.size());
-    fresh_.insert(fresh_.end(), other.fresh_.begin(), other.fresh_.end());
-    sorted_.insert(sorted_.end(), other.sorted_.begin(), other.sorted_.end());
-    std::inplace_merge(sorted_.begin(), sorted_.begin() + middle, sorted_.end());
-}
-
-void BoxIndex::take_away(const Box &box, std::size_t number)
-{
-    const Row wanted = row(box, number);
-    const auto is_it = [&](const Row &one) { return one.number == wanted.number; };
-    if (const auto at = std::find_if(fresh_.begin(), fresh_.end(), is_it); at != fresh_.end()) {
-        fresh_.erase(at);
+    if (rows_.empty() || !around_[part.middle()].meets(box))
         return;
-    }
-    const auto [first, last] = std::equal_range(sorted_.begin(), sorted_.end(), wanted);
-    std::find_if(first, last, is_it)->number = gone;
-}
-
-bool BoxIndex::is_outside(Short &cell, const Short &first, const Short &last)
-{
-    if (cell[1] < first[1])
-        cell = {cell[0], first[1], first[2]};
-    else if (cell[1] > last[1])
-        cell = {cell[0] + 1, first[1], first[2]};
-    else if (cell[2] < first[2])
-        cell[2] = first[2];
-    else if (cell[2] > last[2])
-        cell = {cell[0], cell[1] + 1, first[2]};
+    if (!part.is_small())
+        for (const Part &half : part.halves())
+            put_meeting(half, box, found);
     else
+        for (std::size_t at = part.first; at < part.last; at++)
+            if (rows_[at].box.meets(box))
+                found.push_back(rows_[at].number);
+}
+
+void Halves::put_meeting(Part part, const Halves &others, Part beside, NumberPairs &found) const
+{
+    if (rows_.empty() || others.rows_.empty() || !around_[part.middle()].meets(others.around_[beside.middle()]))
+        return;
+    const bool is_greater = part.last - part.first > beside.last - beside.first;
+    if (!part.is_small() && (is_greater || beside.is_small()))
+        for (const Part &half : part.halves())
+            put_meeting(half, others, beside, found);
+    else if (!beside.is_small())
+        for (const Part &half : beside.halves())
+            put_meeting(part, others, half, found);
+    else
+        for (std::size_t at = part.first; at < part.last; at++)
+            for (std::size_t other = beside.first; other < beside.last; other++)
+                if (rows_[at].box.meets(others.rows_[other].box))
+                    found.push_back({rows_[at].number, others.rows_[other].number});
+}
+
+bool Halves::take_away(Part part, const Row &row)
+{
+    if (rows_.empty() || !around_[part.middle()].meets(row.box))
         return false;
-    return true;
+    const auto [one, other] = part.halves();
+    if (!part.is_small())
+        return take_away(one, row) || take_away(other, row);
+    for (std::size_t at = part.first; at < part.last; at++)
+        if (Row &own = rows_[at]; own.number == row.number && own.box.meets(row.box)) {
+            own.box = SmallBox::nowhere();
+            return true;
+        }
+    return false;
 }
 
-void BoxIndex::find(Rows::const_iterator from, Rows::const_iterator to, const Short &low, const Short &high, std::vector<std::size_t> &found) const
+void Halves::put_rows(Rows &to) const
 {
-    const int size = from->size;
-    Short first = cell_of(low, size);
-    for (std::int32_t &part : first)
-        part--;
-    const Short last = cell_of(high, size);
-    const auto skip_to = [&](Rows::const_iterator at, const Short &cell) {
-        return std::lower_bound(at, to, cell, [](const Row &row, const Short &least) { return row.cell() < least; });
-    };
-    for (auto at = skip_to(from, first); at != to && at->low[0] >> size <= last[0];) {
-        if (Short cell = at->cell(); is_outside(cell, first, last))
-            at = skip_to(at, cell);
-        else if (const Row &row = *at++; row.number != gone && row.meets(low, high))
-            found.push_back(row.number);
+    std::copy_if(rows_.begin(), rows_.end(), std::back_inserter(to), [](const Row &row) { return row.box.low <= row.box.high; });
+}
+
+// ---- an index
+
+void BoxIndex::drop() const
+{
+    if (leaving_.empty())
+        return;
+    const auto before = [](const Halves::Row &one, const Halves::Row &other) { return one.number < other.number; };
+    std::sort(leaving_.begin(), leaving_.end(), before);
+    const auto goes = [&](const Halves::Row &one) { return std::binary_search(leaving_.begin(), leaving_.end(), one, before); };
+    fresh_.erase(std::remove_if(fresh_.begin(), fresh_.end(), goes), fresh_.end());
+    for (const Halves::Row &row : leaving_)
+        halves_.take_away(row);
+    leaving_.clear();
+}
+
+void BoxIndex::put_rows(Halves::Rows &to) const
+{
+    drop();
+    halves_.put_rows(to);
+    to.insert(to.end(), fresh_.begin(), fresh_.end());
+}
+
+std::vector<std::size_t> BoxIndex::meeting(const SmallBox &box) const
+{
+    constexpr std::size_t to_halve = 32; // takes a row, against what it takes to look at one
+    drop();
+    looked_at_ += fresh_.size();
+    if (looked_at_ > to_halve * (halves_.size() + fresh_.size())) {
+        Halves::Rows all;
+        put_rows(all);
+        halves_ = Halves(std::move(all));
+        fresh_.clear(), looked_at_ = 0;
     }
-}
-
-std::vector<std::size_t> BoxIndex::meeting(const Box &box) const
-{
-    settle();
     std::vector<std::size_t> found;
-    const Short low = short_of(box.low), high = short_of(box.high);
-    for (auto from = sorted_.cbegin(), to = from; from != sorted_.cend(); from = to) {
-        to = std::partition_point(from, sorted_.cend(), [&](const Row &row) { return row.size <= from->size; });
-        find(from, to, low, high, found);
-    }
-    for (const Row &row : fresh_)
-        if (row.meets(low, high))
+    halves_.put_meeting(box, found);
+    for (const Halves::Row &row : fresh_)
+        if (row.box.meets(box))
             found.push_back(row.number);
+    std::sort(found.begin(), found.end());
+    return found;
+}
+
+NumberPairs pairs_meeting(const std::vector<SmallBox> &boxes, const std::vector<std::uint32_t> &owners)
+{
+    NumberPairs found;
+    std::vector<Halves> before; // of one owner each
+    BoxIndex around;            // each of these
+    for (std::uint32_t at = 0; at < boxes.size();) {
+        const std::uint32_t owner = owners[at];
+        SmallBox own = boxes[at];
+        Halves::Rows rows;
+        for (; at < boxes.size() && owners[at] == owner; at++) {
+            own.take(boxes[at]);
+            rows.push_back({boxes[at], at});
+        }
+        const std::vector<std::size_t> met = around.meeting(own);
+        around.put(own, before.size());
+        before.emplace_back(std::move(rows));
+        for (std::size_t other : met)
+            before[other].put_meeting(before.back(), found);
+    }
     std::sort(found.begin(), found.end());
     return found;
 }

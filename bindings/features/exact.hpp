@@ -175,51 +175,109 @@ template <class Item> Box box_of(const std::vector<Item> &items)
     return box;
 }
 
-/// Numbers by boxes. Each lies in a grid whose cells are longer than its box, by a power of two, in the cell of the box's lowest corner; all are rows in one
-/// vector, by their grids and cells. Rows that came since they were sorted last are few, or are sorted in when something is asked.
-class BoxIndex {
-public:
-    void put(const Box &box, std::size_t number) { fresh_.push_back(row(box, number)); }
+/// A box in 31 bits, in which those of points in range fit; what lies beyond is taken as the greatest there.
+struct SmallBox {
+    using Corner = std::array<std::int32_t, 3>;
+    Corner low{}, high{};
 
-    /// Takes in all that another one has.
-    void take_in(BoxIndex &&other);
-    /// A number that was put with this box goes.
-    void take_away(const Box &box, std::size_t number);
+    SmallBox() = default;
+    explicit SmallBox(const Box &box) : low(corner(box.low)), high(corner(box.high)) {}
+    [[nodiscard]] static Corner corner(const Vector &at);
+    /// One that meets none.
+    [[nodiscard]] static SmallBox nowhere()
+    {
+        SmallBox found;
+        found.low.fill(INT32_MAX), found.high.fill(INT32_MIN);
+        return found;
+    }
 
-    /// The numbers of the boxes that meet one, rising. Looked at are the cells beside it that hold any.
-    [[nodiscard]] std::vector<std::size_t> meeting(const Box &box) const;
-
-private:
-    /// Coordinates, or a cell: in 31 bits, in which those of points in range fit; what lies beyond is taken as the greatest there.
-    using Short = std::array<std::int32_t, 3>;
-    struct Row {
-        std::int32_t size; ///< of the cells of its grid: this power of two
-        Short low, high;
-        std::uint32_t number; ///< `gone` where it was taken away
-
-        [[nodiscard]] bool meets(const Short &from, const Short &to) const
-        {
-            return low[0] <= to[0] && from[0] <= high[0] && low[1] <= to[1] && from[1] <= high[1] && low[2] <= to[2] && from[2] <= high[2];
+    void take(const SmallBox &other)
+    {
+        for (std::size_t axis = 0; axis < 3; axis++) {
+            low[axis] = std::min(low[axis], other.low[axis]);
+            high[axis] = std::max(high[axis], other.high[axis]);
         }
-        [[nodiscard]] Short cell() const { return cell_of(low, size); }
-        friend bool operator<(const Row &a, const Row &b) { return a.size != b.size ? a.size < b.size : a.cell() < b.cell(); }
+    }
+    [[nodiscard]] bool meets(const SmallBox &other) const
+    {
+        return low[0] <= other.high[0] && other.low[0] <= high[0] && low[1] <= other.high[1] && other.low[1] <= high[1] && low[2] <= other.high[2] &&
+               other.low[2] <= high[2];
+    }
+    friend Box box_of(const SmallBox &box)
+    {
+        return {{box.low[0], box.low[1], box.low[2]}, {box.high[0], box.high[1], box.high[2]}};
+    }
+};
+
+/// Two numbers of boxes.
+using NumberPairs = std::vector<std::array<std::uint32_t, 2>>;
+
+/// Boxes with numbers, in halves of about as many, each with a box round it, which are in halves again.
+class Halves {
+public:
+    struct Row {
+        SmallBox box;
+        std::uint32_t number;
     };
     using Rows = std::vector<Row>;
-    static constexpr std::uint32_t gone = UINT32_MAX;
 
-    static Short short_of(const Vector &at);
-    static Short cell_of(const Short &at, int size) { return {at[0] >> size, at[1] >> size, at[2] >> size}; }
-    static Row row(const Box &box, std::size_t number);
-    /// Whether a cell lies after all of a range, or outside of it: then the first one is told that may lie within after it.
-    static bool is_outside(Short &cell, const Short &first, const Short &last);
+    Halves() = default;
+    explicit Halves(Rows rows);
 
-    /// Sorts in what is new, where that isn't little.
-    void settle() const;
-    /// Finds among the rows of one grid.
-    void find(Rows::const_iterator from, Rows::const_iterator to, const Short &low, const Short &high, std::vector<std::size_t> &found) const;
+    [[nodiscard]] std::size_t size() const { return rows_.size(); }
+    /// Puts in the numbers of the boxes that meet one; of each box that meets one of others, with that one's.
+    void put_meeting(const SmallBox &box, std::vector<std::size_t> &found) const { put_meeting(all(), box, found); }
+    void put_meeting(const Halves &others, NumberPairs &found) const { put_meeting(all(), others, others.all(), found); }
+    /// A row goes: it stands where no box is.
+    void take_away(const Row &row) { (void)take_away(all(), row); }
+    /// Puts in the rows that are left.
+    void put_rows(Rows &to) const;
 
-    mutable Rows sorted_, fresh_;
+private:
+    struct Part {
+        std::size_t first, last;
+
+        [[nodiscard]] bool is_small() const { return last - first <= 8; }
+        [[nodiscard]] std::size_t middle() const { return first + (last - first) / 2; }
+        [[nodiscard]] std::array<Part, 2> halves() const { return {Part{first, middle()}, Part{middle(), last}}; }
+    };
+    [[nodiscard]] Part all() const { return {0, rows_.size()}; }
+    void halve(Part part);
+    [[nodiscard]] bool take_away(Part part, const Row &row);
+    void put_meeting(Part part, const SmallBox &box, std::vector<std::size_t> &found) const;
+    void put_meeting(Part part, const Halves &others, Part beside, NumberPairs &found) const;
+
+    Rows rows_;
+    std::vector<SmallBox> around_; ///< parts, by their middles
 };
+
+/// Numbers by boxes. Rows that came since they were halved last are looked at one by one, until that has taken as long as to halve all.
+class BoxIndex {
+public:
+    void put(const Box &box, std::size_t number) { put(SmallBox(box), number); }
+    void put(const SmallBox &box, std::size_t number) { drop(), fresh_.push_back({box, static_cast<std::uint32_t>(number)}); }
+
+    /// Takes in all that another one has.
+    void take_in(const BoxIndex &other) { drop(), other.put_rows(fresh_); }
+    /// A number that was put with this box goes, which has no other one.
+    void take_away(const SmallBox &box, std::size_t number) { leaving_.push_back({box, static_cast<std::uint32_t>(number)}); }
+
+    /// The numbers of the boxes that meet one, rising.
+    [[nodiscard]] std::vector<std::size_t> meeting(const Box &box) const { return meeting(SmallBox(box)); }
+    [[nodiscard]] std::vector<std::size_t> meeting(const SmallBox &box) const;
+
+private:
+    /// What was taken away goes.
+    void drop() const;
+    void put_rows(Halves::Rows &to) const;
+
+    mutable Halves halves_;
+    mutable Halves::Rows fresh_, leaving_;
+    mutable std::size_t looked_at_ = 0; ///< rows of the new ones, since they were halved last
+};
+
+/// The places of boxes that meet, pair by pair, rising, the lesser first: of boxes of different owners, which don't fall.
+NumberPairs pairs_meeting(const std::vector<SmallBox> &boxes, const std::vector<std::uint32_t> &owners);
 
 // ---- places
 

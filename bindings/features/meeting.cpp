@@ -71,10 +71,20 @@ private:
             stops_.push_back({to, which, none, ways(negative(side.way()), before)});
         } else if (sign(before) * sign(after) < 0) { // (reckoned as the edge runs, so that both of its faces say the same)
             const bool is_first = all_.edges[edge].from == from;
-            const Number point = is_first ? all_.points.between(side, before, after) : all_.points.between(side.turned(), after, before);
             const Vector up = after > 0 ? side.way() : negative(side.way());
+            const Number point = is_first ? point_passed(edge, faces_[1 - which], before, after) : point_passed(edge, faces_[1 - which], after, before);
             stops_.push_back({point, which, edge, {up, negative(up)}});
         }
+    }
+
+    /// Where an edge passes the plane of a face, from which its ends lie so far: it is asked for by both faces of the edge.
+    [[nodiscard]] Number point_passed(Number edge, Number face, Wide before, Wide after)
+    {
+        CutEdge &own = all_.edges[edge];
+        const auto known = std::find_if(own.passed.begin(), own.passed.end(), [&](const auto &row) { return row.first == face; });
+        if (known != own.passed.end())
+            return known->second;
+        return own.passed.emplace_back(face, all_.points.between(own.side, before, after)).second;
     }
 
     // ---- of large faces
@@ -284,17 +294,16 @@ void meet(Operands &all, const Pair &faces, Meetings &found)
 
 Meetings meet(Operands &all)
 {
+    const NumberPairs pairs = pairs_meeting(mapped(all.faces, [](const FlatFace &face) { return SmallBox(face.sheet->box); }),
+                                                  mapped(all.faces, [](const FlatFace &face) { return face.solid; }));
     Meetings found;
-    BoxIndex later; // the faces of solids that come later
-    for (Number solid = all.count(); solid-- > 0;) {
-        const Number first = all.first_face(solid), last = all.first_face(solid + 1);
-        for (Number own = first; own < last && last < all.faces.size(); own++) {
+    for (Number solid = all.count(); solid-- > 0;) { // (from the last one on)
+        const auto is_before = [](const Pair &pair, Number face) { return pair[0] < face; };
+        const auto first = std::lower_bound(pairs.begin(), pairs.end(), all.first_face(solid), is_before);
+        std::for_each(first, std::lower_bound(first, pairs.end(), all.first_face(solid + 1), is_before), [&](const Pair &faces) {
             go_on();
-            for (std::size_t beyond : later.meeting(all.sheet(own).box))
-                meet(all, {own, static_cast<Number>(beyond)}, found);
-        }
-        for (Number own = first; own < last; own++)
-            later.put(all.sheet(own).box, own);
+            meet(all, faces, found);
+        });
     }
     return found;
 }

@@ -51,7 +51,7 @@ using Numbers = std::array<std::vector<std::uint32_t>, GWB_VERTEX + 1>;
 template <class Row> void tell(const std::vector<Row> &rows, const std::vector<std::uint32_t> &made, std::vector<std::uint32_t> &list)
 {
     for (std::size_t at = 0; at < rows.size(); at++)
-        list.insert(list.end(), {rows::number_of(rows[at]), made[at]});
+        list.insert(list.end(), {number_of(rows[at]), made[at]});
 }
 void tell_all(const Rows &rows, const Numbers &made, Lists &lists)
 {
@@ -70,7 +70,7 @@ template <class Row> void number(std::vector<Row> &rows, const std::vector<std::
 /// The solids with other numbers. Each edge runs as it did.
 Rows numbered(const Rows &rows, const Numbers &made)
 {
-    const auto of = [](const auto &kind, const auto &numbers) { return [&](std::uint32_t &old) { old = numbers[rows::place_of(kind, old)]; }; };
+    const auto of = [](const auto &kind, const auto &numbers) { return [&](std::uint32_t &old) { old = numbers[place_of(kind, old)]; }; };
     const auto solid = of(rows.solids, made[GWB_SOLID]);
     const auto loop = of(rows.loops, made[GWB_LOOP]);
     const auto vertex = of(rows.vertices, made[GWB_VERTEX]);
@@ -79,7 +79,7 @@ Rows numbered(const Rows &rows, const Numbers &made)
     each(found.solids, solid), each(found.owned, loop);
     each(found.faces, [&](rows::FaceRow &row) { solid(row.solid); });
     each(found.loops, [&](rows::LoopRow &row) { row.count == 0 ? vertex(row.lone) : void(); });
-    each(found.cycles, [&](std::uint32_t &half) { half = 2 * made[GWB_EDGE][rows::place_of(rows.edges, half / 2)] + half % 2; });
+    each(found.cycles, [&](std::uint32_t &half) { half = 2 * made[GWB_EDGE][place_of(rows.edges, half / 2)] + half % 2; });
     each(found.edges, [&](rows::EdgeRow &row) { vertex(row.from), vertex(row.to); });
     number(found.faces, made[GWB_FACE], &rows::FaceRow::number), number(found.loops, made[GWB_LOOP], &rows::LoopRow::number);
     number(found.edges, made[GWB_EDGE], &rows::EdgeRow::number), number(found.vertices, made[GWB_VERTEX], &gwb_vertex_row::vertex);

@@ -28,6 +28,7 @@ struct CutEdge {
     Side side;
     Number from, to, solid, left = none, right = none;
     std::vector<Number> stops = {};
+    std::vector<std::pair<Number, Number>> passed = {}; ///< faces whose planes it passes, with the points there
 };
 
 /// Where a point lies on a solid: at a corner, in an edge or in a face of this number.

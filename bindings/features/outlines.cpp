@@ -4,8 +4,6 @@ namespace gwb_session::outlines {
 
 namespace {
 
-using Owners = std::vector<Number>;
-
 /// The least common multiple of the scales of points: the greatest value stands for all that are larger.
 class Factor {
 public:
@@ -53,7 +51,7 @@ public:
     {
         for (const Bound *bound : bounds_)
             if (between_.count(bound->from) == 0)
-                put_side(*bound);
+                sides_.emplace_back(side_of(*bound), bound);
         require_one_far();
         const Bound &first = *bounds_[0];
         const Plane &plane = all_.sheet(first.owner).plane;
@@ -61,8 +59,9 @@ public:
             found.push_back(all_.sheet(first.owner));
             return;
         }
+        std::stable_sort(sides_.begin(), sides_.end(), starts_before);
         const Plane seen = first.is_turned ? plane.turned() : plane;
-        for (const std::vector<Cycle> &cycles : regions_of(sides_, seen.across, why))
+        for (const std::vector<Cycle> &cycles : regions_of(mapped(sides_, [](const Known &known) { return known.first; }), seen.across, why))
             found.push_back({Shape(seen, cycles), owners_of(cycles), {}});
     }
 
@@ -72,32 +71,42 @@ private:
         [[nodiscard]] bool go_on_straight() const { return in.size() == 1 && out.size() == 1 && reduced(in[0]->way) == reduced(out[0]->way); }
     };
 
-    /// The side that a piece is the first part of.
-    void put_side(const Bound &first)
+    /// A side, and the bound that it begins with.
+    using Known = std::pair<Side, const Bound *>;
+    static bool starts_before(const Known &one, const Known &other) { return one.first < other.first; }
+
+    /// The bound that goes on from one, where its side does.
+    [[nodiscard]] const Bound *after(const Bound &bound) const
+    {
+        const auto found = between_.find(bound.to);
+        return found != between_.end() ? found->second.out[0] : nullptr;
+    }
+
+    [[nodiscard]] Side side_of(const Bound &first) const
     {
         const Bound *last = &first;
         HalfEdge half = first.half;
-        Owners owners;
-        take_owners(first, owners);
-        while (between_.count(last->to) != 0) {
-            last = between_.at(last->to).out[0];
+        while (const Bound *next = after(*last)) {
+            last = next;
             half = half != HalfEdge() ? half : last->half;
-            take_owners(*last, owners);
         }
-        sides_.push_back({all_.points.at(first.from).at, all_.points.at(last->to).at, half, is_run(half) ? all_.edge(half).side.run : nullptr});
-        owners_[sides_.back()] = std::move(owners);
+        return {all_.points.at(first.from).at, all_.points.at(last->to).at, half, is_run(half) ? all_.edge(half).side.run : nullptr};
     }
 
-    /// The faces that a bound is a part of join those of its side, where there is none of their solid.
-    void take_owners(const Bound &bound, Owners &owners) const
+    /// The faces that a side is a part of: of each solid the first.
+    [[nodiscard]] std::vector<Number> owners_of(const Bound *bound) const
     {
+        std::vector<Number> owners;
         const auto take = [&](Number face) {
             if (!any(owners, [&](Number other) { return all_.faces[other].solid == all_.faces[face].solid; }))
                 owners.push_back(face);
         };
-        take(bound.owner);
-        for (Number face : bound.others)
-            take(face);
+        for (; bound != nullptr; bound = after(*bound)) {
+            take(bound->owner);
+            for (Number face : bound->others)
+                take(face);
+        }
+        return owners;
     }
 
     /// Of runs of several faces some sides may go as seams.
@@ -117,30 +126,32 @@ private:
         const std::vector<Side> &before = all_.sheet(first.owner).sides;
         if (first.is_turned || sides_.size() != before.size() || !all(bounds_, [&](const Bound *bound) { return bound->owner == first.owner; }))
             return false;
-        const std::set<Side> now(sides_.begin(), sides_.end());
-        return all(before, [&](const Side &side) { return now.count(side) != 0; });
+        constexpr std::size_t few = 16;
+        std::vector<Side> now = mapped(sides_, [](const Known &known) { return known.first; });
+        if (now.size() <= few)
+            return all(before, [&](const Side &side) { return std::find(now.begin(), now.end(), side) != now.end(); });
+        std::sort(now.begin(), now.end());
+        return all(before, [&](const Side &side) { return std::binary_search(now.begin(), now.end(), side); });
     }
 
     /// The faces that cycles are parts of, rising.
     [[nodiscard]] std::vector<Face> owners_of(const std::vector<Cycle> &cycles) const
     {
-        std::set<Number> found;
-        for (const Side &side : joined(cycles)) {
-            const Owners &owners = owners_.at(side);
-            found.insert(owners.begin(), owners.end());
-        }
+        std::vector<Number> found;
+        for (const Side &side : joined(cycles)) // (of sides that are alike the last one)
+            append(found, owners_of(std::prev(std::upper_bound(sides_.begin(), sides_.end(), Known(side, nullptr), starts_before))->second));
+        make_rise(found);
         return mapped(found, [&](Number face) { return all_.sheet(face).owners[0]; });
     }
 
     const Operands &all_;
     const std::vector<const Bound *> &bounds_;
     std::map<Number, Ends> between_; ///< points that aren't whole
-    std::vector<Side> sides_;
-    std::map<Side, Owners> owners_;
+    std::vector<Known> sides_;
 };
 
-/// The bounds of faces by the least face that each is a part of, where faces on both sides of seams became one.
-std::map<Number, std::vector<const Bound *>> by_names(const Operands &all, const Bounds &bounds, Joins joins)
+/// The bounds of faces, in the order of the least face that each is a part of, where faces on both sides of seams became one.
+std::vector<std::vector<const Bound *>> by_names(const Operands &all, const Bounds &bounds, Joins joins)
 {
     JoinedSets<Number> names;
     for (const auto &[left, right] : bounds.seams)
@@ -148,13 +159,14 @@ std::map<Number, std::vector<const Bound *>> by_names(const Operands &all, const
             const auto [one, other] = std::minmax({names.name(left.owner), names.name(right.owner)});
             names.join(one, other);
         }
-    std::map<Number, std::vector<const Bound *>> found;
+    std::vector<std::vector<const Bound *>> found(all.faces.size());
     for (const Bound &bound : bounds.kept)
         found[names.name(bound.owner)].push_back(&bound);
     for (const auto &[left, right] : bounds.seams)
         if (names.name(left.owner) != names.name(right.owner))
             for (const Bound *bound : {&left, &right})
                 found[names.name(bound->owner)].push_back(bound);
+    found.erase(std::remove_if(found.begin(), found.end(), [](const auto &named) { return named.empty(); }), found.end());
     return found;
 }
 
@@ -165,7 +177,7 @@ std::vector<Sheet> regions(const Operands &all, const Bounds &bounds, Joins join
     const auto named = by_names(all, bounds, joins);
     std::vector<Outline> outlines;
     Factor factor;
-    for (const auto &[name, sides] : named) {
+    for (const std::vector<const Bound *> &sides : named) {
         go_on();
         outlines.emplace_back(all, sides).raise(factor);
     }

@@ -13,42 +13,47 @@ std::vector<Cycle> Model::cycles(Face face) const
     return mapped(faces.at(face), [&](Loop loop) { return mapped(loops.at(loop), [&](HalfEdge half) { return side(half); }); });
 }
 
-void Model::read(const Bench &bench, Face face, Loop loop)
+void Model::read(const Bench &bench, Face face)
 {
-    go_on();
-    faces[face].push_back(loop);
-    if (const std::optional<Vertex> vertex = bench.lone_vertex(loop)) {
-        lone[loop] = *vertex;
-        vertices[*vertex] = vector(bench.vertex(*vertex));
-    }
-    for (HalfEdge half : loops[loop] = bench.half_edges(loop))
-        read(bench, half.edge());
+    std::vector<Loop> all = mapped(bench.loops_of(face), [](Loop loop) { return loop; });
+    for (Loop loop : all)
+        read(bench, loop);
+    faces.put(face, std::move(all));
 }
 
-void Model::read(const Bench &bench, Face face, Loop loop, const Chain::Near &near)
+void Model::read(const Bench &bench, Loop loop)
 {
     go_on();
-    faces[face].push_back(loop);
+    if (const std::optional<Vertex> vertex = bench.lone_vertex(loop))
+        lone.put(loop, *vertex);
+    loops.put(loop, bench.half_edges(loop));
+}
+
+void Model::read(const Bench &bench, Loop loop, const Chain::Near &near)
+{
+    go_on();
     for (const auto &run : near.runs) {
         const HalfEdge half = run_from(run->first().half);
-        runs[half] = run;
-        edges[half.edge()] = {bench.start_of(run->first().half), bench.end_of(run->last().half)};
+        runs.put(half, run);
+        edges.put(half.edge(), {bench.start_of(run->first().half), bench.end_of(run->last().half)});
     }
-    loops[loop] = from_least(mapped(near.sides, [](const Side &side) { return side.half; }));
-    for (const Side &side : near.sides)
-        if (side.run == nullptr)
-            read(bench, side.half.edge());
+    loops.put(loop, from_least(mapped(near.sides, [](const Side &side) { return side.half; })));
 }
 
-void Model::read(const Bench &bench, Edge number)
+void Model::read_edges(const Bench &bench)
 {
-    const auto [edge, is_new] = edges.try_emplace(number);
-    if (!is_new)
-        return;
-    const auto [from, to] = bench.edge(number);
-    edge->second = {from, to};
-    for (Vertex end : {from, to})
-        vertices[end] = vector(bench.vertex(end));
+    std::vector<std::uint32_t> halves, ends = mapped(lone, [](const auto &row) { return row.second.number(); });
+    for (const auto &[loop, row] : loops)
+        for (HalfEdge half : row)
+            if (!is_run(half))
+                halves.push_back(half.edge().number());
+    for (std::uint32_t edge : filtered(rows::rising(std::move(halves)), [&](std::uint32_t number) { return !edges.has(Edge(number)); })) {
+        const auto [from, to] = bench.edge(Edge(edge));
+        edges.put(Edge(edge), {from, to});
+        ends.insert(ends.end(), {from.number(), to.number()});
+    }
+    for (std::uint32_t vertex : filtered(rows::rising(std::move(ends)), [&](std::uint32_t number) { return !vertices.has(Vertex(number)); }))
+        vertices.put(Vertex(vertex), vector(bench.vertex(Vertex(vertex))));
 }
 
 Model Model::whole(const Bench &bench, Solid solid)
@@ -56,34 +61,29 @@ Model Model::whole(const Bench &bench, Solid solid)
     require_solid(bench, solid);
     Model found(solid);
     for (Face face : bench.faces(solid))
-        for (Loop loop : bench.loops_of(face))
-            found.read(bench, face, loop);
+        found.read(bench, face);
+    found.read_edges(bench);
     return found;
 }
 
 void Model::take_in(const Model &other)
 {
-    faces.insert(other.faces.begin(), other.faces.end());
-    loops.insert(other.loops.begin(), other.loops.end());
-    edges.insert(other.edges.begin(), other.edges.end());
-    vertices.insert(other.vertices.begin(), other.vertices.end());
-    runs.insert(other.runs.begin(), other.runs.end());
-    lone.insert(other.lone.begin(), other.lone.end());
+    faces.take_in(other.faces), loops.take_in(other.loops), lone.take_in(other.lone);
+    edges.take_in(other.edges), vertices.take_in(other.vertices), runs.take_in(other.runs);
 }
 
 Model Model::with(const Model &part, const Model &made) const
 {
     Model found = *this;
     const auto replace = [](auto &all, const auto &gone, const auto &come) {
-        for (const auto &[number, row] : gone)
-            all.erase(number);
-        all.insert(come.begin(), come.end());
+        all.keep([&](const auto &row) { return !gone.has(row.first); });
+        all.take_in(come);
     };
     replace(found.faces, part.faces, made.faces);
     replace(found.loops, part.loops, made.loops);
     replace(found.edges, part.edges, made.edges);
     replace(found.vertices, part.vertices, made.vertices);
-    found.runs.insert(made.runs.begin(), made.runs.end());
+    found.runs.take_in(made.runs);
     return found;
 }
 

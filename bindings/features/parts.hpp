@@ -8,12 +8,12 @@ namespace gwb_session::sheets {
 /// Faces of a solid as a model of their own. In loops and among edges runs stand for what lies far.
 struct Model {
     Solid solid;
-    std::map<Face, std::vector<Loop>> faces; ///< their loops, the outer one first
-    std::map<Loop, std::vector<HalfEdge>> loops;
-    std::map<Loop, Vertex> lone; ///< of loops without half-edges
-    std::map<Edge, std::pair<Vertex, Vertex>> edges;
-    std::map<Vertex, Vector> vertices;
-    std::map<HalfEdge, std::shared_ptr<const Chain>> runs;
+    Table<Face, std::vector<Loop>> faces; ///< their loops, the outer one first
+    Table<Loop, std::vector<HalfEdge>> loops;
+    Table<Loop, Vertex> lone; ///< of loops without half-edges
+    Table<Edge, std::pair<Vertex, Vertex>> edges;
+    Table<Vertex, Vector> vertices;
+    Table<HalfEdge, std::shared_ptr<const Chain>> runs;
 
     explicit Model(Solid of = {}) : solid(of) {}
 
@@ -27,15 +27,17 @@ struct Model {
     [[nodiscard]] const Vector &at(HalfEdge half) const { return vertices.at(start(half)); }
     [[nodiscard]] Side side(HalfEdge half) const
     {
-        const auto *run = look_up(runs, half);
+        const auto *run = runs.find(half);
         return {at(half), at(half.twin()), half, run != nullptr ? run->get() : nullptr};
     }
 
-    /// Takes in a loop of a workbench.
-    void read(const Bench &bench, Face face, Loop loop);
-    /// The same of what is near of a loop that has an edge.
-    void read(const Bench &bench, Face face, Loop loop, const Chain::Near &near);
-    void read(const Bench &bench, Edge number);
+    /// Takes in a face of a workbench with all of its loops.
+    void read(const Bench &bench, Face face);
+    /// Takes in a loop, or of one that has an edge what is near.
+    void read(const Bench &bench, Loop loop);
+    void read(const Bench &bench, Loop loop, const Chain::Near &near);
+    /// The edges of loops that were taken in, and their vertices: once all are there.
+    void read_edges(const Bench &bench);
     /// All of a solid. Refused: NoSolid.
     static Model whole(const Bench &bench, Solid solid);
     /// Takes in all of a model of others.

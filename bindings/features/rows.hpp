@@ -1,6 +1,6 @@
 /// @file rows.hpp Solids as rows of numbers, as a listing has them.
 #pragma once
-#include "solids.hpp"
+#include "tables.hpp"
 
 namespace gwb_session::rows {
 
@@ -18,26 +18,12 @@ struct EdgeRow {
     std::uint32_t number, from, to;
 };
 
-constexpr std::uint32_t number_of(std::uint32_t row) { return row; }
-constexpr std::uint32_t number_of(const gwb_vertex_row &row) { return row.vertex; }
-template <class Row> constexpr std::uint32_t number_of(const Row &row) { return row.number; }
-
 /// Rows come to rise by their numbers, which they mostly do already.
 template <class Row> void sort(std::vector<Row> &rows)
 {
     const auto rises = [](const Row &one, const Row &other) { return number_of(one) < number_of(other); };
     if (!std::is_sorted(rows.begin(), rows.end(), rises))
         std::sort(rows.begin(), rows.end(), rises);
-}
-
-/// The place of a number among rows that rise by theirs, mostly one by one: their count where it isn't there.
-template <class Row> std::size_t place_of(const std::vector<Row> &rows, std::uint32_t number)
-{
-    const std::size_t likely = rows.empty() ? 0 : number - number_of(rows.front());
-    if (likely < rows.size() && number_of(rows[likely]) == number)
-        return likely;
-    const auto found = std::lower_bound(rows.begin(), rows.end(), number, [](const Row &row, std::uint32_t least) { return number_of(row) < least; });
-    return static_cast<std::size_t>((found != rows.end() && number_of(*found) == number ? found : rows.end()) - rows.begin());
 }
 
 /// No call is made of what doesn't hold.

@@ -51,10 +51,11 @@ std::vector<Cycle> cycles_of(const std::vector<Side> &sides, Axes axes, const Fa
 std::vector<std::vector<Cycle>> regions_of(const std::vector<Side> &sides, const Vector &across, const Failure &why)
 {
     const Axes axes = flat_axes(across);
-    const std::set<Side> rising(sides.begin(), sides.end());
+    std::vector<Side> rising = sides;
+    make_rise(rising);
     std::vector<std::pair<Wide, Cycle>> outer;
     std::vector<Cycle> holes;
-    for (const Cycle &cycle : cycles_of({rising.begin(), rising.end()}, axes, why))
+    for (const Cycle &cycle : cycles_of(rising, axes, why))
         if (const Wide area = dot(area_of(cycle), across); area > 0)
             outer.emplace_back(area, cycle);
         else

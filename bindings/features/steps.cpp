@@ -149,7 +149,7 @@ private:
     /// The same as operators name it, and what follows a half-edge.
     [[nodiscard]] std::uint32_t corner(std::uint32_t half) const { return first_of(HalfEdge(number(half))).code(); }
     [[nodiscard]] std::uint32_t corner_after(std::uint32_t half) const { return corner(next_[half]); }
-    [[nodiscard]] bool is_kept(std::uint32_t face) const { return kept_ != nullptr && kept_->faces.count(face) != 0; }
+    [[nodiscard]] bool is_kept(std::uint32_t face) const { return kept_ != nullptr && has(kept_->faces, face); }
     [[nodiscard]] Step mev(std::uint32_t corner, std::uint32_t edge, std::uint32_t place) const
     {
         const auto &[vertex, point] = rows_.vertices[place];
@@ -204,7 +204,7 @@ private:
             claim(node.face == 0);
             node.face = face.number;
             node.solid = face.solid;
-            if (at != face.first && (kept_ == nullptr || kept_->rings.count(node.loop) == 0))
+            if (at != face.first && (kept_ == nullptr || !has(kept_->rings, node.loop)))
                 ring_out(node);
             if (const LoopRow &loop = rows_.loops[owned]; loop.count == 0)
                 put_root(node, place(rows_.vertices, loop.lone));
@@ -230,7 +230,7 @@ private:
     void put_rim()
     {
         for (std::uint32_t at = 0; at < rows_.edges.size(); at++)
-            is_rim_[at] = node_[2 * at] == none || node_[2 * at + 1] == none || kept_->edges.count(rows_.edges[at].number) != 0;
+            is_rim_[at] = node_[2 * at] == none || node_[2 * at + 1] == none || has(kept_->edges, rows_.edges[at].number);
     }
     /// The edges that are to go, by the faces of their first half-edges.
     void put_left()
@@ -478,7 +478,7 @@ private:
     {
         std::vector<bool> is_seen(starts_.size());
         for (std::uint32_t first = 0; first < starts_.size(); first++)
-            if (node_[first] != none && is_rim_[first / 2] && !is_seen[first] && kept_->rings.count(loop_at(first).loop) == 0) {
+            if (node_[first] != none && is_rim_[first / 2] && !is_seen[first] && !has(kept_->rings, loop_at(first).loop)) {
                 std::vector<std::uint32_t> outline;
                 for (std::uint32_t at = first; !is_seen[at]; at = next_[at]) {
                     is_seen[at] = true;
@@ -597,7 +597,7 @@ Steps renamings(const Cores &old, const Cores &made, const Kept &kept, Spares &s
         require_kind(other != nullptr);
         if (core.face == other->face && core.loop == other->loop)
             continue;
-        require_kind(kept.faces.count(core.face) + kept.faces.count(other->face) == 0);
+        require_kind(!has(kept.faces, core.face) && !has(kept.faces, other->face));
         if (faces.count(core.face) + loops.count(core.loop) != 0)
             rename(outline[0], core.point, spares.face(), spares.loop(), spares, first);
         rename(outline[0], core.point, other->face, other->loop, spares, last);

@@ -19,7 +19,7 @@ using Steps = std::vector<Step>;
 
 /// What a part and what it becomes have in common, which stays.
 struct Kept {
-    std::set<std::uint32_t> edges, rings, faces;               ///< between their faces; that run along nothing else; that don't go on the way either
+    std::vector<std::uint32_t> edges, rings, faces;            ///< rising: between their faces; that run along nothing else; that don't go on the way either
     std::unordered_map<std::uint32_t, std::uint32_t> outlines; ///< faces by half-edges that their outer loops have in both
 };
 

@@ -78,13 +78,13 @@ KnownLoop::KnownLoop(std::vector<Corner> corners) : corners_(std::move(corners))
             low.at[axis] = std::min(low.at[axis], corner.at[axis]);
             high.at[axis] = std::max(high.at[axis], corner.at[axis]);
         }
-    box_ = {low.vector(), high.vector()};
+    box_.low = low.at, box_.high = high.at;
 }
 
 const Chain &KnownLoop::chain() const
 {
     if (!chain_) {
-        chain_.emplace(closed(mapped(corners_, [](const Corner &corner) { return Side{corner.vector(), {}, corner.half}; })));
+        chain_ = std::make_unique<Chain>(closed(mapped(corners_, [](const Corner &corner) { return Side{corner.vector(), {}, corner.half}; })));
         corners_ = {};
     }
     return *chain_;
@@ -93,7 +93,7 @@ const Chain &KnownLoop::chain() const
 namespace {
 
 /// The corners of a loop with edges, from the least half-edge on.
-std::vector<KnownLoop::Corner> corners_of(const Bench &bench, const std::vector<gwb_half_edge_row> &rows)
+std::vector<KnownLoop::Corner> corners_of(const Bench &bench, Items<gwb_half_edge_row> rows)
 {
     const auto least = std::min_element(rows.begin(), rows.end(), [](const auto &one, const auto &other) { return one.half_edge < other.half_edge; });
     std::vector<KnownLoop::Corner> found;
@@ -142,20 +142,32 @@ std::optional<Plane> plane_through(const std::vector<KnownLoop::Corner> &corners
 
 Surface::Surface(const Bench &bench, Solid solid)
 {
+    HalfEdgeRows rows;
     for (Face face : bench.faces(solid))
-        put(bench, face);
+        put(bench, face, rows);
 }
 
 void Surface::put(const Bench &bench, Face face)
 {
-    const std::vector<gwb_half_edge_row> rows = bench.half_edge_rows(face);
-    if (const auto rings = bench.rings(face); rows.empty() || !rings.empty()) {
+    HalfEdgeRows rows;
+    put(bench, face, rows);
+}
+
+void Surface::put(const Bench &bench, Face face, HalfEdgeRows &rows)
+{
+    const auto read = [&] { return gwb_half_edge_rows(bench.handle(), face.number(), rows.data(), rows.size()); };
+    const std::size_t count = read();
+    if (count > rows.size()) {
+        rows.resize(count);
+        (void)read();
+    }
+    if (const auto rings = bench.rings(face); count == 0 || !rings.empty()) {
         const auto loops = bench.loops_of(face);
         put(face, {loops.begin(), loops.end()}, cycles_at(bench, face));
         return;
     }
     go_on();
-    std::vector<KnownLoop::Corner> corners = corners_of(bench, rows);
+    std::vector<KnownLoop::Corner> corners = corners_of(bench, {rows.data(), count});
     const std::optional<Plane> plane = plane_through(corners);
     put(Loop(rows[0].loop), KnownLoop(std::move(corners)));
     put(face, plane ? std::optional(KnownPlane{*plane, false}) : std::nullopt);
@@ -165,7 +177,7 @@ void Surface::put(Face face, const std::vector<Loop> &loops, const std::vector<C
 {
     for (std::size_t at = 0; at < loops.size(); at++)
         put(loops[at], KnownLoop(cycles[at]));
-    if (planes_.count(face) != 0)
+    if (plane(face) != nullptr)
         return;
     const std::optional<Plane> plane = flat_plane(joined(cycles));
     put(face, plane ? std::optional(KnownPlane{*plane, true}) : std::nullopt);
@@ -173,10 +185,10 @@ void Surface::put(Face face, const std::vector<Loop> &loops, const std::vector<C
 
 void Surface::put(Loop loop, KnownLoop &&known)
 {
-    const Box box = known.box();
-    loops_.insert_or_assign(loop, std::move(known));
+    const SmallBox box = known.box();
     boxes_.put(box, loop.number());
-    if (loops_.size() == 1)
+    loops_[loop] = std::move(known);
+    if (++size_ == 1)
         box_ = box;
     box_.take(box);
 }
@@ -184,15 +196,15 @@ void Surface::put(Loop loop, KnownLoop &&known)
 void Surface::put(Face face, const std::optional<KnownPlane> &plane)
 {
     if (plane)
-        planes_.emplace(face, *plane);
+        planes_[face] = *plane;
     if (!plane || (longest(plane->plane.across) > steepest && longest(this->plane(face)->across) > steepest))
         uneven_.insert(face);
 }
 
 const Plane *Surface::plane(Face face) const
 {
-    const KnownPlane *known = look_up(planes_, face);
-    if (known == nullptr)
+    const KnownPlane *known = planes_.find(face);
+    if (known == nullptr || is_zero(known->plane.across))
         return nullptr;
     if (!std::exchange(known->is_reduced, true)) {
         auto &[across, offset] = known->plane;
@@ -204,36 +216,62 @@ const Plane *Surface::plane(Face face) const
 
 void Surface::take_in(Surface &&other)
 {
-    loops_.merge(other.loops_);
-    planes_.merge(other.planes_);
+    drop_unknown(), other.drop_unknown();
+    loops_.take_in(std::move(other.loops_));
+    planes_.take_in(std::move(other.planes_));
+    size_ += other.size_;
     uneven_.merge(other.uneven_);
-    boxes_.take_in(std::move(other.boxes_));
+    boxes_.take_in(other.boxes_);
     box_.take(other.box_);
 }
 
 void Surface::forget(Face face, const std::vector<Loop> &loops)
 {
-    planes_.erase(face);
+    if (KnownPlane *known = planes_.find(face))
+        *known = KnownPlane();
     uneven_.erase(face);
     for (Loop loop : loops) {
-        boxes_.take_away(loops_.at(loop).box(), loop.number());
-        loops_.erase(loop);
+        KnownLoop &known = loops_.at(loop);
+        boxes_.take_away(known.box(), loop.number());
+        known = KnownLoop();
     }
+    size_ -= loops.size();
+    if (loops_.size() > 2 * size_ + 64)
+        drop_unknown();
 }
 
-Shape Surface::shape(Face face, const std::set<Loop> &loops) const
+void Surface::drop_unknown()
+{
+    loops_.keep([](const auto &row) { return row.second.is_known(); });
+    planes_.keep([](const auto &row) { return !is_zero(row.second.plane.across); });
+}
+
+Shape Surface::shape(Face face, const std::vector<Loop> &loops) const
 {
     return {*plane(face), mapped(loops, [&](Loop loop) { return Cycle{chain(loop).closed()}; })};
 }
 
-std::map<Face, std::set<Loop>> Surface::near(const Bench &bench, const Box &box) const
+NearFaces Surface::near(const Bench &bench, const Box &box) const
 {
-    std::map<Face, std::set<Loop>> found;
-    for (std::size_t number : boxes_.meeting(box)) {
+    auto loops = mapped(boxes_.meeting(box), [&](std::size_t number) {
         const Loop loop(static_cast<std::uint32_t>(number));
-        found[bench.face_of(loop)].insert(loop);
+        return std::pair(bench.face_of(loop), loop);
+    });
+    std::sort(loops.begin(), loops.end());
+    NearFaces found;
+    for (const auto &[face, loop] : loops) {
+        if (found.empty() || found.back().first != face)
+            found.push_back({face, {}});
+        found.back().second.push_back(loop);
     }
     return found;
+}
+
+std::vector<Loop> Surface::near(const Bench &bench, Face face, const Box &box) const
+{
+    const NearFaces found = near(bench, box);
+    const std::size_t place = place_of(found, face.number());
+    return place < found.size() ? found[place].second : std::vector<Loop>();
 }
 
 Path Surface::ring_path(const Bench &bench, Face face, const Path &path) const
@@ -250,7 +288,7 @@ Path Surface::ring_path(const Bench &bench, Face face, const Path &path) const
 
 std::pair<Shape, std::vector<Surface::LoopSide>> Surface::beside_of(const Bench &bench, Face face, const Path &path) const
 {
-    const std::set<Loop> loops = near(bench, box_of(path))[face];
+    const std::vector<Loop> loops = near(bench, face, box_of(path));
     std::pair<Shape, std::vector<LoopSide>> found(shape(face, loops), {});
     const Cycle own = cycle_of(path);
     for (Loop loop : loops)

@@ -2,6 +2,7 @@
 /// feature is known to the next ones, until another command comes.
 #pragma once
 #include "simple_outlines.hpp"
+#include "tables.hpp"
 #include <unordered_map>
 #include <unordered_set>
 
@@ -22,7 +23,10 @@ std::vector<Cycle> cycles_at(const Bench &bench, Face face);
 /// A normal within this fits, with heights above its plane, where faces are compared.
 constexpr Wide steepest = Wide{farthest} * farthest;
 
-/// A loop of a face: its corners, or as soon as more is asked, its sides as a chain.
+/// Faces, rising, with some of the loops of each, rising.
+using NearFaces = std::vector<std::pair<Face, std::vector<Loop>>>;
+
+/// A loop of a face: its corners, or as soon as more is asked, its sides as a chain. None is known of one that has neither.
 class KnownLoop {
 public:
     struct Corner {
@@ -31,16 +35,18 @@ public:
         [[nodiscard]] Vector vector() const { return {at[0], at[1], at[2]}; }
     };
 
+    KnownLoop() = default;
     explicit KnownLoop(std::vector<Corner> corners);
-    explicit KnownLoop(const Cycle &cycle) : chain_(cycle), box_(chain_->box()) {}
+    explicit KnownLoop(const Cycle &cycle) : chain_(std::make_unique<Chain>(cycle)), box_(chain_->box()) {}
 
-    [[nodiscard]] const Box &box() const { return box_; }
+    [[nodiscard]] bool is_known() const { return chain_ != nullptr || !corners_.empty(); }
+    [[nodiscard]] const SmallBox &box() const { return box_; }
     [[nodiscard]] const Chain &chain() const;
 
 private:
     mutable std::vector<Corner> corners_;
-    mutable std::optional<Chain> chain_;
-    Box box_;
+    mutable std::unique_ptr<const Chain> chain_;
+    SmallBox box_;
 };
 
 /// The loops of a solid with their sides, by boxes, and the planes of its faces. Loops have many sides, of which a feature reads those near it.
@@ -60,31 +66,38 @@ public:
     void take_in(Surface &&other);
 
     /// How many loops there are; a box around all; and whether all faces are flat, and none too steep to be compared.
-    [[nodiscard]] std::size_t size() const { return loops_.size(); }
-    [[nodiscard]] const Box &box() const { return box_; }
+    [[nodiscard]] std::size_t size() const { return size_; }
+    [[nodiscard]] Box box() const { return box_of(box_); }
     [[nodiscard]] bool is_even() const { return uneven_.empty(); }
 
     /// The plane of a face, where that is plain and flat.
     [[nodiscard]] const Plane *plane(Face face) const;
     /// Such a face, so far as some of its loops tell.
-    [[nodiscard]] Shape shape(Face face, const std::set<Loop> &loops) const;
+    [[nodiscard]] Shape shape(Face face, const std::vector<Loop> &loops) const;
     [[nodiscard]] const Chain &chain(Loop loop) const { return loops_.at(loop).chain(); }
-    [[nodiscard]] const Box &box(Loop loop) const { return loops_.at(loop).box(); }
+    [[nodiscard]] const SmallBox &box(Loop loop) const { return loops_.at(loop).box(); }
 
-    /// The loops that meet a box, by faces.
-    [[nodiscard]] std::map<Face, std::set<Loop>> near(const Bench &bench, const Box &box) const;
+    /// The loops that meet a box, by faces; how many there are; those of one face.
+    [[nodiscard]] NearFaces near(const Bench &bench, const Box &box) const;
+    [[nodiscard]] std::size_t count_near(const Box &box) const { return boxes_.meeting(box).size(); }
+    [[nodiscard]] std::vector<Loop> near(const Bench &bench, Face face, const Box &box) const;
 
     /// The points of an outline strictly inside a plain flat face, turned so that they run as a ring does; the first stays the first.
     [[nodiscard]] Path ring_path(const Bench &bench, Face face, const Path &path) const;
 
 private:
-    /// A plane, whose normal is reduced when it is asked for.
+    /// A plane, whose normal is reduced when it is asked for: none where that is zero.
     struct KnownPlane {
-        mutable Plane plane;
-        mutable bool is_reduced;
+        mutable Plane plane{};
+        mutable bool is_reduced = true;
     };
+    using HalfEdgeRows = std::vector<gwb_half_edge_row>;
+    /// The first of some rows are written anew: how many are those of the face.
+    void put(const Bench &bench, Face face, HalfEdgeRows &rows);
     void put(Loop loop, KnownLoop &&known);
     void put(Face face, const std::optional<KnownPlane> &plane);
+    /// What isn't known any more goes.
+    void drop_unknown();
 
     using LoopSide = std::pair<Loop, Side>;
     /// A face so far as it lies beside an outline in it, and its sides that the outline meets.
@@ -92,11 +105,12 @@ private:
     /// What an outline meets of a face: of the sides that it meets first one that it crosses.
     [[nodiscard]] gwb_hit_row met_by(const Bench &bench, Face face, const Shape &beside, const std::vector<LoopSide> &sides, const Path &path) const;
 
-    std::unordered_map<Loop, KnownLoop> loops_;
-    std::unordered_map<Face, KnownPlane> planes_;
+    Table<Loop, KnownLoop> loops_;
+    Table<Face, KnownPlane> planes_;
+    std::size_t size_ = 0; ///< of the loops that are known
     std::set<Face> uneven_;
     BoxIndex boxes_;
-    Box box_; ///< around what there ever was
+    SmallBox box_; ///< around what there ever was
 };
 
 /// What is kept with a session: what is known of the solids of its model, and what the last feature made.

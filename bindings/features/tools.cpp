@@ -71,7 +71,7 @@ std::vector<std::vector<Sheet>> sheets_of_parts(const Tool &tool)
 bool lies_in_face(const Bench &bench, Face face, const Sheet &lid, Lies lies)
 {
     const Surface &surface = Surroundings::of(bench).surface(bench, bench.face(face).solid);
-    const auto near = mapped(surface.near(bench, lid.box)[face], [&](Loop loop) { return surface.chain(loop).near(lid.box); }); // (which has their runs)
+    const auto near = mapped(surface.near(bench, face, lid.box), [&](Loop loop) { return surface.chain(loop).near(lid.box); }); // (which has their runs)
     if (near.empty())
         return false;
     const Shape shape(*surface.plane(face), mapped(near, [](const Chain::Near &loop) { return loop.sides; }));
@@ -118,7 +118,7 @@ void require_near(const Bench &bench, Face face, Box box, Wide around)
     const Vector margin = {around, around, around};
     box = {subtract(box.low, margin), add(box.high, margin)};
     const Surface &surface = Surroundings::of(bench).surface(bench, bench.face(face).solid);
-    require(!surface.near(bench, box)[face].empty(), impossible(Misfit::outline_outside, face.number(), met(GWB_CAUSE_WHOLLY_OUTSIDE)));
+    require(!surface.near(bench, face, box).empty(), impossible(Misfit::outline_outside, face.number(), met(GWB_CAUSE_WHOLLY_OUTSIDE)));
 }
 
 void require_lid(const Bench &bench, Face face, const Path &outline, Lies lies, const gwb_hit_row &hit)

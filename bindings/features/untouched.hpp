@@ -10,14 +10,14 @@ using namespace machining;
 /// A solid so far as it lies near the others, and whether its faces stay as they are or go, but for those that meet others.
 struct NearSolid {
     const Surface *surface;
-    std::map<Face, std::set<Loop>> faces;
+    NearFaces faces;
     bool stays;
 };
 
 struct Alike {
-    std::map<Face, std::vector<Face>> of;     ///< by one of them, which is looked at, the others
-    std::unordered_set<Face> others;          ///< all of these
-    std::unordered_map<Edge, Vector> behind;  ///< edges at which faces lie as a face does that has this corner
+    std::vector<std::pair<Face, std::vector<Face>>> of; ///< by one of them, which is looked at, the others
+    std::vector<Face> others;                           ///< all of these, rising
+    std::unordered_map<Edge, Vector> behind;            ///< edges at which faces lie as a face does that has this corner
 };
 
 /// Those of solids that stay. Faces that have one of the wanted loops count as if they met others.
