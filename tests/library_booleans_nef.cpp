@@ -3,8 +3,8 @@
 // orders. A seed gives a chain of three to ten operations, or a tree. For some, tetrahedra of any corners cross each other in a block, so that inner points
 // have scales of up to 180 bits; for some, faces of three solids or more cross in one point or line, once more times the factor where that is told. Of what
 // is made the volume, vertices, edges, faces, rings, shells and each point are compared; of what isn't whether it would be off the lattice, with which least
-// factor, touch itself, or be nothing. The last line counts; the one before it counts the outcomes, each of which has to be seen 20 times where no seeds are
-// given, and those before it operations without their orders.
+// factor, touch itself, or be nothing, where that is, and which part of the solids lies there. The last line counts; the one before it counts the outcomes,
+// each of which has to be seen 20 times where no seeds are given, and those before it operations without their orders.
 //
 //     library_booleans_nef [FIRST COUNT]     so many seeds from this one on, each told on a line: 170 from 1 on where none are given
 //     library_booleans_nef --sums FIRST COUNT
@@ -241,6 +241,20 @@ static Exact exact(std::int64_t number)
     digits >> found;
     return found;
 }
+static Exact exact(const gwb_wide &number)
+{
+    constexpr std::int64_t half = std::int64_t{1} << 32;
+    return (exact(number.high) * exact(half) + exact(static_cast<std::int64_t>(number.low >> 32))) * exact(half) +
+           exact(static_cast<std::int64_t>(number.low & 0xffffffffU));
+}
+
+static Integer denominator_of(const Exact &number)
+{
+    CGAL::Fraction_traits<Exact>::Numerator_type numerator;
+    Integer found;
+    CGAL::Fraction_traits<Exact>::Decompose()(number, numerator, found);
+    return found;
+}
 
 // The cycles round a facet, and what it adds to six times the volume.
 static std::size_t cycles_of(const Nef::Halffacet_const_handle &facet, Exact &six_volume)
@@ -276,12 +290,8 @@ static Integer factor_of(const Nef &nef)
             corners.insert(place_of(arc->source()->source()->point()));
     Integer found = 1;
     for (const Place &corner : corners)
-        for (const Exact &part : corner) {
-            CGAL::Fraction_traits<Exact>::Numerator_type numerator;
-            Integer denominator;
-            CGAL::Fraction_traits<Exact>::Decompose()(part, numerator, denominator);
-            found = found / CGAL::gcd(found, denominator) * denominator;
-        }
+        for (const Exact &part : corner)
+            found = found / CGAL::gcd(found, denominator_of(part)) * denominator_of(part);
     return found;
 }
 
@@ -302,10 +312,16 @@ static Told told(const Nef &nef)
     return found;
 }
 
+static std::vector<gwb_half_edge_row> rows_of(const gwb *g, std::uint32_t solid)
+{
+    std::vector<gwb_half_edge_row> found(gwb_read_half_edges(g, solid, nullptr, 0));
+    gwb_read_half_edges(g, solid, found.data(), found.size());
+    return found;
+}
+
 static Told told(const gwb *g, std::uint32_t solid)
 {
-    std::vector<gwb_half_edge_row> rows(gwb_read_half_edges(g, solid, nullptr, 0));
-    gwb_read_half_edges(g, solid, rows.data(), rows.size());
+    const std::vector<gwb_half_edge_row> rows = rows_of(g, solid);
     std::map<std::uint32_t, std::uint32_t> above, first;
     const auto name = [&](std::uint32_t vertex) {
         while (above.at(vertex) != vertex)
@@ -329,9 +345,7 @@ static Told told(const gwb *g, std::uint32_t solid)
     gwb_wide six;
     gwb_refusal why{};
     gwb_read_volume(g, solid, &six, &why);
-    constexpr std::int64_t half = std::int64_t{1} << 32;
-    found.six_volume = (exact(six.high) * exact(half) + exact(static_cast<std::int64_t>(six.low >> 32))) * exact(half) +
-                       exact(static_cast<std::int64_t>(six.low & 0xffffffffU));
+    found.six_volume = exact(six);
     return found;
 }
 
@@ -362,6 +376,73 @@ static std::string listing(const gwb *g)
     std::string text(gwb_read_listing(g, nullptr, 0), ' ');
     gwb_read_listing(g, text.data(), text.size());
     return text;
+}
+
+// ---- what was met
+
+using Spot = Kernel::Point_3;
+
+static bool is_between(const Spot &from, const Spot &point, const Spot &to)
+{
+    return from != point && to != point && CGAL::collinear(from, point, to) && CGAL::collinear_are_ordered_along_line(from, point, to);
+}
+
+static std::size_t facets_round(const Nef::Halfedge_const_handle &edge)
+{
+    std::size_t count = 0;
+    Nef::SHalfedge_const_handle at = edge->out_sedge();
+    do {
+        count++;
+        at = at->sprev()->twin();
+    } while (at != edge->out_sedge());
+    return count;
+}
+
+// Whether Nef's solid has a corner in a point that isn't whole, or touches itself in a point.
+static bool has_corner_off(const Nef &nef, const Spot &point)
+{
+    const Place place = place_of(point);
+    bool found = false;
+    for (auto arc = nef.shalfedges_begin(); arc != nef.shalfedges_end() && !found; ++arc)
+        found = arc->source()->source()->point() == point && arc->source()->point() != arc->twin()->source()->point().antipode();
+    return found && std::any_of(place.begin(), place.end(), [](const Exact &part) { return denominator_of(part) != 1; });
+}
+static bool touches_itself_at(const Nef &nef, const Spot &point)
+{
+    for (auto vertex = nef.vertices_begin(); vertex != nef.vertices_end(); ++vertex)
+        if (vertex->point() == point)
+            return std::distance(vertex->sfaces_begin(), vertex->sfaces_end()) != 2;
+    for (auto edge = nef.halfedges_begin(); edge != nef.halfedges_end(); ++edge)
+        if (is_between(edge->source()->point(), point, edge->twin()->source()->point()))
+            return facets_round(edge) != 2;
+    return false;
+}
+
+// The numbers of the vertices and edges that lie in a point, and of the faces whose planes have it: added to those of other solids.
+static void add_things_at(const gwb *g, std::uint32_t solid, const Spot &point, std::map<std::uint32_t, std::set<std::uint32_t>> &things)
+{
+    std::map<std::uint32_t, gwb_half_edge_row> of;
+    for (const gwb_half_edge_row &row : rows_of(g, solid))
+        of[row.half_edge] = row;
+    const auto start = [&](const gwb_half_edge_row &row) {
+        gwb_point at;
+        gwb_vertex(g, row.start, &at);
+        return Spot(static_cast<double>(at.x), static_cast<double>(at.y), static_cast<double>(at.z));
+    };
+    std::set<std::uint32_t> off;
+    for (const auto &[half, row] : of) {
+        const gwb_half_edge_row &next = of.at(row.next), &after = of.at(next.next);
+        if (start(row) == point)
+            things[GWB_VERTEX].insert(row.start);
+        if (is_between(start(row), point, start(next)))
+            things[GWB_EDGE].insert(half / 2);
+        if (CGAL::orientation(start(row), start(next), start(after), point) != CGAL::COPLANAR)
+            off.insert(row.face);
+        else
+            things[GWB_FACE].insert(row.face);
+    }
+    for (std::uint32_t face : off)
+        things[GWB_FACE].erase(face);
 }
 
 // ---- both
@@ -609,8 +690,10 @@ private:
         add_to_sum(found.kind, found.why);
         check(!has_nef_ || is_right(found.kind, found.why, made, wanted, solids[0]),
               "seed " + std::to_string(seed_) + ": " + found.name + " " + std::to_string(found.why.value) + " in place of " + text(wanted) + "; of\n" + before);
-        if (found.kind != GWB_OK)
-            check(listing(&g_) == before, "what is refused changes nothing");
+        if (found.kind == GWB_OK)
+            return found;
+        check(listing(&g_) == before, "what is refused changes nothing");
+        check(!has_nef_ || is_met(found.why, made, solids), "seed " + std::to_string(seed_) + ": " + found.name + " is met elsewhere; of\n" + before);
         return found;
     }
 
@@ -639,6 +722,26 @@ private:
         case GWB_MISFIT_OFF_LATTICE: return wanted.factor != 1 && (why.value != 0 ? wanted.factor == Integer(why.value) : wanted.factor > Integer(UINT32_MAX));
         default: return false;
         }
+    }
+
+    // Whether it is so where what was met is said to be, and that is the least thing there; where the factor is too large to be told the point may be too.
+    [[nodiscard]] bool is_met(const gwb_refusal &why, const Nef &made, const std::vector<std::uint32_t> &solids) const
+    {
+        gwb_hit_row hit{};
+        const bool has_hit = gwb_hit(&g_, &hit), has_point = hit.scale.high != 0 || hit.scale.low != 0;
+        if (why.number == GWB_MISFIT_NOTHING_LEFT || !has_hit || !has_point)
+            return why.number == GWB_MISFIT_NOTHING_LEFT || (has_hit && why.number == GWB_MISFIT_OFF_LATTICE && why.value == 0 && hit.number == 0);
+        const Exact scale = exact(hit.scale);
+        const auto part = [&](std::size_t axis) { return Kernel::FT(Exact(exact(hit.point[axis]) / scale)); };
+        const Spot point(part(0), part(1), part(2));
+        std::map<std::uint32_t, std::set<std::uint32_t>> things;
+        for (std::uint32_t solid : solids)
+            add_things_at(&g_, solid, point, things);
+        for (std::uint32_t kind : {GWB_VERTEX, GWB_EDGE, GWB_FACE})
+            if (!things[kind].empty())
+                return hit.kind == kind && things[kind].count(hit.number) != 0 &&
+                       (why.number == GWB_MISFIT_MEETS ? touches_itself_at(made, point) : has_corner_off(made, point));
+        return false;
     }
 
     void undo_and_redo(const std::string &before)
