@@ -1,6 +1,6 @@
 #!/bin/sh
-# Tries the kernel as a library: builds the shared object and the examples in bindings/, compares what they print, looks for leaks, asks the calls
-# over worked scripts, lets threads read at once and sessions have heaps of their own, loads listings, refuses each allocation in turn, looks for
+# Tries the kernel as a library: builds the shared object and the examples in bindings/, compares what they print, looks for leaks, tries single
+# calls, lets threads read at once and sessions have heaps of their own, loads listings, refuses each allocation in turn, looks for
 # what sanitizers find, compares the answers to random lines with those to the same commands as typed calls, over a million of them, and the
 # answers to 100,000 random lines with the program's. The last line counts.
 #
@@ -277,10 +277,10 @@ else
 fi
 
 counted 'one program of features in all languages' python3 tests/library_same.py "$dir/built/libgwb.so" "$@"
-built 'worked scripts are built' library_worked.c cc -O2 -std=gnu11
-counted 'the calls over worked scripts' "$dir/built/library_worked"
-if has valgrind 'valgrind over worked scripts'; then
-    tried 'valgrind over worked scripts' valgrind -q --error-exitcode=9 --leak-check=full --show-leak-kinds=all "$dir/alone/library_worked"
+built 'single calls are built' library_worked.c cc -O2 -std=gnu11
+counted 'single calls' "$dir/built/library_worked"
+if has valgrind 'valgrind over single calls'; then
+    tried 'valgrind over single calls' valgrind -q --error-exitcode=9 --leak-check=full --show-leak-kinds=all "$dir/alone/library_worked"
 fi
 
 # typed LINES COMMAND..: gives so many random lines to the program that compares typed calls with lines

@@ -1,42 +1,13 @@
-/* The calls of the library over worked scripts, and as they answer a caller who has too little room, too long a line or no session.
- *
- * Each test opens a handle, asserts, and closes it. The last line is 'N passed, M failed'; what is wrong is named, and then the status is 1. */
-#include <stdio.h>
+/* The calls of the library as they answer a caller who has too little room, too long a line or no session, and what only they tell: the last answer as
+ * values, the faces of the last block or lamina, which kinds are answers. What each command does library_typed.c and library_cpp.cpp try, and
+ * library_readers.py the readers. The last line counts. */
+#include "checks.h"
+#include "gwb.h"
 #include <stdlib.h>
 #include <string.h>
 
-#include "gwb.h"
-
-static int wrong; /* assertions that failed in this test */
-
-static void check(int holds, int line, const char *said)
-{
-    if (!holds) {
-        printf("line %d: %s\n", line, said);
-        wrong++;
-    }
-}
-
-#define HOLDS(condition) check((condition), __LINE__, #condition)
+#define HOLDS(condition) check((condition), #condition)
 #define COUNT(row) (sizeof(row) / sizeof *(row))
-
-/* Compares the kinds that calls told with those that are wanted. */
-static void same_kinds(const uint32_t *found, const uint32_t *wanted, size_t count, int line)
-{
-    for (size_t i = 0; i < count; i++) {
-        if (found[i] != wanted[i]) {
-            printf("line %d: kind %zu is %u, not %u\n", line, i, found[i], wanted[i]);
-            wrong++;
-        }
-    }
-}
-
-#define KINDS(found, ...) \
-    do { \
-        const uint32_t wanted[] = {__VA_ARGS__}; \
-        HOLDS(COUNT(found) == COUNT(wanted)); \
-        same_kinds((found), wanted, COUNT(wanted), __LINE__); \
-    } while (0)
 
 static gwb opened(void)
 {
@@ -50,52 +21,11 @@ static uint32_t given(gwb *g, const char *line)
     return gwb_line(g, line, strlen(line));
 }
 
-/* The texts of the answers to the lines of a script, each of at most 64 bytes. */
-static void told(gwb *g, const char *script, char *texts)
-{
-    for (const char *at = script;; at++) {
-        size_t length = strcspn(at, "\n");
-        char text[64];
-        gwb_line(g, at, length);
-        size_t size = gwb_reply(g, text, sizeof text);
-        HOLDS(size <= sizeof text);
-        memcpy(texts, text, size);
-        texts += size;
-        at += length;
-        if (*at == '\0') {
-            break;
-        }
-    }
-    *texts = '\0';
-}
-
-/* A block with a hole is split through the hole; what is refused, undone and redone. */
-static const char SCRIPT[] =
-    "block 1 0 0 0 6 6 6\nmev +7 +7 13 9 2 2 6\nkemr +13 7\nmev @7 @7 13 10 2 4 6\nmev -13 -13 14 11 4 4 6\nmev -14 -14 15 12 4 2 6\n"
-    "mef -15 +13 16 7 8\nsweep 7 0 0 -6\nkfmrh 2 7\n# a comment\nvolume 1\nredo\nsplit 1 1 0 0 -3 2\nvolume 1\ncount 2\nplane 18\nkvfs 2\n"
-    "splitt 2\nundo\nvolume 2\nredo\nvolume 2\nundo";
-
-static const char TOLD[] =
-    "ok\nok\nok\nok\nok\nok\nok\nok\nok\nvolume 1152\nrefused 26 0\nok\nvolume 576\ncount 16 24 10 0 2\nplane 24 0 0 -72 flat\nrefused 12 2\n"
-    "fault 1\nok\nrefused 2 2\nok\nvolume 576\nok\n";
-
-static void split_through_a_hole(void)
-{
-    gwb g = opened();
-    char texts[2048];
-    told(&g, SCRIPT, texts);
-    HOLDS(strcmp(texts, TOLD) == 0);
-    HOLDS(gwb_depth(&g) == 9);
-    HOLDS(gwb_ahead(&g) == 1);
-    gwb_close(&g);
-}
-
 /* A block cut in two: solid 2 is its upper part, whose cap is face 15. */
 static gwb halved(void)
 {
     gwb g = opened();
-    char texts[256];
-    told(&g, "block 1 0 0 0 4 4 4\nsplit 1 0 0 1 -2 2", texts);
+    HOLDS(given(&g, "block 1 0 0 0 4 4 4") == 1 && given(&g, "split 1 0 0 1 -2 2") == 1);
     return g;
 }
 
@@ -191,57 +121,6 @@ static void closed_handle(void)
     gwb_close(&g);
 }
 
-/* A wire and a block by typed calls: kinds, and what is undone. */
-static void typed_calls(void)
-{
-    gwb g = opened();
-    uint32_t lone = GWB_LONE(1);
-    uint32_t kinds[7];
-    kinds[0] = gwb_mvfs(&g, 1, 1, 1, 1, 0, 0, 0);
-    kinds[1] = gwb_mev(&g, lone, lone, 1, 2, 5, 0, 0);
-    kinds[2] = gwb_kev(&g, 99);
-    kinds[3] = gwb_block(&g, 2, 0, 0, 9, 4, 4, 4);
-    kinds[4] = gwb_undo(&g);
-    kinds[5] = gwb_redo(&g);
-    kinds[6] = gwb_redo(&g);
-    KINDS(kinds, 1, 1, 2, 1, 1, 1, 2);
-    HOLDS(gwb_depth(&g) == 3);
-    gwb_close(&g);
-    HOLDS(gwb_kvfs(&g, 1) == 9);
-}
-
-/* A query as a typed call: of a solid that is there, of one that is not, and of a closed handle. */
-static void typed_query(void)
-{
-    gwb g = opened();
-    gwb_wide volume = {7, 7};
-    gwb_block(&g, 1, 0, 0, 0, 4, 4, 4);
-    HOLDS(gwb_volume(&g, 2, &volume) == 2);
-    HOLDS(volume.high == 7 && volume.low == 7);
-    HOLDS(gwb_volume(&g, 1, &volume) == 6);
-    HOLDS(volume.high == 0 && volume.low == 384);
-    gwb_close(&g);
-    HOLDS(gwb_volume(&g, 1, &volume) == 9);
-}
-
-/* A wire cut into two rings, one of which is moved out and back, and each refusal by its number. */
-static void typed_rings(void)
-{
-    gwb g = opened();
-    uint32_t lone = GWB_LONE(1);
-    uint32_t kinds[5];
-    kinds[0] = gwb_mvfs(&g, 1, 1, 1, 1, 0, 0, 0);
-    kinds[1] = gwb_mev(&g, lone, lone, 1, 2, 5, 0, 0);
-    kinds[2] = gwb_kemr(&g, 2, 2);
-    kinds[3] = gwb_ringmv(&g, 2, 1, 1);
-    kinds[4] = gwb_ringmv(&g, 2, 1, 0);
-    KINDS(kinds, 1, 1, 1, 1, 2);
-    gwb_refusal refusal = {0, 0};
-    HOLDS(gwb_last_refusal(&g, &refusal) == 1);
-    HOLDS(refusal.number == 23 && refusal.value == 2);
-    gwb_close(&g);
-}
-
 /* The corners of a triangle, and as many points as no polygon has. */
 static const gwb_point CORNERS[3] = {{0, 0, 0}, {3, 0, 0}, {0, 3, 0}};
 static const gwb_point TOO_MANY[65];
@@ -250,178 +129,11 @@ static const gwb_point TOO_MANY[65];
 static void typed_laminas(void)
 {
     gwb g = opened();
-    uint32_t kinds[3];
-    kinds[0] = gwb_lamina(&g, 1, CORNERS, 3);
-    kinds[1] = gwb_lamina(&g, 2, CORNERS, 2);
-    kinds[2] = gwb_lamina(&g, 2, TOO_MANY, 65);
-    KINDS(kinds, 1, 2, 10);
+    HOLDS(gwb_lamina(&g, 1, CORNERS, 3) == 1 && gwb_lamina(&g, 2, CORNERS, 2) == 2 && gwb_lamina(&g, 2, TOO_MANY, 65) == 10);
     gwb_refusal refusal = {0, 0};
     HOLDS(gwb_last_refusal(&g, &refusal) == 1);
     HOLDS(refusal.number == 28 && refusal.value == 2);
     gwb_close(&g);
-}
-
-/* Two solids merged and parted again; no faces, a face that is not there, and all faces. */
-static void typed_parts(void)
-{
-    gwb g = opened();
-    const uint32_t none[1] = {0}, absent[1] = {9}, both[2] = {1, 2}, second[1] = {2};
-    uint32_t kinds[7];
-    kinds[0] = gwb_mvfs(&g, 1, 1, 1, 1, 0, 0, 0);
-    kinds[1] = gwb_mvfs(&g, 2, 2, 2, 2, 1, 0, 0);
-    kinds[2] = gwb_merge(&g, 1, 2);
-    kinds[3] = gwb_part(&g, none, 0, 2);
-    kinds[4] = gwb_part(&g, absent, 1, 2);
-    kinds[5] = gwb_part(&g, both, 2, 2);
-    kinds[6] = gwb_part(&g, second, 1, 2);
-    KINDS(kinds, 1, 1, 1, 10, 2, 2, 1);
-    gwb_face_row row = {0, 0};
-    HOLDS(gwb_face(&g, 2, &row) == 1);
-    HOLDS(row.solid == 2);
-    gwb_close(&g);
-}
-
-/* A wire in a draft: its steps, one of them refused, one taken back to a mark, and what a draft has not. */
-static void drafts_a_wire(gwb *g)
-{
-    uint32_t lone = GWB_LONE(1);
-    uint32_t kinds[12];
-    kinds[0] = gwb_commit(g);
-    kinds[1] = gwb_draft(g);
-    kinds[2] = gwb_mvfs(g, 1, 1, 1, 1, 0, 0, 0);
-    kinds[3] = gwb_mev(g, lone, lone, 1, 2, 5, 0, 0);
-    kinds[4] = gwb_kev(g, 99);
-    kinds[5] = gwb_draft(g);
-    kinds[6] = gwb_undo(g);
-    kinds[7] = given(g, "undo");
-    size_t mark = gwb_mark(g);
-    kinds[8] = gwb_lamina(g, 2, CORNERS, 3);
-    HOLDS(mark == 2 && gwb_mark(g) > mark);
-    kinds[9] = gwb_back(g, mark);
-    HOLDS(gwb_mark(g) == mark);
-    kinds[10] = gwb_commit(g);
-    kinds[11] = gwb_back(g, mark);
-    HOLDS(gwb_mark(g) == 0);
-    KINDS(kinds, 12, 1, 1, 1, 2, 11, 11, 11, 1, 1, 1, 12);
-}
-
-/* Lines in a draft: operators and larger commands are its steps, questions and the listing are of its model, and it has no undo and no redo,
- * which leave the last answer. */
-static void lines_in_a_draft(void)
-{
-    gwb g = opened();
-    uint32_t kinds[13];
-    gwb_refusal refusal = {0, 0};
-    gwb_wide volume = {0, 0};
-    char text[64];
-    kinds[0] = given(&g, "mvfs 1 1 1 1 0 0 0");
-    kinds[1] = gwb_draft(&g);
-    kinds[2] = given(&g, "block 2 0 0 0 4 4 4");
-    kinds[3] = given(&g, "mev @1 @1 20 20 9 9 9");
-    HOLDS(gwb_mark(&g) > 10);
-    kinds[4] = given(&g, "kvfs 2");
-    HOLDS(gwb_last_refusal(&g, &refusal) == 1 && refusal.value == 2);
-    kinds[5] = given(&g, "count 2");
-    HOLDS(gwb_reply(&g, text, sizeof text) == 17 && memcmp(text, "count 8 12 6 0 2\n", 17) == 0);
-    kinds[6] = given(&g, "volume 2");
-    kinds[7] = given(&g, "undo");
-    kinds[8] = given(&g, "redo");
-    HOLDS(gwb_last_volume(&g, &volume) == 1 && volume.low == 384);
-    kinds[9] = given(&g, "plane 99");
-    kinds[10] = given(&g, "no word");
-    kinds[11] = given(&g, " # nothing");
-    kinds[12] = given(&g, "list");
-    KINDS(kinds, 1, 1, 1, 1, 2, 7, 6, 11, 11, 2, 3, 0, 8);
-    size_t listed = gwb_reply(&g, text, sizeof text);
-    HOLDS(gwb_commit(&g) == 1 && gwb_depth(&g) == 2 && given(&g, "list") == 8 && gwb_reply(&g, text, sizeof text) == listed);
-    HOLDS(gwb_undo(&g) == 1 && given(&g, "count 2") == 2 && given(&g, "kvfs 1") == 1);
-    gwb_close(&g);
-}
-
-/* A draft that is committed is one command, one that is abandoned leaves what can be redone, and one that is open can be closed. */
-static void drafts_of_a_wire(void)
-{
-    gwb g = opened();
-    drafts_a_wire(&g);
-    uint32_t kinds[8];
-    kinds[0] = gwb_undo(&g);
-    kinds[1] = gwb_draft(&g);
-    kinds[2] = gwb_mvfs(&g, 1, 1, 1, 1, 9, 9, 9);
-    kinds[3] = gwb_abandon(&g);
-    kinds[4] = gwb_abandon(&g);
-    kinds[5] = gwb_redo(&g);
-    kinds[6] = gwb_draft(&g);
-    kinds[7] = gwb_kev(&g, 2);
-    KINDS(kinds, 1, 1, 1, 1, 12, 1, 1, 1);
-    gwb_close(&g);
-    HOLDS(gwb_draft(&g) == 9 && gwb_back(&g, 0) == 9 && gwb_mark(&g) == SIZE_MAX);
-}
-
-/* Half-edges and corners as numbers, on both sides of the bounds above which there are none. */
-static void codes(void)
-{
-    HOLDS(gwb_plus(7) == 14 && gwb_minus(7) == 15 && gwb_lone(3) == 0x80000003 && GWB_LONE(3) == gwb_lone(3));
-    HOLDS(gwb_plus(GWB_GREATEST_EDGE) == 0x7FFFFFFE && gwb_minus(GWB_GREATEST_EDGE) == 0x7FFFFFFF);
-    HOLDS(gwb_plus(GWB_GREATEST_EDGE + 1) == 0x7FFFFFFE && gwb_minus(UINT32_MAX) == 0x7FFFFFFF);
-    HOLDS(gwb_lone(0x7FFFFFFE) == 0xFFFFFFFE && gwb_lone(0x7FFFFFFF) == UINT32_MAX && gwb_lone(0x80000002) == UINT32_MAX);
-    gwb g = opened();
-    uint32_t kinds[] = {gwb_mvfs(&g, 1, 1, 2, 1, 0, 0, 0), gwb_mev(&g, gwb_plus(0x40000001), gwb_plus(0x40000001), 1, 2, 1, 0, 0),
-                        gwb_mev(&g, gwb_lone(0x80000002), gwb_lone(0x80000002), 1, 2, 1, 0, 0),
-                        gwb_mev(&g, gwb_lone(2), gwb_lone(2), 1, 2, 1, 0, 0), gwb_kev(&g, gwb_plus(2147483649u))};
-    gwb_refusal refusal = {0, 0};
-    KINDS(kinds, 1, 2, 2, 1, 2);
-    HOLDS(gwb_last_refusal(&g, &refusal) == 1 && refusal.number == 1 && refusal.value == GWB_GREATEST_EDGE);
-    gwb_close(&g);
-}
-
-/* The neighbours of the half-edges of a block, and what readers leave as it is. */
-static void neighbours(void)
-{
-    gwb g = opened();
-    HOLDS(gwb_block(&g, 1, 0, 0, 0, 4, 4, 4) == 1);
-    const gwb before = g;
-    uint32_t next, back, loop, face, half_edge, found = 0;
-    gwb_edge_row ends;
-    for (uint32_t at = 2; at < 26; at++) {
-        HOLDS(gwb_next_half_edge(&g, at, &next) == 1 && gwb_previous_half_edge(&g, next, &back) == 1 && back == at);
-        HOLDS(gwb_half_edge_loop(&g, at, &loop) == 1 && gwb_half_edge_loop(&g, next, &back) == 1 && back == loop);
-        HOLDS(gwb_loop(&g, loop, &face) == 1);
-    }
-    for (uint32_t vertex = 1; vertex <= 8; vertex++)
-        found += gwb_vertex_half_edge(&g, vertex, &half_edge) == 1 && gwb_edge(&g, half_edge / 2, &ends) == 1
-            && (half_edge % 2 == 0 ? ends.from : ends.to) == vertex;
-    HOLDS(found == 8 && gwb_vertex_half_edge(&g, 9, &half_edge) == 0 && gwb_half_edge_loop(&g, 26, &loop) == 0);
-    HOLDS(memcmp(&before, &g, sizeof g) == 0);
-    gwb_close(&g);
-    HOLDS(gwb_previous_half_edge(&g, 2, &back) == 9 && gwb_half_edge_loop(&g, 2, &loop) == 9 && gwb_vertex_half_edge(&g, 1, &half_edge) == 9);
-}
-
-/* Measures by readers: they tell what the queries tell, and leave the handle and the last answer. */
-static void measures(void)
-{
-    gwb g = opened();
-    HOLDS(gwb_block(&g, 1, 0, 0, 0, 4, 4, 4) == 1 && gwb_kvfs(&g, 1) == 2);
-    const gwb before = g;
-    gwb_plane plane = {.flat = 7}, asked = {.flat = 7};
-    gwb_wide volume = {7, 7};
-    gwb_counts counts = {0, 0, 0, 0, 0};
-    gwb_refusal refusal = {7, 7}, last = {0, 0};
-    char text[16], listing[2048], listed[2048];
-    HOLDS(gwb_read_plane(&g, 1, &plane, &refusal) == 5 && gwb_read_volume(&g, 1, &volume, &refusal) == 6);
-    HOLDS(gwb_read_counts(&g, 1, &counts, &refusal) == 7 && refusal.number == 7 && refusal.value == 7);
-    HOLDS(volume.high == 0 && volume.low == 384 && plane.flat == 1 && counts.vertices == 8 && counts.edges == 12 && counts.sum == 2);
-    HOLDS(gwb_read_volume(&g, 9, &volume, &refusal) == 2 && volume.low == 384 && refusal.value == 9);
-    HOLDS(gwb_read_plane(&g, 99, &plane, &refusal) == 2 && plane.flat == 1 && refusal.value == 99);
-    HOLDS(gwb_read_counts(&g, 3, &counts, &refusal) == 2 && counts.faces == 6 && refusal.value == 3);
-    size_t length = gwb_read_listing(&g, listing, sizeof listing);
-    HOLDS(memcmp(&before, &g, sizeof g) == 0 && gwb_last_refusal(&g, &last) == 1 && last.value == 1);
-    HOLDS(gwb_reply(&g, text, sizeof text) < sizeof text && length > 0 && length < sizeof listing);
-    HOLDS(given(&g, "list") == 8 && gwb_reply(&g, listed, sizeof listed) == length && memcmp(listing, listed, length) == 0);
-    HOLDS(gwb_face_plane(&g, 1, &asked) == 5 && memcmp(&asked.a, &plane.a, 4 * sizeof plane.a) == 0);
-    gwb_close(&g);
-    HOLDS(gwb_read_plane(&g, 1, &plane, &refusal) == 9 && gwb_read_volume(&g, 1, &volume, &refusal) == 9);
-    HOLDS(gwb_read_counts(&g, 1, &counts, &refusal) == 9 && gwb_read_listing(&g, listing, sizeof listing) == SIZE_MAX);
-    HOLDS(counts.faces == 6 && volume.low == 384 && refusal.value == 3);
 }
 
 /* Whether a face has this plane, of small numbers. */
@@ -463,17 +175,14 @@ static void kinds_of_answers(void)
     }
 }
 
-static void (*const TESTS[])(void) = {split_through_a_hole, answers_as_values, too_little_room, longest_line, closed_handle, typed_calls,
-                                      typed_query, typed_rings, typed_laminas, typed_parts, drafts_of_a_wire, lines_in_a_draft, codes, neighbours,
-                                      measures, faces_of_the_last, kinds_of_answers};
-
-int main(void) {
-    unsigned failed = 0;
-    for (size_t i = 0; i < COUNT(TESTS); i++) {
-        wrong = 0;
-        TESTS[i]();
-        failed += wrong != 0;
-    }
-    printf("%zu passed, %u failed\n", COUNT(TESTS) - failed, failed);
-    return failed != 0;
+int main(void)
+{
+    answers_as_values();
+    too_little_room();
+    longest_line();
+    closed_handle();
+    typed_laminas();
+    faces_of_the_last();
+    kinds_of_answers();
+    return counted();
 }
