@@ -32,17 +32,8 @@ class Drafts(unittest.TestCase):
         self.bench = opened(self)
         self.block = self.bench.block((0, 0, 0), (9, 9, 9))
         self.bench.block((20, 0, 0), (1, 1, 1))
-        self.both = self.bench.listing()
         self.bench.undo()
         self.held, self.before = self.bench.listing(), self.bench.script()
-
-    def nothing_has_changed(self):
-        self.assertEqual((self.bench.listing(), self.bench.script()), (self.held, self.before))
-        self.bench.redo()
-        self.assertEqual(self.bench.listing(), self.both)
-        with self.assertRaises(Refused):
-            self.bench.redo()
-        self.assertEqual(self.bench.ask('redo').lines, ('refused 26 0',))
 
     def test_its_steps_are_one_command(self):
         bench = self.bench
@@ -77,32 +68,6 @@ class Drafts(unittest.TestCase):
             self.assertTrue(bench.plane(self.block.top).flat)
             self.assertEqual(bench.volume(1), 729)
         self.assertEqual(bench.script().count('\n'), self.before.count('\n') + 2)
-
-    def test_an_exception_leaves_no_trace(self):
-        with self.assertRaises(GivenUp), self.bench.draft():
-            cut(self.bench)
-            raise GivenUp
-        self.nothing_has_changed()
-
-    def test_a_refused_step_leaves_it_open(self):
-        bench = self.bench
-        with bench.draft():
-            cut(bench)
-            with self.assertRaises(Refused):
-                bench.kvfs(1)
-            cut(bench)
-        self.assertEqual(len(bench.face(self.block.top).rings), 2)
-
-    def test_a_refused_step_that_is_not_caught_leaves_no_trace(self):
-        with self.assertRaises(Refused), self.bench.draft():
-            cut(self.bench)
-            self.bench.kvfs(1)
-        self.nothing_has_changed()
-
-    def test_one_without_steps_leaves_everything_as_it_was(self):
-        with self.bench.draft():
-            pass
-        self.nothing_has_changed()
 
     def test_what_it_does_not_take(self):
         bench = self.bench
@@ -163,36 +128,6 @@ class Drafts(unittest.TestCase):
                 self.assertEqual((bench.listing(), bench.script()), (made, script))
         self.assertEqual(bench.listing(), made)
 
-    def test_one_within_another(self):
-        bench = self.bench
-        with bench.draft():
-            bench.ring(self.block.top, TRIANGLE)
-            held = bench.listing()
-            with bench.draft():
-                bench.block((30, 0, 0), (1, 1, 1))
-                with self.assertRaises(GivenUp), bench.group():
-                    bench.block((40, 0, 0), (1, 1, 1))
-                    bench.split(1, (0, 0, 1, -2))
-                    raise GivenUp
-                kept = bench.listing()
-                self.assertEqual(len(kept.solids), 2)
-            with self.assertRaises(GivenUp), bench.draft(), bench.draft():
-                bench.delete(1)
-                raise GivenUp
-            self.assertEqual((bench.listing(), as_listed(bench)), (kept, kept))
-            self.assertNotEqual(kept, held)
-        bench.undo()
-        self.assertEqual(bench.listing(), self.held)
-        bench.redo()
-        self.assertEqual(bench.listing(), kept)
-        self.assertEqual(bench.ask('redo').lines, ('refused 26 0',))
-
-    def test_one_of_which_all_within_was_given_up_leaves_no_trace(self):
-        with self.bench.draft(), self.assertRaises(GivenUp), self.bench.draft():
-            self.bench.block((30, 0, 0), (1, 1, 1))
-            raise GivenUp
-        self.nothing_has_changed()
-
     def test_one_that_ends_before_those_within_it(self):
         outer, inner = self.bench.draft(), self.bench.draft()
         outer.__enter__()
@@ -215,28 +150,6 @@ class Drafts(unittest.TestCase):
         with self.assertRaises(Ended), self.bench.draft():
             cut(self.bench)
             self.bench.close()
-
-    def test_a_program_whose_script_is_taken_up(self):
-        with self.bench.draft():
-            cut(self.bench)
-        with tempfile.TemporaryDirectory() as folder:
-            self.bench.save(f'{folder}/part.gwb')
-            with Workbench.load(f'{folder}/part.gwb', library()) as again:
-                self.assertEqual((again.listing(), again.script()), (self.bench.listing(), self.bench.script()))
-
-    def test_a_ring_is_one_command(self):
-        self.bench.ring(self.block.top, TRIANGLE)
-        self.assertEqual(len(self.bench.face(self.block.top).rings), 1)
-        self.bench.undo(command=True)
-        self.assertEqual(self.bench.listing(), self.held)
-
-    def test_a_ring_in_a_draft_is_part_of_it(self):
-        with self.bench.draft():
-            self.bench.ring(self.block.top, TRIANGLE)
-            self.bench.kfmrh(self.block.top, self.block.bottom)
-        self.assertEqual(len(self.bench.face(self.block.top).rings), 2)
-        self.bench.undo()
-        self.assertEqual(self.bench.listing(), self.held)
 
     def forget_a_vertex(self):
         """Leaves a vertex without an edge that can be redone."""
