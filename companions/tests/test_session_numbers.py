@@ -5,8 +5,10 @@ import unittest
 from random import Random
 
 from support import STEP, as_listed, library, opened
+from test_playing import Chance
+from test_session import call
 
-from gwb import Complaint, Lone, Workbench
+from gwb import Complaint, InDraft, Workbench
 from gwb.geometry.free_numbers import KINDS
 
 
@@ -16,122 +18,56 @@ def greatest_of(model):
     return tuple(max(numbers, default=0) for numbers in kinds)
 
 
-class Play:
-    """A bench, and random commands that are often accepted."""
+class Unnumbered:
+    """A bench whose methods choose all numbers."""
 
-    def __init__(self, bench, seed):
-        self.bench, self.random = bench, Random(seed)
+    def __init__(self, bench):
+        self.bench = bench
 
-    def step(self, model):
-        """One command; what it returned, and its name. A complaint is raised."""
-        calls = (self.mvfs, self.kvfs, self.mev, self.kev, self.mef, self.kef, self.kemr, self.mekr, self.kfmrh, self.mfkrh,
-                 self.lamina, self.block, self.block, self.sweep, self.glue, self.split, self.undo, self.redo, self.line, self.draft)
-        call = self.random.choice(calls)
-        return call.__name__, call(model)
-
-    def any(self, numbers):
-        return self.random.choice(sorted(numbers) or [1])
-
-    def half(self, model):
-        return self.any(model.edges) * self.random.choice((1, -1))
-
-    def point(self):
-        return tuple(self.random.randrange(-4, 5) for _ in range(3))
-
-    def mvfs(self, _):
-        return self.bench.mvfs(self.point())
-
-    def kvfs(self, model):
-        return self.bench.kvfs(self.any(model.solids))
-
-    def mev(self, model):
-        lone = [loop for loop, row in model.loops.items() if row.is_lone]
-        corner = Lone(self.any(lone)) if lone and self.random.random() < 0.5 else self.half(model)
-        return self.bench.mev(corner, corner, self.point())
-
-    def kev(self, model):
-        return self.bench.kev(self.half(model))
-
-    def mef(self, model):
-        halves = self.any([row.halves for row in model.loops.values() if row.halves] or [(1, 1)])
-        return self.bench.mef(self.random.choice(halves), self.random.choice(halves))
-
-    def kef(self, model):
-        return self.bench.kef(self.half(model))
-
-    def kemr(self, model):
-        return self.bench.kemr(self.half(model))
-
-    def mekr(self, model):
-        face = model.faces.get(self.any([number for number, row in model.faces.items() if row.rings]))
-        corners = [Lone(loop) if model.loops[loop].is_lone else self.random.choice(model.loops[loop].halves)
-                   for loop in (face.loops[:2] if face else ())] or [1, 1]
-        return self.bench.mekr(corners[0], corners[-1])
-
-    def kfmrh(self, model):
-        return self.bench.kfmrh(self.any(model.faces), self.any(model.faces))
-
-    def mfkrh(self, model):
-        return self.bench.mfkrh(self.any([ring for face in model.faces.values() for ring in face.rings]))
-
-    def lamina(self, _):
-        return self.bench.lamina([self.point() for _ in range(self.random.randrange(3, 6))])
-
-    def block(self, _):
-        return self.bench.block(self.point(), (2, 2, 2))
-
-    def sweep(self, model):
-        return self.bench.sweep(self.any(model.faces), self.point())
-
-    def glue(self, model):
-        one, other = self.bench.block((8, 8, 8), (2, 2, 2)), self.bench.block((8, 8, 10), (2, 2, 2))
-        return self.bench.glue(one.top, other.bottom)
-
-    def split(self, model):
-        return self.bench.split(self.any(model.solids), (*self.random.choice(((1, 0, 0), (0, 1, 0), (0, 0, 1))), self.random.randrange(-3, 3)))
-
-    def draft(self, _):
-        """A draft of some operators, committed, or abandoned for one that is refused."""
-        with self.bench.draft():
-            for _ in range(self.random.randrange(5)):
-                self.random.choice((self.mvfs, self.mev, self.mef, self.kemr, self.kfmrh))(self.bench.listing())
-
-    def undo(self, _):
-        return [self.bench.undo() for _ in range(self.random.randrange(1, 4))] and None
-
-    def redo(self, _):
-        return self.bench.redo()
-
-    def line(self, model):
-        number = self.random.randrange(1, 400)
-        reply = self.bench.ask(f'mvfs {number} {number} {number} {number} 1 2 3' if self.random.random() < 0.5 else 'undo')
-        return reply and None
+    def __getattr__(self, name):
+        return lambda *given, **numbers: getattr(self.bench, name)(*given)
 
 
 class Numbers(unittest.TestCase):
     """RANDOM_COMMANDS of the environment may name how many."""
 
     def test_random_commands(self):
-        left, seed = int(os.environ.get('RANDOM_COMMANDS', 2000)), 0
+        left, seed = int(os.environ.get('RANDOM_COMMANDS', 4000)), 0
         while left > 0:
             with Workbench(library(), step=STEP) as bench:
-                left, seed = left - self.play(bench, seed, min(left, 25)), seed + 1
+                left, seed = left - self.play(bench, seed, min(left, 80)), seed + 1
 
     def play(self, bench, seed, count):
-        play, before = Play(bench, seed), bench.listing()
+        chance, random, before = Chance(seed), Random(seed), bench.listing()
         for _ in range(count):
+            word, *words = chance.line(before).split()
             try:
-                name, result = play.step(before)
-            except Complaint:
+                result = self.given(bench, random, chance, word, words)
+            except (Complaint, InDraft):
                 before = bench.listing()
                 continue
             after = bench.listing()
-            self.compare(name, result, before, after, seed)
-            self.assertEqual(tuple(bench._kernel.lines.greatest(kind) for kind in KINDS), greatest_of(after), (seed, name))
-            if play.random.random() < 0.2:
-                self.assertEqual(as_listed(bench), after, (seed, name))
+            if result is not None:
+                self.compare(word, result, before, after, seed)
+            self.assertEqual(tuple(bench._kernel.lines.greatest(kind) for kind in KINDS), greatest_of(after), (seed, word))
+            if random.random() < 0.2:
+                self.assertEqual(as_listed(bench), after, (seed, word))
             before = after
         return count
+
+    def given(self, bench, random, chance, word, words):
+        """What a method returns; of a line, or of a draft of some commands, which is given up where one is refused, nothing."""
+        way = random.randrange(8)
+        if way == 0:
+            bench.ask(' '.join([word, *words]))
+        elif way == 1:
+            with bench.draft():
+                for _ in range(random.randrange(5)):
+                    word, *words = chance.line(bench.listing()).split()
+                    call(Unnumbered(bench), word, words)
+        else:
+            return call(Unnumbered(bench), word, words)
+        return None
 
     def compare(self, name, result, before, after, seed):
         """The numbers returned are new ones, and all of the new ones of the kinds that the result names."""
