@@ -1,5 +1,6 @@
 """What commands change, told as they are played: random ones, each compared with a listing. test_session_playing.py does it by the library."""
 
+import json
 import os
 import random
 import unittest
@@ -9,7 +10,7 @@ from unittest import mock
 
 from support import program
 
-from gwb.drawing.page_rows import EMPTY, PageRows
+from gwb.drawing.page_rows import EMPTY, Changes, rows_of
 from gwb.errors import ProgramMissing
 from gwb.programs import playing
 from gwb.programs.pipe import Pipe
@@ -95,15 +96,14 @@ class AtRandom:
     def tried(self, seed, count):
         """Gives random commands; how many of each word were accepted."""
         player, chance, held, accepted = self.player(), Chance(seed), EMPTY, Counter()
-        told, listed = PageRows(), PageRows()
-        shown = told.of(held)
+        changes, shown = Changes(), json.loads(rows_of(held))
         for _ in range(count):
             line = chance.line(held)
             reply, before, after = player.give(line)
-            for kind, changed in told.changed(before, after).items():
+            for kind, changed in json.loads(changes.between(before, after)).items():
                 shown[kind] = {number: row for number, row in {**shown[kind], **changed}.items() if row is not None}
             held = model_of(player.ask('list'))
-            self.assertEqual(shown, listed.of(held), f'{seed}: {line}')
+            self.assertEqual(shown, json.loads(rows_of(held)), f'{seed}: {line}')
             self.assertEqual(player.model(), held, f'{seed}: {line}')
             accepted[line.split()[0]] += reply.word == 'ok'
         return accepted

@@ -3,13 +3,12 @@
 import base64
 import hashlib
 import html
-import json
 from fractions import Fraction
 from pathlib import Path
 from typing import Dict, Iterable, List, Mapping, NamedTuple, Optional, Protocol, Tuple
 
 from ..geometry.model import Model
-from .page_rows import EMPTY, PageRows, Rows
+from .page_rows import EMPTY, in_json, rows_of
 
 _FILES = Path(__file__).resolve().parent / 'page'
 _SCRIPTS = ('picture.js', 'section.js', 'measure.js', 'occlusion.js', 'painter.js', 'flat.js', 'panels.js', 'page.js')
@@ -34,7 +33,7 @@ _LETTERS = {'solid': 's', 'face': 'f'}
 
 
 class Step(NamedTuple):
-    """A command of a script, what was replied to it, and what it changed: rows of the page by kind and number, None for what has gone.
+    """A command of a script, what was replied to it, and what it changed: rows of the page in JSON, null for what has gone.
 
     `row` is what the list of steps calls it and those that follow and have none: they are one step of whoever made the script.
     """
@@ -42,7 +41,7 @@ class Step(NamedTuple):
     line: str
     reply: str
     is_complaint: bool
-    change: Dict[str, Rows]
+    change: str
     row: str = ''
 
 
@@ -74,22 +73,26 @@ def title_of(model: Model, looks: Looks, otherwise: str) -> str:
 
 def page_of(model: Model, title: str = 'gwb', looks: Looks = _PLAIN, unit: Fraction = Fraction(1)) -> str:
     """A page that shows the model, its solids and faces with the names and colours that are given; a coordinate has so many millimetres."""
-    return _page({'frames': [{'change': PageRows().of(model)}], **_looks_data(looks), **_unit_data(unit)}, title)
+    return _page(f'"frames":[{{"change":{rows_of(model)}}}]', looks, unit, title)
+
+
+def page_of_steps(steps: Iterable[Step], title: str = 'gwb', looks: Looks = _PLAIN, unit: Fraction = Fraction(1)) -> str:
+    """A page that plays a script: the empty workbench, and what each command changes."""
+    frames = [f'{{"change":{rows_of(EMPTY)}}}', *map(_frame, steps)]
+    return _page(f'"steps":true,"frames":[{",".join(frames)}]', looks, unit, title)
+
+
+def _frame(step: Step) -> str:
+    line, reply, is_bad, row = map(in_json, (step.line, step.reply, step.is_complaint, step.row))
+    return f'{{"line":{line},"reply":{reply},"bad":{is_bad},"change":{step.change},"row":{row}}}'
 
 
 def _unit_data(unit: Fraction) -> Dict[str, List[str]]:
     return {} if unit == 1 else {'unit': [str(unit.numerator), str(unit.denominator)]}
 
 
-def page_of_steps(steps: Iterable[Step], title: str = 'gwb', looks: Looks = _PLAIN, unit: Fraction = Fraction(1)) -> str:
-    """A page that plays a script: the empty workbench, and what each command changes."""
-    frames: List[Dict[str, object]] = [{'change': PageRows().of(EMPTY)}]
-    frames += ({'line': step.line, 'reply': step.reply, 'bad': step.is_complaint, 'change': step.change, 'row': step.row} for step in steps)
-    return _page({'steps': True, 'frames': frames, **_looks_data(looks), **_unit_data(unit)}, title)
-
-
-def _page(data: Dict[str, object], title: str) -> str:
-    text = json.dumps(data, separators=(',', ':')).replace('<', '\\u003c')
+def _page(frames: str, looks: Looks, unit: Fraction, title: str) -> str:
+    text = f'{{{frames},{in_json({**_looks_data(looks), **_unit_data(unit)})[1:]}'.replace('<', '\\u003c')
     name = html.escape(title).encode('ascii', 'xmlcharrefreplace').decode()
     style, script = _lean('page.css'), '\n'.join(_lean(file) for file in _SCRIPTS)
     parts = {'title': name, 'style': style, 'script': script, 'data': text, 'policy': _policy(style, script)}

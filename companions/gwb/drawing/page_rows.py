@@ -1,46 +1,47 @@
-"""The things of a model as the page reads them: a row for each, by kind and number."""
+"""The things of a model as the page reads them, in JSON: a row for each, by kind and number."""
 
-from typing import Dict, Hashable, List, Mapping, Sequence
+import json
+from typing import Dict, Hashable, Iterable, List, Mapping, Sequence, Tuple
 
 from ..errors import Unfit
-from ..geometry.measures import anchor, normal, off_plane
-from ..geometry.model import Face, Model
+from ..geometry.measures import normal, off_plane
+from ..geometry.model import Face, Loop, Model
 from ..geometry.plane_figures import turn
 from ..geometry.touched_edges import touched_edges
 from ..geometry.triangulation import face_triangles
-from ..geometry.vectors import ZERO, dot, flat_axes
+from ..geometry.vectors import ZERO, Vector, flat_axes
 
-Rows = Dict[int, object]
 EMPTY = Model((), {}, {}, {}, {})
+# As the page is written: without spaces.
+in_json = json.JSONEncoder(separators=(',', ':')).encode
 
 
-class PageRows:
-    """The things of models as the page reads them. A face that is as it was in a model before isn't cut anew."""
+def rows_of(model: Model) -> str:
+    """All things of the model."""
+    return _rows(((face, _face(model, face)) for face in model.faces), model.edges, model.vertices)
+
+
+def _rows(faces: Iterable[Tuple[int, str]], edges: Mapping[int, object], vertices: Mapping[int, object]) -> str:
+    """The rows of all kinds; those of faces are in JSON already."""
+    told = ','.join([f'"{face}":{row}' for face, row in faces])
+    return f'{{"faces":{{{told}}},"edges":{in_json(edges)},"vertices":{in_json(vertices)}}}'
+
+
+class Changes:
+    """What changes from model to model. A face that is as it was in a model before isn't cut anew."""
 
     def __init__(self) -> None:
-        self._faces: Dict[Hashable, List[object]] = {}
+        self._faces: Dict[Hashable, str] = {None: 'null'}
 
-    def of(self, model: Model) -> Dict[str, Rows]:
-        """All things of the model."""
-        return self.changed(EMPTY, model)
-
-    def changed(self, before: Model, after: Model) -> Dict[str, Rows]:
-        """The things that differ, as they are after, and None for those that have gone. Of models the same faces do, with all that differ."""
+    def between(self, before: Model, after: Model) -> str:
+        """The rows that differ, as they are after, and null for those that have gone. Of models the same faces do, with all that differ."""
         faces = _differences(_keys(before), _keys(after))
-        return {'faces': {face: None if key is None else self._face(after, face, key) for face, key in faces.items()},
-                'edges': _differences(before.edges, after.edges), 'vertices': _differences(before.vertices, after.vertices)}
-
-    def _face(self, model: Model, face: int, key: Hashable) -> List[object]:
-        """The solid, the loops, the plane (as text, since its numbers may be large), whether it is flat, and the triangles."""
-        if key not in self._faces:
-            across = normal(model, face)
-            loops = [[loop, model.loops[loop].halves, model.loops[loop].vertex] for loop in model.faces[face].loops]
-            plane = [str(number) for number in (*across, -dot(across, anchor(model, face)))]
-            self._faces[key] = [model.faces[face].solid, loops, plane, off_plane(model, face, across) is None, _corners(model, face)]
-        return self._faces[key]
+        self._faces.update({key: _face(after, face) for face, key in faces.items() if key not in self._faces})
+        return _rows([(face, self._faces[key]) for face, key in faces.items()],
+                     _differences(before.edges, after.edges), _differences(before.vertices, after.vertices))
 
 
-def _differences(before: Mapping[int, object], after: Mapping[int, object]) -> Rows:
+def _differences(before: Mapping[int, Hashable], after: Mapping[int, Hashable]) -> Dict[int, Hashable]:
     """The rows that are others than before, and None for those that have gone."""
     return {**dict.fromkeys(before.keys() - after.keys()), **{number: row for number, row in after.items() if before.get(number) != row}}
 
@@ -51,16 +52,35 @@ def _keys(model: Model) -> Dict[int, Hashable]:
             for number, face in model.faces.items()}
 
 
-def _corners(model: Model, face: int) -> List[int]:
+def _face(model: Model, face: int) -> str:
+    """The solid, the loops, the plane (as text, since its numbers may be large), whether it is flat, and the corners of its triangles."""
+    solid, outer, rings = model.faces[face]
+    loops = ','.join([_loop(loop, model.loops[loop]) for loop in (outer, *rings)])
+    a, b, c = across = normal(model, face)
+    x, y, z = model.loop_points(outer)[0]
+    is_triangle = not rings and len(model.loops[outer].halves) == 3
+    flat = 'true' if is_triangle or off_plane(model, face, across) is None else 'false'
+    corners = model.tails(model.loops[outer].halves) if is_triangle else _corners(model, face, across)
+    return f'[{solid},[{loops}],["{a}","{b}","{c}","{-(a * x + b * y + c * z)}"],{flat},[{",".join(map(str, corners))}]]'
+
+
+def _loop(number: int, loop: Loop) -> str:
+    """The number of a loop, its half-edges, and its vertex where it is lone."""
+    return f'[{number},[{",".join(map(str, loop.halves))}],{"null" if loop.vertex is None else loop.vertex}]'
+
+
+def _corners(model: Model, face: int, across: Vector) -> List[int]:
     """The corners of the face's triangles; a wire has none. One that can't be cut exactly is a fan about its first corner."""
     corners = [model.tail(half) for half in _without_spurs(model.loops[model.faces[face].outer].halves)]
     fan = [vertex for pair in zip(corners[1:], corners[2:]) for vertex in (corners[0], *pair)]
-    if not fan or normal(model, face) == ZERO or _is_plain(model, face):
+    if not fan or across == ZERO or _is_plain(model, face, across):
         return fan
     # The face alone, without its rings that are one vertex.
     solid, outer, rings = model.faces[face]
     row = Face(solid, outer, tuple(ring for ring in rings if not model.loops[ring].is_lone))
-    bare = Model((), {face: row}, {loop: model.loops[loop] for loop in row.loops}, model.edges, model.vertices)
+    loops = {loop: model.loops[loop] for loop in row.loops}
+    edges = {abs(half): model.edges[abs(half)] for loop in loops.values() for half in loop.halves}
+    bare = Model((), {face: row}, loops, edges, model.vertices)
     try:
         return [vertex for triangle in face_triangles(bare, face, touched_edges(bare)) for vertex in triangle]
     except Unfit:
@@ -79,10 +99,10 @@ def _without_spurs(halves: Sequence[int]) -> List[int]:
     return kept[ends:len(kept) - ends]
 
 
-def _is_plain(model: Model, face: int) -> bool:
+def _is_plain(model: Model, face: int, across: Vector) -> bool:
     """Whether the face has three or four corners and no ring, and the fan about the first corner covers it."""
     if model.faces[face].rings or len(model.loops[model.faces[face].outer].halves) > 4:
         return False
-    first, second = flat_axes(normal(model, face))
+    first, second = flat_axes(across)
     start, *others = [(point[first], point[second]) for point in model.loop_points(model.faces[face].outer)]
     return all(turn(start, a, b) > 0 for a, b in [*zip(others, others[1:]), (others[0], others[-1])])

@@ -6,7 +6,7 @@ from contextlib import closing
 from typing import Callable, Dict, Iterable, Iterator, List, NamedTuple, Optional, Sequence, Set, Tuple, TypeVar, Union
 
 from ..drawing.page import Step
-from ..drawing.page_rows import EMPTY, PageRows
+from ..drawing.page_rows import EMPTY, Changes
 from ..errors import ProgramMissing
 from ..geometry.model import Model
 from ..geometry.vectors import Vector
@@ -156,12 +156,12 @@ def _given(script: bytes) -> Iterator[Tuple[int, bytes]]:
 
 def played(script: bytes) -> Played:
     """The commands of a script, run one after another."""
-    rows, steps, called = PageRows(), [], _rows_of(script)
+    changes, steps, called = Changes(), [], _rows_of(script)
     with closing(_begun(LibraryPlayer, ProgramPlayer)) as player:
         for number, line in _given(script):
             reply, before, after = player.give(line.decode('utf-8', 'surrogateescape'))
             told = shortened(line.decode('ascii', 'backslashreplace').strip(), 200)
-            steps.append(Step(told, _told(line, reply), reply.is_complaint, rows.changed(before, after), called.get(number, '')))
+            steps.append(Step(told, _told(line, reply), reply.is_complaint, changes.between(before, after), called.get(number, '')))
         return Played(steps, player.model())
 
 
