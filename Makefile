@@ -1,4 +1,4 @@
-# Builds gwb unproved, tries what is built, and installs it: the program, its man page, the library, the companions, the pages and examples. It
+# Builds gwb unproved, tries what is built, and installs it: the program, manual pages, the library, the companions, the pages and examples. It
 # proves nothing: that is .ci/run.
 #
 #   make try                                 in some minutes: out/gwb-unproved, and in out/unproved the library for C, C++, Rust and Python
@@ -43,7 +43,7 @@ UNPROVED = out/gwb-unproved out/libgwb_c-unproved.a
 TRIED = ../out/unproved
 SOURCES = .ci/unproved .ci/crates.py crates.txt $(shell find crates -path '*/src/*.rt')
 
-.PHONY: help try check check-unproved site dist built built-program install uninstall install-program install-companions install-pages install-library
+.PHONY: help try check check-unproved site dist built built-program install uninstall install-program install-companions install-manual install-pages install-library
 help:
 	@echo 'make try                            builds the program and the library in some minutes, unproved'
 	@echo 'make check                          runs all tests that need no proof on what is built, proved before unproved'
@@ -86,7 +86,7 @@ INTO ?= out/dist
 dist: built
 	@.ci/dist $(PROGRAM) $(ARCHIVE) $(OUT) --into $(INTO)
 
-install: install-program install-companions install-pages install-library
+install: install-program install-companions install-manual install-pages install-library
 	@echo 'installed in $(ROOT): the program $(PROGRAM) ($(call kind,$(PROGRAM))), $(if $(HAS_LIBRARY),the library $(ARCHIVE) ($(call kind,$(ARCHIVE))),no library)'
 	@echo 'import gwb in Python takes $(PACKAGE): where Python does not look there, set PYTHONPATH=$(PYTHONDIR)'
 
@@ -101,7 +101,11 @@ built-program:
 
 install-program: built
 	$(INSTALL) -D -m 755 $(PROGRAM) $(BIN)/gwb
-	$(INSTALL) -D -m 644 docs/gwb.1 $(MAN)/gwb.1
+
+# the manual pages, and the completions of shells
+install-manual: built
+	$(PYTHON) -B .ci/manual_pages.py $(MAN) $(BASH) $(FISH) $(ZSH)
+	for name in $(COMPANIONS); do ln -sf gwb $(BASH)/$$name && ln -sf gwb.fish $(FISH)/$$name.fish || exit 1; done
 
 # each companion is a link to the file that lies beside its package, which is how it finds it, and Python finds the package by a link too
 install-companions: install-program
@@ -110,11 +114,6 @@ install-companions: install-program
 	$(INSTALL) -m 755 $(COMPANIONS:%=companions/%) $(SHARE)/companions
 	$(INSTALL) -d $(BIN)
 	for name in $(COMPANIONS); do ln -sf ../share/gwb/companions/$$name $(BIN)/$$name || exit 1; done
-	$(INSTALL) -m 644 $(COMPANIONS:%=docs/%.1) $(MAN)
-	$(INSTALL) -D -m 644 companions/completions/gwb.bash $(BASH)/gwb
-	$(INSTALL) -D -m 644 companions/completions/gwb.fish $(FISH)/gwb.fish
-	$(INSTALL) -D -m 644 companions/completions/_gwb $(ZSH)/_gwb
-	for name in $(COMPANIONS); do ln -sf gwb $(BASH)/$$name && ln -sf gwb.fish $(FISH)/$$name.fish || exit 1; done
 	$(INSTALL) -d $(dir $(PACKAGE))
 	ln -sfn $$(realpath -m --relative-to=$(dir $(PACKAGE)) $(SHARE)/companions/gwb) $(PACKAGE)
 

@@ -30,7 +30,6 @@ def places(version: str) -> Iterator[Place]:
     yield Place('companions/gwb/version.py', r"^VERSION = '(.*)'$", version)
     yield Place('companions/pyproject.toml', r'^version = \{ attr = "(.*)" \}$', 'gwb.version.VERSION')
     yield Place('bindings/gwb.pc.in', r'^Version: (.*)$', version)
-    yield Place('docs/gwb.1', r'^\.TH GWB 1 "[^"]*" "gwb (.*?)"', version)
     yield Place('bindings/rust/Cargo.toml', r'^version = "(.*)"$', version)
     yield Place('bindings/rust/sys/Cargo.toml', r'^version = "(.*)"$', version)
     yield Place('bindings/rust/sys/src/lib.rs', r'^pub const VERSION: u32 = (.*);$', f'{number:_}')

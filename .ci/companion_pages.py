@@ -1,19 +1,17 @@
-"""The manual pages of the companions, and the completions of bash, zsh and fish for them and for gwb, from the tables from which `--help` is made."""
+"""The manual pages of the companions, and the completions of bash, fish and zsh for them and for gwb, from the tables from which `--help` is made."""
 import argparse
 import re
 import sys
 from importlib import import_module
-from pathlib import Path
-from typing import Callable, Dict, Iterator, List, NamedTuple, Tuple
+from typing import Callable, Iterator, List, NamedTuple, Tuple
 from unittest import mock
 
-from counts import TOP
+from crates import TOP
 
 sys.path.insert(0, str(TOP / 'companions'))
 MODULES = {'gwb-import': 'importing'}
 FILES = ('FILE', 'SCRIPT', 'REPLIES')
-COMPLETIONS = TOP / 'companions' / 'completions'
-MADE = 'Made by tests/pages.py --write from the tables of --help; edit nothing here.'
+MADE = 'Made by make install from the tables of --help.'
 BASH = '''# {made}
 _gwb()
 {{
@@ -146,7 +144,7 @@ def fish(found: List[Program]) -> str:
     return '\n'.join(lines) + '\n'
 
 
-def completions(gwb: List[Word]) -> Dict[Path, str]:
-    """The files of completions, and what is in them."""
+def completions(gwb: List[Word]) -> Tuple[str, str, str]:
+    """The completions of bash, fish and zsh."""
     found = programs(gwb)
-    return {COMPLETIONS / 'gwb.bash': bash(found), COMPLETIONS / '_gwb': zsh(found), COMPLETIONS / 'gwb.fish': fish(found)}
+    return bash(found), fish(found), zsh(found)
