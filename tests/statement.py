@@ -119,7 +119,7 @@ If you have one hour, read
 
 1. [How to read a chapter](#how-to-read-a-chapter)
 2. three short chapters: [AnswersStay](#answersstay), [OthersCanBeLeftOut](#otherscanbeleftout) and [RepliesTell](#repliestell)
-3. in PROOFS the definitions of [make_all](PROOFS.md#the-headline) and of [Sound](PROOFS.md#sound-models)
+3. in PROOFS the definitions of [make_all](PROOFS.md#the-main-theorem) and of [Sound](PROOFS.md#sound-models)
 4. the definitions in [run](#run), and a law whose subject you know, such as [BlocksMeasure](#blocksmeasure).
 
 The page is made from the sources by `tests/statement.py --write`: edit nothing here.
@@ -190,7 +190,7 @@ error (an `AllocError`), since there is no memory for the answers, nothing has c
 session is sound, and accepted operators make it from the one before; the model of a draft is sound too, and accepted operators make it from the session's.
 
 In the contract `calls.entry` is the list of calls as it was given, `told.old` and `told.new` are the answers before and after, `items` the items of a list,
-and `result.0` and `result.1` the two parts of what the function returns. [PROOFS](PROOFS.md#the-headline)
+and `result.0` and `result.1` the two parts of what the function returns. [PROOFS](PROOFS.md#the-main-theorem)
 quotes the definitions that are the core of the theorem, such as `Tells`, and explains their words. Most of the others say when a model is sound (`Sound`), and
 what each operator does: `conditions`, when it is refused; `effect`, the model that it makes; `inverse`, the operator that takes it back.''',
     'run': '''If a run ends well (`Served`), each line has got its answer in turn, or with `stop` (the flag `--stop`) each up to the first complaint, a reply
