@@ -6,8 +6,8 @@
 A quotation is a block whose fence says where it is from, as ```rust low_euler/src/applying.rt apply``` (a function's head with its whole
 contract, each `requires` too; by `apply.ready` that clause of what it ensures alone) or ```antt euler_laws/specs/Laws.antt InversesUndo``` (the clauses of
 definitions, without their types, and whole records and data types) or ```lemma lattice/proofs/Crossings.antt opposite_turned``` (with its type); more names
-follow, and more files with names of theirs. ```edit lattice/must-fail/EDIT.edit``` is a whole file. A block of `text` quotes nothing; another with no such
-words is counted as wrong. A line that is too long for a page is broken there. The last line counts the quotations.
+follow, and more files with names of theirs. ```edit lattice/must-fail/EDIT.edit``` is a whole file. A block of `text` quotes nothing, and one of `diff` is tried
+by tests/worked_change.py; another with no such words is counted as wrong. A line that is too long for a page is broken there. The last line counts the quotations.
 """
 import re
 import sys
@@ -106,7 +106,7 @@ def quotations(page: str) -> Iterator[Tuple[str, str, str]]:
     """Of each block its fence's words, its text, and what is to stand there."""
     for match in BLOCK.finditer(page):
         words, text = match.groups()
-        if words == 'text':
+        if words in ('text', 'diff'):
             continue
         if len(words.split()) < (2 if words.startswith('edit ') else 3) or words.split()[0] not in ('rust', 'antt', 'lemma', 'edit'):
             raise Missing(f'a block that begins {text.splitlines()[0]!r} does not say where it is from')
