@@ -22,7 +22,7 @@ from gwb.programs.names_of_script import Said
 from gwb.protocol.listing import read_model
 from gwb.scripts.inversion import script_of
 
-SHAPES = {'cone': None, 'holed_plate': 6 * 3 * (41 * 41 - 25 * 16), 'menger_sponge': 6 * 400, 'nested_boxes': 6 * (1000 - 512 + 64), 'ring': None}
+SHAPES = {'cone': None, 'holed_plate': 6 * 3 * (41 * 41 - 25 * 16), 'nested_boxes': 6 * (1000 - 512 + 64), 'ring': None}
 TETRAHEDRON = [(0, 0, 0), (6, 0, 0), (0, 6, 0), (0, 0, 6)]
 SIDES = [(0, 2, 1), (0, 1, 3), (1, 2, 3), (0, 3, 2)]
 
