@@ -1,6 +1,6 @@
 #!/usr/bin/env python3
-"""The change that docs/CONTRIBUTING.md works can be made: its differences are applied to a copy, one after the other, and after each one two tests pass or
-fail as the page says. So is the one that docs/KERNEL.md works, of which nothing is proved here.
+"""The change that docs/CONTRIBUTING.md works can be made: its differences are applied to a copy, one after the other, and after each one two files of tests
+pass or fail as the page says. So is the one that docs/KERNEL.md works, of which nothing is proved here.
 
     tests/worked_change.py [LIBRARY]        LIBRARY is bindings/out/libgwb.so where none is given
 
@@ -22,8 +22,8 @@ LIBRARY = TOP / 'bindings' / 'out' / 'libgwb.so'
 # What the changes and the two tests read.
 COPIED = ('companions', 'bindings/include', 'bindings/rust', 'tests', 'crates/lattice')
 BUILT = shutil.ignore_patterns('out', 'target', '__pycache__')
-# The tests. Of the first file that one which is about endings.
-TESTS = ('test_session_export.Exports.test_no_script_is_saved_under_the_name_of_another_form', 'test_forms')
+# The files of tests that the page runs.
+TESTS = ('test_session_export', 'test_forms')
 # Whether each passes after each difference: the test, the change in Python, that in C++ and Rust.
 OUTCOMES = ((False, True), (True, False), (True, True))
 
