@@ -268,7 +268,10 @@ Held::Held(const Bench &bench, Model parts, bool keeps_vertices, const std::set<
     by_points_ = mapped(model.vertices, [](const auto &row) { return std::pair(SmallBox::corner(row.second), row.first); });
     std::sort(by_points_.begin(), by_points_.end());
     for (const auto &[half, run] : model.runs)
-        put_ends(half, *run);
+        run_to_.put(run->last().half, half);
+    for (const auto &[loop, halves] : model.loops)
+        append(halves_, halves);
+    make_rise(halves_);
     put_rest(gone);
 }
 
@@ -306,20 +309,6 @@ bool Held::is_fixed(const Side &side) const
     });
 }
 
-void Held::put_ends(HalfEdge half, const Chain &run)
-{
-    run_to_[run.last().half] = half;
-    const Loop loop = loop_of(half);
-    if (loops_with_runs_.insert(loop).second)
-        beside_runs_.insert(model.loops.at(loop).begin(), model.loops.at(loop).end());
-}
-
-bool Held::is_held(HalfEdge half) const
-{
-    const Loop loop = loop_of(half);
-    return loop != Loop() && (loops_with_runs_.count(loop) == 0 || beside_runs_.count(half) != 0);
-}
-
 void Held::put_rest(const std::set<Solid> &gone)
 {
     std::vector<HalfEdge> left;
@@ -345,8 +334,8 @@ HalfEdge Held::after(HalfEdge half) const
     for (HalfEdge last = is_run(half) ? first_of(half.twin()).twin() : half;; last = bench_.next(last).twin()) {
         if (is_held(last))
             return last.twin();
-        if (const auto run = run_to_.find(last); run != run_to_.end())
-            return run->second.twin();
+        if (const HalfEdge *run = run_to_.find(last))
+            return run->twin();
     }
 }
 

@@ -2,7 +2,6 @@
 /// keeps its numbers, as far as it still is.
 #pragma once
 #include "parts.hpp"
-#include <unordered_set>
 
 namespace gwb_session::sheets {
 
@@ -25,18 +24,15 @@ public:
     std::vector<Cycle> rest; ///< the half-edges of the rest at the open edges, in cycles
 
 private:
-    /// The loop has a run, of which the half-edges are of the rest as well.
-    void put_ends(HalfEdge half, const Chain &run);
-    [[nodiscard]] bool is_held(HalfEdge half) const;
+    [[nodiscard]] bool is_held(HalfEdge half) const { return has(halves_, half); }
 
     /// Each half-edge of the rest leads to the next one round the vertex at its end, where edges of the rest alone are missing.
     void put_rest(const std::set<Solid> &gone);
     [[nodiscard]] HalfEdge after(HalfEdge half) const;
 
     std::vector<std::pair<SmallBox::Corner, Vertex>> by_points_; ///< rising
-    std::unordered_map<HalfEdge, HalfEdge> run_to_;    ///< by the last half-edge of each
-    std::unordered_set<Loop> loops_with_runs_;
-    std::unordered_set<HalfEdge> beside_runs_; ///< of these loops
+    std::vector<HalfEdge> halves_;         ///< of all loops but for what runs stand for, which is of the rest as well; rising
+    Table<HalfEdge, HalfEdge> run_to_;     ///< by the last half-edge of each
     const Bench &bench_;
     bool keeps_vertices_;
 };

@@ -42,6 +42,14 @@ bool is_large(const Bench &bench, Solid solid)
     return left == 0;
 }
 
+/// Whether there are numbers for what comes and goes again where solids are joined.
+bool has_room_to_join(const Bench &bench)
+{
+    constexpr std::uint32_t most = greatest_number - 16;
+    return bench.greatest<Face>().number() < most && bench.greatest<Loop>().number() < most && bench.greatest<Edge>().number() < most &&
+           bench.greatest<Vertex>().number() < most;
+}
+
 /// A solid near a box, or whole: where a face of it may be refused, or where for a union it costs less to make it anew than to look at all of both solids.
 Operand operand_near(Bench &bench, Operation operation, Solid first, Solid solid, const Box &box)
 {
@@ -65,7 +73,7 @@ std::vector<Operand> operands_of(Bench &bench, Operation operation, const std::v
     for (Solid solid : solids) {
         const bool is_read = found.empty() || is_large(bench, solid);
         found.push_back({solid, std::nullopt, found.empty(), is_read ? Model() : Model::whole(bench, solid)});
-        boxes.push_back(is_read ? known.surface(bench, solid).box() : box_around(found.back().whole));
+        boxes.push_back(is_read ? known.surface(bench, solid).box() : box_of(mapped(found.back().whole.vertices, [](const auto &row) { return row.second; })));
     }
     for (std::size_t at = 0; at < solids.size(); at++) {
         if (!found[at].whole.faces.empty())

@@ -165,7 +165,7 @@ struct Changed : Combined {
 };
 
 /// Parts of solids with what is laid on their faces, which may be those of each other. Not possible: NothingLeft; what `lay` says.
-Changed combined(const Bench &bench, const std::vector<Operand> &operands, Parts &parts, AllNames &names, const Failure &why, const LayAll &lay)
+Changed combined(const Bench &bench, const std::vector<Operand> &operands, Parts &parts, AllNames &names, const Failure &why, const Lay &lay)
 {
     std::vector<std::vector<Sheet>> sheets(operands.size());
     const auto take = [&](std::size_t at) { sheets[at] = !parts.all[at].sheets.empty() ? std::move(parts.all[at].sheets) : sheets_of(parts.all[at].model); };
@@ -345,9 +345,16 @@ bool is_bound(const std::vector<Sheet> &walls, const ScaledPoint &point)
 {
     if (any(walls, [&](const Sheet &wall) { return wall.height(point) == 0 && wall.locate(point) != Place::outside; }))
         return false;
-    for (Wide k = 3;; k++)
-        if (const Place place = locate_in(walls, [&](const Sheet &wall) { return wall.hit(point, {1, k, k * k}); }); place != Place::on)
-            return place == Place::inside;
+    for (Wide k = 3;; k++) {
+        std::size_t passed = 0;
+        const auto meets_edge = [&](const Sheet &wall) {
+            const Place place = wall.hit(point, {1, k, k * k});
+            passed += place == Place::inside ? 1 : 0;
+            return place == Place::on;
+        };
+        if (!any(walls, meets_edge))
+            return passed % 2 != 0;
+    }
 }
 
 std::vector<Sheet> sheets_of(const Model &model)
@@ -371,27 +378,7 @@ void require_flat(const std::vector<Sheet> &sheets)
         require(sheet.is_flat(), refused(GWB_WHY_NOT_FLAT, sheet.owners[0].number()));
 }
 
-Box box_around(const Model &solid)
-{
-    Box found = box_of(solid.vertices.begin()->second);
-    for (const auto &[vertex, point] : solid.vertices)
-        found.take(box_of(point));
-    return found;
-}
-
-bool has_room_to_join(const Bench &bench)
-{
-    constexpr std::uint32_t most = greatest_number - 16;
-    return bench.greatest<Face>().number() < most && bench.greatest<Loop>().number() < most && bench.greatest<Edge>().number() < most &&
-           bench.greatest<Vertex>().number() < most;
-}
-
-Combined make_near(Bench &bench, Solid solid, const Box &box, const Failure &why, const Lay &lay)
-{
-    return make_of(bench, {{solid, box, true}}, why, [&](const auto &sheets, const operands::Behind &) { return lay(sheets[0]); });
-}
-
-Combined make_of(Bench &bench, const std::vector<Operand> &operands, const Failure &why, const LayAll &lay)
+Combined make_of(Bench &bench, const std::vector<Operand> &operands, const Failure &why, const Lay &lay)
 {
     Surroundings &known = Surroundings::of(bench);
     for (std::set<Loop> wanted, more;; wanted.merge(more)) {

@@ -16,15 +16,6 @@ std::vector<Sheet> sheets_of(const Model &model);
 
 /// Refuses sheets that aren't flat: NotFlat.
 void require_flat(const std::vector<Sheet> &sheets);
-/// Around all points of a solid.
-Box box_around(const Model &solid);
-
-/// What comes of the faces of a solid near a place, as regions.
-using Lay = std::function<std::vector<Sheet>(const std::vector<Sheet> &)>;
-
-/// Makes what comes of the faces of a solid near a box: by steps on those that differ, without the loops elsewhere, else with the
-/// wanted ones; where that can't be, all of the solid is made anew.
-Combined make_near(Bench &bench, Solid solid, const Box &box, const Failure &why, const Lay &lay);
 
 /// A solid that goes into another one: the box near which its faces are looked at, where it isn't whole; and whether what is far of it stays.
 struct Operand {
@@ -34,13 +25,11 @@ struct Operand {
     Model whole = Model(); ///< where there is no box
 };
 
-/// The same of several solids, some of whose faces lie behind edges.
-using LayAll = std::function<std::vector<Sheet>(const std::vector<std::vector<Sheet>> &, const operands::Behind &)>;
+/// What comes of the faces of solids near each other, as regions. Some of the faces lie behind edges.
+using Lay = std::function<std::vector<Sheet>(const std::vector<std::vector<Sheet>> &, const operands::Behind &)>;
 
-/// The same of several solids, as `lay` says for all of their faces: the first one becomes that, and the others go.
-Combined make_of(Bench &bench, const std::vector<Operand> &operands, const Failure &why, const LayAll &lay);
-
-/// Whether there are numbers for what comes and goes again where solids are joined.
-bool has_room_to_join(const Bench &bench);
+/// Makes what `lay` says of solids, by steps on the faces that differ, without the loops elsewhere, else with the wanted ones; where that can't be, all is made
+/// anew: the first one becomes that, and the others go.
+Combined make_of(Bench &bench, const std::vector<Operand> &operands, const Failure &why, const Lay &lay);
 
 } // namespace gwb_session::combining

@@ -71,13 +71,13 @@ void Halves::put_meeting(Part part, const Halves &others, Part beside, NumberPai
 
 bool Halves::take_away(Part part, const Row &row)
 {
-    if (rows_.empty() || !around_[part.middle()].meets(row.box))
+    if (rows_.empty() || !around_[part.middle()].holds(row.box))
         return false;
     const auto [one, other] = part.halves();
     if (!part.is_small())
         return take_away(one, row) || take_away(other, row);
     for (std::size_t at = part.first; at < part.last; at++)
-        if (Row &own = rows_[at]; own.number == row.number && own.box.meets(row.box)) {
+        if (Row &own = rows_[at]; own.number == row.number && row.box.holds(own.box)) {
             own.box = SmallBox::nowhere();
             return true;
         }
@@ -113,7 +113,7 @@ void BoxIndex::put_rows(Halves::Rows &to) const
 
 std::vector<std::size_t> BoxIndex::meeting(const SmallBox &box) const
 {
-    constexpr std::size_t to_halve = 32; // takes a row, against what it takes to look at one
+    constexpr std::size_t to_halve = 96; // takes a row, against what it takes to look at one
     drop();
     looked_at_ += fresh_.size();
     if (looked_at_ > to_halve * (halves_.size() + fresh_.size())) {
@@ -150,7 +150,6 @@ NumberPairs pairs_meeting(const std::vector<SmallBox> &boxes, const std::vector<
         for (std::size_t other : met)
             before[other].put_meeting(before.back(), found);
     }
-    std::sort(found.begin(), found.end());
     return found;
 }
 

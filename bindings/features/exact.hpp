@@ -93,8 +93,6 @@ constexpr Vector cross(const Vector &a, const Vector &b)
 }
 constexpr bool is_zero(const Vector &a) { return a[0] == 0 && a[1] == 0 && a[2] == 0; }
 constexpr Wide longest(const Vector &a) { return std::max({magnitude(a[0]), magnitude(a[1]), magnitude(a[2])}); }
-/// How long it is along the axes, one after another.
-constexpr Wide length_along_axes(const Vector &a) { return magnitude(a[0]) + magnitude(a[1]) + magnitude(a[2]); }
 constexpr bool is_in_range(const Vector &a) { return longest(a) <= farthest; }
 /// In how many parts whole points divide a vector: 0 where it has no length.
 constexpr Wide parts_of(const Vector &a) { return greatest_divisor(greatest_divisor(a[0], a[1]), a[2]); }
@@ -203,6 +201,11 @@ struct SmallBox {
         return low[0] <= other.high[0] && other.low[0] <= high[0] && low[1] <= other.high[1] && other.low[1] <= high[1] && low[2] <= other.high[2] &&
                other.low[2] <= high[2];
     }
+    [[nodiscard]] bool holds(const SmallBox &other) const
+    {
+        return low[0] <= other.low[0] && other.high[0] <= high[0] && low[1] <= other.low[1] && other.high[1] <= high[1] && low[2] <= other.low[2] &&
+               other.high[2] <= high[2];
+    }
     friend Box box_of(const SmallBox &box)
     {
         return {{box.low[0], box.low[1], box.low[2]}, {box.high[0], box.high[1], box.high[2]}};
@@ -276,25 +279,12 @@ private:
     mutable std::size_t looked_at_ = 0; ///< rows of the new ones, since they were halved last
 };
 
-/// The places of boxes that meet, pair by pair, rising, the lesser first: of boxes of different owners, which don't fall.
+/// The places of boxes that meet, pair by pair, the lesser first: of boxes of different owners, which don't fall.
 NumberPairs pairs_meeting(const std::vector<SmallBox> &boxes, const std::vector<std::uint32_t> &owners);
 
 // ---- places
 
 /// Where a point lies against an outline.
 enum class Place { inside, outside, on };
-
-/// Where a point lies against all of some loops, of each of which a function tells it: within an odd number of them, or on one.
-template <class Loops, class Of> Place locate_in(const Loops &loops, Of of)
-{
-    bool is_within = false;
-    for (const auto &loop : loops) {
-        const Place place = of(loop);
-        if (place == Place::on)
-            return place;
-        is_within = is_within != (place == Place::inside);
-    }
-    return is_within ? Place::inside : Place::outside;
-}
 
 } // namespace gwb_session::exact

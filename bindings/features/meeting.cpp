@@ -30,12 +30,12 @@ public:
     void meet()
     {
         const std::uint32_t small = all_.sheet(faces_[0]).sides.size() <= all_.sheet(faces_[1]).sides.size() ? 0 : 1;
-        put_stops(small);
-        if (stops_.empty() && !all_.is_large(faces_[small])) // (of a large one sides that aren't near may have some)
-            return;
-        const Vector product = reduced(cross(all_.sheet(faces_[0]).plane.across, all_.sheet(faces_[1]).plane.across));
-        way_ = std::max(product, negative(product)), turn_ = product == way_ ? 1 : -1;
-        put_stops(1 - small);
+        for (std::uint32_t which : {small, 1 - small}) {
+            const std::size_t before = stops_.size();
+            put_stops(which);
+            if (stops_.size() == before && !all_.is_large(faces_[which])) // (of a large one sides that aren't near may have some)
+                return;
+        }
         const auto comes_before = [&](const Stop &a, const Stop &b) { return all_.points.comes_before(a.point, b.point); };
         std::stable_sort(stops_.begin(), stops_.end(), comes_before);
         begin_ = 0, end_ = stops_.size();
@@ -50,15 +50,18 @@ private:
     void put_stops(std::uint32_t which)
     {
         const Number face = faces_[which];
-        for (std::size_t at : all_.sides_near(face, other(which).box))
-            put_stop(which, all_.sheet(face).sides[at], all_.faces[face], at);
+        all_.each_side_near(face, other(which).box, [&](std::size_t at) { put_stop(which, all_.sheet(face).sides[at], all_.faces[face], at); });
     }
+
+    /// As the first face's normal, the other's and the line turn.
+    [[nodiscard]] Vector product() const { return reduced(cross(all_.sheet(faces_[0]).plane.across, all_.sheet(faces_[1]).plane.across)); }
 
     [[nodiscard]] const Sheet &other(std::uint32_t which) const { return all_.sheet(faces_[1 - which]); }
 
     void put_stop(std::uint32_t which, const Side &side, const FlatFace &face, std::size_t at)
     {
-        const Wide before = other(which).height({side.start}), after = other(which).height({side.end});
+        const Plane &plane = other(which).plane;
+        const Wide before = plane.height(side.start), after = plane.height(side.end);
         const Number edge = face.edges[at], from = face.corners[at], to = face.nexts[at];
         const auto ways = [](const Vector &way, Wide up) { return up > 0 ? std::array{way, Vector{}} : std::array{Vector{}, way}; };
         if (before == 0 && after == 0) {
@@ -132,10 +135,11 @@ private:
     {
         Halves in{};
         bool is_along = false;
+        const Vector turned = product();
+        const bool is_left = negative(turned) < turned; // the first face's normal, the other's and the line turn left
         for (const Along &row : along_[which])
             if (covers(row, from, to)) {
-                const int turn = which == 0 ? turn_ : -turn_;
-                const bool is_before = row.is_back == (turn > 0); // whether the face, which is on the left of its side, lies before the plane
+                const bool is_before = row.is_back == (is_left == (which == 0)); // whether the face, which is on the left of its side, lies before the plane
                 in[is_before ? 0 : 1] = is_along = true;
             }
         if (is_along)
@@ -201,7 +205,8 @@ private:
     /// Both faces have a part of the line: it lies within each that lies on both sides of it, else it is of an edge.
     void put_trace(Number from, Number to)
     {
-        Trace found{from, to, way_, {none, none}, none};
+        const Vector way = product();
+        Trace found{from, to, std::max(way, negative(way)), {none, none}, none};
         for (std::uint32_t which : {0U, 1U})
             if (in_[which][0] && in_[which][1])
                 found.faces[which] = faces_[which];
@@ -220,8 +225,6 @@ private:
     Operands &all_;
     std::vector<Trace> &traces_;
     Pair faces_;
-    Vector way_{}; ///< of the line
-    int turn_ = 1; ///< whether the first face's normal, the other's and the line turn left (1), or right (-1)
     std::vector<Stop> stops_;
     std::array<std::vector<Along>, 2> along_;
     std::size_t begin_ = 0, end_ = 0; ///< of the stops that count
@@ -272,9 +275,10 @@ void meet_in_plane(Operands &all, Pair faces)
         if (one.sides[at].run != nullptr || !box.meets(two.box))
             continue;
         go_on();
-        for (std::size_t beyond : all.sides_near(faces[1], box))
+        all.each_side_near(faces[1], box, [&](std::size_t beyond) {
             if (box.meets(box_of(two.sides[beyond])))
                 cut_in_plane(all, faces, {at, beyond}, axes);
+        });
     }
 }
 
@@ -294,8 +298,9 @@ void meet(Operands &all, const Pair &faces, Meetings &found)
 
 Meetings meet(Operands &all)
 {
-    const NumberPairs pairs = pairs_meeting(mapped(all.faces, [](const FlatFace &face) { return SmallBox(face.sheet->box); }),
-                                                  mapped(all.faces, [](const FlatFace &face) { return face.solid; }));
+    NumberPairs pairs = pairs_meeting(mapped(all.faces, [](const FlatFace &face) { return SmallBox(face.sheet->box); }),
+                                      mapped(all.faces, [](const FlatFace &face) { return face.solid; }));
+    std::sort(pairs.begin(), pairs.end());
     Meetings found;
     for (Number solid = all.count(); solid-- > 0;) { // (from the last one on)
         const auto is_before = [](const Pair &pair, Number face) { return pair[0] < face; };

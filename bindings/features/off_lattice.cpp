@@ -190,8 +190,9 @@ public:
         std::vector<Ranked> ranked;
         for (const Plane &plane : candidates()) {
             go_on();
+            const auto &[a, b, c] = plane.across;
             if (const std::optional<SquareMoved> square = is_whole(plane) ? square_moved(plane) : std::nullopt)
-                ranked.push_back({*square, length_along_axes(plane.across) + magnitude(plane.offset), plane});
+                ranked.push_back({*square, magnitude(a) + magnitude(b) + magnitude(c) + magnitude(plane.offset), plane});
         }
         const auto is_nearer = [](const Ranked &a, const Ranked &b) { return std::tie(a.square, a.size) < std::tie(b.square, b.size); };
         std::stable_sort(ranked.begin(), ranked.end(), is_nearer);

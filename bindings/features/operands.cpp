@@ -1,5 +1,4 @@
 #include "operands.hpp"
-#include <numeric>
 
 namespace gwb_session::operands {
 
@@ -44,15 +43,6 @@ const BoxIndex &Operands::sides_by_boxes(Number face)
         index = std::move(made);
     }
     return *index;
-}
-
-std::vector<std::size_t> Operands::sides_near(Number face, const Box &box)
-{
-    if (is_large(face))
-        return filtered(sides_by_boxes(face).meeting(box), [&](std::size_t at) { return sheet(face).sides[at].run == nullptr; });
-    std::vector<std::size_t> all(faces[face].edges.size());
-    std::iota(all.begin(), all.end(), std::size_t{0});
-    return all;
 }
 
 Place Operands::locate(Number face, const ScaledPoint &point)

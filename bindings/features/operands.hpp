@@ -63,8 +63,18 @@ public:
 
     /// Whether the sides of a face are so many that those near something are looked up.
     [[nodiscard]] bool is_large(Number face) const { return faces[face].has_run || faces[face].edges.size() > many_sides; }
-    /// The places of the sides of a face near a box, but for runs: all of a face that isn't large.
-    [[nodiscard]] std::vector<std::size_t> sides_near(Number face, const Box &box);
+    /// Puts in the places of the sides of a face near a box, but for runs: all of a face that isn't large.
+    template <class Put> void each_side_near(Number face, const Box &box, Put put)
+    {
+        if (is_large(face)) {
+            for (std::size_t at : sides_by_boxes(face).meeting(box))
+                if (sheet(face).sides[at].run == nullptr)
+                    put(at);
+            return;
+        }
+        for (std::size_t at = 0; at < faces[face].edges.size(); at++)
+            put(at);
+    }
     /// Where a point of the plane of a face lies.
     [[nodiscard]] Place locate(Number face, const ScaledPoint &point);
 

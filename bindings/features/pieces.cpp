@@ -83,17 +83,18 @@ void Pieces::put_in_plane(Number face, Number other)
 {
     go_on();
     const Box &box = all_.sheet(other).box;
-    for (std::size_t at : all_.sides_near(face, box))
-        if (box_of(all_.sheet(face).sides[at]).meets(box)) {
-            const Number of = all_.faces[face].edges[at];
-            const CutEdge &edge = all_.edges[of];
-            Number last = edge.from;
-            for (std::size_t stop = 0; stop <= edge.stops.size(); stop++) {
-                const Number next = stop < edge.stops.size() ? edge.stops[stop] : edge.to;
-                put_within(edge, of, last, next, other);
-                last = next;
-            }
+    all_.each_side_near(face, box, [&](std::size_t at) {
+        if (!box_of(all_.sheet(face).sides[at]).meets(box))
+            return;
+        const Number of = all_.faces[face].edges[at];
+        const CutEdge &edge = all_.edges[of];
+        Number last = edge.from;
+        for (std::size_t stop = 0; stop <= edge.stops.size(); stop++) {
+            const Number next = stop < edge.stops.size() ? edge.stops[stop] : edge.to;
+            put_within(edge, of, last, next, other);
+            last = next;
         }
+    });
 }
 
 void Pieces::put_within(const CutEdge &edge, Number of, Number from, Number to, Number face)

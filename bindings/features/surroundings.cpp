@@ -142,23 +142,16 @@ std::optional<Plane> plane_through(const std::vector<KnownLoop::Corner> &corners
 
 Surface::Surface(const Bench &bench, Solid solid)
 {
-    HalfEdgeRows rows;
     for (Face face : bench.faces(solid))
-        put(bench, face, rows);
+        put(bench, face);
 }
 
 void Surface::put(const Bench &bench, Face face)
 {
-    HalfEdgeRows rows;
-    put(bench, face, rows);
-}
-
-void Surface::put(const Bench &bench, Face face, HalfEdgeRows &rows)
-{
-    const auto read = [&] { return gwb_half_edge_rows(bench.handle(), face.number(), rows.data(), rows.size()); };
+    const auto read = [&] { return gwb_half_edge_rows(bench.handle(), face.number(), read_.data(), read_.size()); };
     const std::size_t count = read();
-    if (count > rows.size()) {
-        rows.resize(count);
+    if (count > read_.size()) {
+        read_.resize(count);
         (void)read();
     }
     if (const auto rings = bench.rings(face); count == 0 || !rings.empty()) {
@@ -167,9 +160,9 @@ void Surface::put(const Bench &bench, Face face, HalfEdgeRows &rows)
         return;
     }
     go_on();
-    std::vector<KnownLoop::Corner> corners = corners_of(bench, {rows.data(), count});
+    std::vector<KnownLoop::Corner> corners = corners_of(bench, {read_.data(), count});
     const std::optional<Plane> plane = plane_through(corners);
-    put(Loop(rows[0].loop), KnownLoop(std::move(corners)));
+    put(Loop(read_[0].loop), KnownLoop(std::move(corners)));
     put(face, plane ? std::optional(KnownPlane{*plane, false}) : std::nullopt);
 }
 

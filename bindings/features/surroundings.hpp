@@ -91,9 +91,6 @@ private:
         mutable Plane plane{};
         mutable bool is_reduced = true;
     };
-    using HalfEdgeRows = std::vector<gwb_half_edge_row>;
-    /// The first of some rows are written anew: how many are those of the face.
-    void put(const Bench &bench, Face face, HalfEdgeRows &rows);
     void put(Loop loop, KnownLoop &&known);
     void put(Face face, const std::optional<KnownPlane> &plane);
     /// What isn't known any more goes.
@@ -111,6 +108,7 @@ private:
     std::set<Face> uneven_;
     BoxIndex boxes_;
     SmallBox box_; ///< around what there ever was
+    std::vector<gwb_half_edge_row> read_ = std::vector<gwb_half_edge_row>(8); ///< of a face, and room for others
 };
 
 /// What is kept with a session: what is known of the solids of its model, and what the last feature made.

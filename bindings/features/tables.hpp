@@ -65,7 +65,6 @@ public:
         rows_.erase(std::remove_if(rows_.begin(), rows_.end(), [&](const value_type &row) { return !test(row); }), rows_.end());
         sorted_ = rows_.size();
     }
-    void reserve(std::size_t count) { rows_.reserve(count); }
 
     [[nodiscard]] const Row *find(Key key) const
     {

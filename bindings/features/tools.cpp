@@ -137,14 +137,14 @@ Combined change(Bench &bench, Operation operation, Face face, const Tool &tool)
     operands.insert(operands.begin(), std::vector<Sheet>());
     const Solid solid = bench.face(face).solid;
     const Failure meets = impossible(Misfit::meets, face.number(), met(GWB_CAUSE_SELF_TOUCH, solid));
-    const auto lay = [&](const std::vector<Sheet> &held) {
-        operands[0] = held;
+    const auto lay = [&](const std::vector<std::vector<Sheet>> &held, const operands::Behind &) {
+        operands[0] = held[0];
         std::vector<Sheet> regions = laid(bench, operation, solid, operands, meets);
         for (Sheet &region : regions)
             put_marks(region, tool);
         return regions;
     };
-    return make_near(bench, solid, box, meets, lay);
+    return make_of(bench, {{solid, box, true}}, meets, lay);
 }
 
 } // namespace gwb_session::tools

@@ -23,14 +23,30 @@ public:
 private:
     std::size_t put(const Vector &way)
     {
-        const auto [found, is_new] = places_.try_emplace(reduced(way), places_.size());
-        count_ += is_new ? 1 : 0;
-        corners_.resize(places_.size());
-        has_crowded_edge_ = ++corners_[found->second] > 2 || has_crowded_edge_;
-        return found->second;
+        const std::size_t place = place_of(way);
+        if (place == corners_.size()) {
+            count_++;
+            corners_.push_back(0);
+        }
+        has_crowded_edge_ = ++corners_[place] > 2 || has_crowded_edge_;
+        return place;
+    }
+    /// The place of a way among those that there are: of few it is found by looking at each.
+    [[nodiscard]] std::size_t place_of(const Vector &way)
+    {
+        const auto is_same = [&](const Vector &other) { return is_zero(cross(way, other)) && dot(way, other) > 0; };
+        if (const auto found = std::find_if(few_.begin(), few_.end(), is_same); found != few_.end())
+            return static_cast<std::size_t>(found - few_.begin());
+        if (few_.size() < most_few) {
+            few_.push_back(way);
+            return corners_.size();
+        }
+        return places_.try_emplace(reduced(way), corners_.size()).first->second;
     }
 
-    std::map<Vector, std::size_t> places_; ///< of ways
+    static constexpr std::size_t most_few = 16;
+    std::vector<Vector> few_;              ///< the first ways
+    std::map<Vector, std::size_t> places_; ///< of the others, as short as they can be
     std::vector<std::size_t> corners_;     ///< along each way
     JoinedSets<std::size_t> sets_;         ///< of ways
     std::size_t count_ = 0;
