@@ -1,11 +1,8 @@
-"""Chamfers of several edges at once: beside cuts by their planes, and the labels that stay."""
+"""Chamfers of several edges at once: a vertex that only divides an edge, and the labels that stay."""
 
-import random
 import unittest
 
 from support import opened
-
-from gwb import Refused
 
 
 class Slopes(unittest.TestCase):
@@ -18,43 +15,6 @@ class Slopes(unittest.TestCase):
         """The numbers of the edges between points."""
         found = {frozenset(edge.points): edge.number for edge in self.bench.edges()}
         return [found[frozenset(pair)] for pair in ends]
-
-    def shape(self, solid=1):
-        """Its faces as sets of points."""
-        return sorted(sorted(face.points) for face in self.bench.solid(solid).faces)
-
-    def test_convex_solids_beside_cuts(self):
-        """Of a convex solid what is left is what lies below the planes of the single chamfers."""
-        chance, made = random.Random(8), 0
-        for _ in range(60):
-            if chance.randrange(2):
-                self.bench.block((0, 0, 0), [chance.randrange(6, 17) for _ in range(3)])
-            else:
-                self.bench.profile([(0, 0, 0), (12, 0, 0), (12, 5, 0), (5, 12, 0), (0, 12, 0)], along=(0, 0, chance.randrange(6, 12)))
-            edges = chance.sample([edge.number for edge in self.bench.edges()], chance.randint(1, 6))
-            made += self.is_as_cut(edges, chance.choice([1, 2, 2, 4]))
-            self.bench.delete(1)
-            self.bench.renumber()
-        self.assertGreater(made, 15)
-
-    def is_as_cut(self, edges, width):
-        """Whether chamfers are possible, and then what is left as by cuts."""
-        planes = []
-        try:
-            for edge in edges:
-                planes.append(self.bench.plane(self.bench.chamfer(edge, width))[:4])
-                self.bench.undo()
-            self.bench.chamfer_edges(edges, width)
-        except Refused:
-            return False
-        found = self.shape()
-        self.bench.undo()
-        with self.bench.group():
-            for plane in planes:
-                self.bench.trim(1, plane)
-        self.assertEqual(self.shape(), found)
-        self.bench.undo()
-        return True
 
     def test_edges_in_a_row(self):
         """A vertex that only divides an edge."""

@@ -75,13 +75,6 @@ class Whole(unittest.TestCase):
         self.assertEqual(self.bench.listing().vertices, {vertex: (7 * x, 7 * y, 7 * z) for vertex, (x, y, z) in before.items()})
         self.assertEqual(check(self.bench.listing()).findings, [])
 
-    def test_a_mirrored_loop_runs_by_the_mates(self):
-        block = self.bench.block((0, 0, 0), (1, 2, 3))
-        loop = self.bench.face(block.top).outer.half_edges
-        self.bench.mirror(block.solid, (1, 0, 0, 0))
-        self.assertEqual(set(self.bench.face(block.top).outer.half_edges), {-half for half in loop})
-        self.assertEqual(self.bench.face(block.top).normal, (0, 0, 1))
-
     def test_a_copy_says_what_became_of_each_thing(self):
         block = with_hole(self.bench)
         made = self.one_step(lambda: self.bench.copy(block.solid, move=(20, 0, 0), mirror=(0, 1, 0, 0)))
@@ -100,30 +93,6 @@ class Whole(unittest.TestCase):
         self.assertEqual(sorted(model.only(made.solid).loops), sorted(made.loops.values()))
         with self.assertRaises(LookupError):
             made.face(made.face(block.top))
-
-    def test_a_row(self):
-        block = with_hole(self.bench)
-        row = self.one_step(lambda: self.bench.pattern(block.solid, 4, (0, 15, 1)))
-        self.assertEqual([made.solid for made in row], [2, 3, 4])
-        for times, made in enumerate(row, 1):
-            self.assertEqual(self.bench.vertices(solid=made.solid, at=(0, 15 * times, times)).one().number, made.vertex(1))
-            self.assertEqual(self.six_volume(made.solid), self.six_volume(block.solid))
-
-    def test_around_an_axis(self):
-        block = with_hole(self.bench)
-        points = {vertex.number: vertex.point for vertex in self.bench.vertices(solid=block)}
-        for axis, (count, times), (x, y, z) in (('z', (4, 1), (-3, 1, 0)), ('x', (4, -1), (0, -20, 2)), ('y', (2, 2), (-9, 0, -9)), ('z', (3, 3), (0, -9, 0))):
-            row = self.one_step(lambda: self.bench.pattern_around(block, count, axis, degrees=90 * times, about=(x, y, z)))
-            self.assertEqual(len(row), count - 1)
-            for place, made in enumerate(row, 1):
-                for number, point in points.items():
-                    turned = [one - other for one, other in zip(point, (x, y, z))]
-                    for _ in range(place * times % 4):
-                        first, second = {'x': (1, 2), 'y': (2, 0), 'z': (0, 1)}[axis]
-                        turned[first], turned[second] = -turned[second], turned[first]
-                    self.assertEqual(self.bench.vertex(made.vertex(number)).point, tuple(one + other for one, other in zip(turned, (x, y, z))))
-                self.assertEqual(self.six_volume(made.solid), self.six_volume(block.solid))
-        self.refuse('PointRange', 1, lambda: self.bench.pattern_around(block, 2, 'z', about=(999_999_999, 999_999_999, 0)))
 
     def test_low_numbers(self):
         block = with_hole(self.bench)
