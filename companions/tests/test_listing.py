@@ -9,7 +9,7 @@ from support import box, examples, listing, model_in
 
 from gwb.errors import CompanionError, NotAListing, NotReplies
 from gwb.protocol.listing import read_model
-from gwb.protocol.replies import last_listing, split_replies
+from gwb.protocol.replies import last_listing, lines_of, split_replies
 
 WIRE = 'solid 1\nface 1 1 1\nloop 1 +1 -1\nedge 1 1 2\nvertex 1 0 0 0\nvertex 2 5 0 0\n'
 SQUARE = listing([(0, 0, 0), (4, 0, 0), (4, 4, 0), (0, 4, 0)], [[(1, 2, 3, 4)], [(4, 3, 2, 1)]])
@@ -52,7 +52,7 @@ class Reading(unittest.TestCase):
                     outcomes.add('refused')
                 else:
                     found = last_listing(data)
-                    self.assertEqual(found and found.reply, listings[-1] if listings else None)
+                    self.assertEqual(found and tuple(lines_of(found.pieces)), listings[-1].lines if listings else None)
                     self.assertEqual(found.later if found else 0, later)
                     outcomes.add(len(listings))
         self.assertLessEqual({'refused', 0, 1, 2}, outcomes)

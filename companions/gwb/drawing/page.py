@@ -73,13 +73,13 @@ def title_of(model: Model, looks: Looks, otherwise: str) -> str:
 
 def page_of(model: Model, title: str = 'gwb', looks: Looks = _PLAIN, unit: Fraction = Fraction(1)) -> str:
     """A page that shows the model, its solids and faces with the names and colours that are given; a coordinate has so many millimetres."""
-    return _page(f'"frames":[{{"change":{rows_of(model)}}}]', looks, unit, title)
+    return _page(['"frames":[{"change":', *rows_of(model), '}]'], looks, unit, title)
 
 
 def page_of_steps(steps: Iterable[Step], title: str = 'gwb', looks: Looks = _PLAIN, unit: Fraction = Fraction(1)) -> str:
     """A page that plays a script: the empty workbench, and what each command changes."""
-    frames = [f'{{"change":{rows_of(EMPTY)}}}', *map(_frame, steps)]
-    return _page(f'"steps":true,"frames":[{",".join(frames)}]', looks, unit, title)
+    frames = ','.join([f'{{"change":{"".join(rows_of(EMPTY))}}}', *map(_frame, steps)])
+    return _page(['"steps":true,"frames":[', frames, ']'], looks, unit, title)
 
 
 def _frame(step: Step) -> str:
@@ -91,13 +91,15 @@ def _unit_data(unit: Fraction) -> Dict[str, List[str]]:
     return {} if unit == 1 else {'unit': [str(unit.numerator), str(unit.denominator)]}
 
 
-def _page(frames: str, looks: Looks, unit: Fraction, title: str) -> str:
-    text = f'{{{frames},{in_json({**_looks_data(looks), **_unit_data(unit)})[1:]}'.replace('<', '\\u003c')
+def _page(frames: List[str], looks: Looks, unit: Fraction, title: str) -> str:
+    """The page, of pieces that are joined once, since those of a large model are large."""
+    more = in_json({**_looks_data(looks), **_unit_data(unit)})
     name = html.escape(title).encode('ascii', 'xmlcharrefreplace').decode()
     style, script = _lean('page.css'), '\n'.join(_lean(file) for file in _SCRIPTS)
-    parts = {'title': name, 'style': style, 'script': script, 'data': text, 'policy': _policy(style, script)}
+    parts = {'title': [name], 'style': [style], 'script': [script], 'policy': [_policy(style, script)],
+             'data': [piece.replace('<', '\\u003c') for piece in ('{', *frames, ',', more[1:])]}
     before, *rest = (_FILES / 'page.html').read_text(encoding='utf-8').split('{')
-    return before + ''.join(parts[name] + after for name, after in (piece.split('}', 1) for piece in rest))
+    return ''.join([before, *(piece for name, after in (piece.split('}', 1) for piece in rest) for piece in (*parts[name], after))])
 
 
 def _policy(style: str, script: str) -> str:

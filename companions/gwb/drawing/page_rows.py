@@ -1,30 +1,30 @@
 """The things of a model as the page reads them, in JSON: a row for each, by kind and number."""
 
 import json
-from typing import Dict, Hashable, Iterable, List, Mapping, Sequence, Tuple
+from typing import Dict, Hashable, Iterable, Iterator, List, Mapping, Optional, Sequence, Tuple
 
 from ..errors import Unfit
-from ..geometry.measures import normal, off_plane
-from ..geometry.model import Face, Loop, Model
+from ..geometry.measures import anchor, area_vector, normal, off_plane
+from ..geometry.model import Face, Model
 from ..geometry.plane_figures import turn
 from ..geometry.touched_edges import touched_edges
 from ..geometry.triangulation import face_triangles
-from ..geometry.vectors import ZERO, Vector, flat_axes
+from ..geometry.vectors import ZERO, Vector, dot, flat_axes
 
 EMPTY = Model((), {}, {}, {}, {})
 # As the page is written: without spaces.
 in_json = json.JSONEncoder(separators=(',', ':')).encode
 
 
-def rows_of(model: Model) -> str:
-    """All things of the model."""
-    return _rows(((face, _face(model, face)) for face in model.faces), model.edges, model.vertices)
+def rows_of(model: Model) -> List[str]:
+    """All things of the model, in pieces of JSON."""
+    return _rows(zip(model.faces, _faces(model)), model.edges, model.vertices)
 
 
-def _rows(faces: Iterable[Tuple[int, str]], edges: Mapping[int, object], vertices: Mapping[int, object]) -> str:
+def _rows(faces: Iterable[Tuple[int, str]], edges: Mapping[int, object], vertices: Mapping[int, object]) -> List[str]:
     """The rows of all kinds; those of faces are in JSON already."""
     told = ','.join([f'"{face}":{row}' for face, row in faces])
-    return f'{{"faces":{{{told}}},"edges":{in_json(edges)},"vertices":{in_json(vertices)}}}'
+    return ['{"faces":{', told, '},"edges":', in_json(edges), ',"vertices":', in_json(vertices), '}']
 
 
 class Changes:
@@ -37,8 +37,8 @@ class Changes:
         """The rows that differ, as they are after, and null for those that have gone. Of models the same faces do, with all that differ."""
         faces = _differences(_keys(before), _keys(after))
         self._faces.update({key: _face(after, face) for face, key in faces.items() if key not in self._faces})
-        return _rows([(face, self._faces[key]) for face, key in faces.items()],
-                     _differences(before.edges, after.edges), _differences(before.vertices, after.vertices))
+        edges, vertices = _differences(before.edges, after.edges), _differences(before.vertices, after.vertices)
+        return ''.join(_rows([(face, self._faces[key]) for face, key in faces.items()], edges, vertices))
 
 
 def _differences(before: Mapping[int, Hashable], after: Mapping[int, Hashable]) -> Dict[int, Hashable]:
@@ -52,21 +52,37 @@ def _keys(model: Model) -> Dict[int, Hashable]:
             for number, face in model.faces.items()}
 
 
+def _faces(model: Model) -> Iterator[str]:
+    """The rows of all faces. A triangle is flat, and cut already: its row is written at once, which takes less time."""
+    loops, tails, point = model.loops, model.tails, model.vertices.__getitem__
+    for face, (solid, outer, rings) in model.faces.items():
+        halves = loops[outer].halves
+        if len(halves) == 3 and not rings:
+            corners = tails(halves)
+            points = list(map(point, corners))
+            (a, b, c), (x, y, z) = area_vector(points), points[0]
+            yield '[%d,[[%d,[%d,%d,%d],null]],["%d","%d","%d","%d"],true,[%d,%d,%d]]' % (
+                solid, outer, *halves, a, b, c, -(a * x + b * y + c * z), *corners)
+        else:
+            yield _face(model, face)
+
+
 def _face(model: Model, face: int) -> str:
     """The solid, the loops, the plane (as text, since its numbers may be large), whether it is flat, and the corners of its triangles."""
-    solid, outer, rings = model.faces[face]
-    loops = ','.join([_loop(loop, model.loops[loop]) for loop in (outer, *rings)])
-    a, b, c = across = normal(model, face)
-    x, y, z = model.loop_points(outer)[0]
-    is_triangle = not rings and len(model.loops[outer].halves) == 3
-    flat = 'true' if is_triangle or off_plane(model, face, across) is None else 'false'
-    corners = model.tails(model.loops[outer].halves) if is_triangle else _corners(model, face, across)
-    return f'[{solid},[{loops}],["{a}","{b}","{c}","{-(a * x + b * y + c * z)}"],{flat},[{",".join(map(str, corners))}]]'
+    across = normal(model, face)
+    loops = ','.join([_loop(loop, *model.loops[loop]) for loop in model.faces[face].loops])
+    plane = '","'.join(map(str, (*across, -dot(across, anchor(model, face)))))
+    flat = 'true' if off_plane(model, face, across) is None else 'false'
+    return f'[{model.faces[face].solid},[{loops}],["{plane}"],{flat},[{_joined(_corners(model, face, across))}]]'
 
 
-def _loop(number: int, loop: Loop) -> str:
+def _loop(number: int, halves: Sequence[int], vertex: Optional[int]) -> str:
     """The number of a loop, its half-edges, and its vertex where it is lone."""
-    return f'[{number},[{",".join(map(str, loop.halves))}],{"null" if loop.vertex is None else loop.vertex}]'
+    return f'[{number},[{_joined(halves)}],{"null" if vertex is None else vertex}]'
+
+
+def _joined(numbers: Sequence[int]) -> str:
+    return ','.join(map(str, numbers))
 
 
 def _corners(model: Model, face: int, across: Vector) -> List[int]:

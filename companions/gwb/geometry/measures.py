@@ -29,12 +29,13 @@ def loop_normal(model: Model, loop: int) -> Vector:
 def normal(model: Model, face: int) -> Vector:
     """The face's normal: the sum over its loops."""
     row = model.faces[face]
-    return total(loop_normal(model, loop) for loop in row.loops) if row.rings else loop_normal(model, row.outer)
+    return total(loop_normal(model, loop) for loop in row.loops) if row.rings else area_vector(model.loop_points(row.outer))
 
 
 def anchor(model: Model, face: int) -> Vector:
     """The first corner of the face's outer loop."""
-    return model.vertices[model.outlines[model.faces[face].outer][0]]
+    halves, lone = model.loops[model.faces[face].outer]
+    return model.point(halves[0]) if lone is None else model.vertices[lone]
 
 
 def off_plane(model: Model, face: int, across: Vector) -> Optional[int]:
@@ -49,7 +50,11 @@ def off_plane(model: Model, face: int, across: Vector) -> Optional[int]:
 
 def six_volume(model: Model, faces: Iterable[int]) -> int:
     """Six times the volume that the faces enclose."""
-    return sum(dot(normal(model, face), anchor(model, face)) for face in faces)
+    found = 0
+    for face in faces:
+        (a, b, c), (x, y, z) = normal(model, face), anchor(model, face)
+        found += a * x + b * y + c * z
+    return found
 
 
 def why_unfit(model: Model, face: int) -> Optional[str]:

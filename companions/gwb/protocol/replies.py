@@ -55,7 +55,12 @@ def is_listed(line: str) -> bool:
 
 def split_replies(data: bytes) -> List[Reply]:
     """The replies that the bytes hold, in order. A line may end as on Windows, by a carriage return and a newline."""
-    return group_lines(line for block in _blocks(_text(data)) for line in block)
+    return group_lines(lines_of(_blocks(_text(data))))
+
+
+def lines_of(pieces: Iterable[str]) -> Iterator[str]:
+    """The lines of pieces, each of which is one or more."""
+    return (line for piece in pieces for line in piece.split('\n'))
 
 
 def group_lines(lines: Iterable[str]) -> List[Reply]:
@@ -73,9 +78,9 @@ def group_lines(lines: Iterable[str]) -> List[Reply]:
 
 
 class LastListing(NamedTuple):
-    """A listing, and how many commands changed the model after it."""
+    """The lines of a listing, in pieces, and how many commands changed the model after it."""
 
-    reply: Reply
+    pieces: List[str]
     later: int
 
 
@@ -95,17 +100,18 @@ class _Search:
         self._last: List[str] = []
         self._later = 0
 
-    def take(self, block: List[str]) -> None:
+    def take(self, block: str) -> None:
         """A block of lines."""
-        if _are_plain(block):
-            self._last = self._cutting.listing or self._last
-            self._cutting.pass_over(len(block))
-            self._later += block.count('ok')
-            return
-        if self._cutting.listing and _GOES_ON.fullmatch('\n'.join([*block, ''])):
+        if self._cutting.listing and _GOES_ON.fullmatch(block + '\n'):
             self._cutting.go_on(block)
             return
-        for line in block:
+        lines = block.split('\n')
+        if _are_plain(lines):
+            self._last = self._cutting.listing or self._last
+            self._cutting.pass_over(len(lines))
+            self._later += lines.count('ok')
+            return
+        for line in lines:
             begins, was_listing = self._cutting.take(line)
             if was_listing:
                 self._last = self._cutting.ended
@@ -118,12 +124,12 @@ class _Search:
     def found(self) -> Optional[LastListing]:
         """The last listing of all blocks, None where there is none."""
         last = self._cutting.listing or self._last
-        return LastListing(Reply(tuple(last)), self._later) if last else None
+        return LastListing(last, self._later) if last else None
 
 
-def _are_plain(block: List[str]) -> bool:
+def _are_plain(lines: List[str]) -> bool:
     """Whether all lines are replies of one line, and none is a listing."""
-    different = set(block)
+    different = set(lines)
     return 'empty' not in different and all(map(_ONE_LINE.fullmatch, different))
 
 
@@ -138,12 +144,12 @@ def _text(data: bytes) -> str:
     return text.replace('\r\n', '\n')
 
 
-def _blocks(text: str) -> Iterator[List[str]]:
-    """The lines without their newlines, in blocks of about so many letters."""
+def _blocks(text: str) -> Iterator[str]:
+    """The lines, in blocks of about so many letters, without the newline at the end of each."""
     start = 0
     while start < len(text):
         end = text.index('\n', min(start + _BLOCK, len(text) - 1)) + 1
-        yield text[start:end - 1].split('\n')
+        yield text[start:end - 1]
         start = end
 
 
@@ -152,7 +158,7 @@ class _Cutting:
 
     def __init__(self) -> None:
         self._number = 0
-        # The lines of the listing to which the last line belongs, or none; and the listing before, once another reply begins.
+        # The listing to which the last line belongs, or none, each piece a line or more; and the listing before, once another reply begins.
         self.listing: List[str] = []
         self.ended: List[str] = []
 
@@ -177,10 +183,10 @@ class _Cutting:
         self.ended, self.listing = self.listing, lines
         return bool(self.ended)
 
-    def go_on(self, lines: List[str]) -> None:
-        """Goes on with lines of the listing to which the last line belongs."""
-        self._number += len(lines)
-        self.listing += lines
+    def go_on(self, block: str) -> None:
+        """Goes on with a block of lines of the listing to which the last line belongs."""
+        self._number += block.count('\n') + 1
+        self.listing.append(block)
 
     def pass_over(self, count: int) -> None:
         """Leaves out so many lines, each of them a reply, and none a listing."""
