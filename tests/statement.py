@@ -181,13 +181,23 @@ bytes were read and written. If they are files or pipes (`None`), the contract d
 # What a theorem says, where the documentation in the code speaks of several at once, or says it only in part.
 SAYS = {
     'make_all': '''Each call gets an answer, and answers and sessions are those that `Tells` allows: a change, an undo or a redo is done and has exactly its
-effect, or is refused by its first false condition, or (only a change) is answered `Memory`; in both other cases nothing changes. `Memory` is answered only
-where all conditions hold; of a glue or a split only those need to hold that are tested before memory is asked for (`MayLack`). A question is answered its
-value, or refused, and changes nothing. `Open` begins a draft, or is answered `Memory`, and then changes nothing. In a draft a change adds steps; undo, redo
-and `Open` are answered `InDraft`, and change nothing; `Mark` is answered the number of steps; `Back n` leads back to the first n; `Commit` makes them one
-change of the session; `Abandon` leaves the session as it was. Without a draft these four are answered `NoDraft`, and change nothing. If the result is an
-error (an `AllocError`), since there is no memory for the answers, nothing has changed at all. What the list ends with is whole (`IsWhole`): each model of its
-session is sound, and accepted operators make it from the one before; the model of a draft is sound too, and accepted operators make it from the session's.
+effect, or is refused by its first false condition, or (only a change) is answered `Memory`; in both other cases nothing changes.
+
+| Call | How it is answered | What changes if it is `Done` |
+|---|---|---|
+| a change | `Done`, `Refused` or `Memory` | the model, by its effect; a draft gets its steps |
+| undo, redo | `Done` or `Refused`; in a draft `InDraft` | the model, by its effect |
+| a question | by its value, or `Refused` | nothing, however it is answered |
+| `Open` | `Done` or `Memory`; in a draft `InDraft` | a draft begins |
+| `Mark` | in a draft by the number of its steps, else `NoDraft` | nothing, however it is answered |
+| `Back n` | in a draft `Done`, else `NoDraft` | the draft is led back to its first n steps |
+| `Commit` | in a draft `Done`, else `NoDraft` | the steps become one change of the session |
+| `Abandon` | in a draft `Done`, else `NoDraft` | the session is as it was before the draft |
+
+A change is answered `Memory` only where all conditions hold; of a glue or a split only those need to hold that are tested before memory is asked for
+(`MayLack`). If the result is an error (an `AllocError`), since there is no memory for the answers, nothing has changed at all. What the list ends with is whole
+(`IsWhole`): each model of its session is sound, and accepted operators make it from the one before; the model of a draft is sound too, and accepted operators
+make it from the session's.
 
 In the contract `calls.entry` is the list of calls as it was given, `told.old` and `told.new` are the answers before and after, `items` the items of a list,
 and `result.0` and `result.1` the two parts of what the function returns. [PROOFS](PROOFS.md#the-main-theorem)
