@@ -194,10 +194,10 @@ effect, or is refused by its first false condition, or (only a change) is answer
 | `Commit` | in a draft `Done`, else `NoDraft` | the steps become one change of the session |
 | `Abandon` | in a draft `Done`, else `NoDraft` | the session is as it was before the draft |
 
-A change is answered `Memory` only where all conditions hold; of a glue or a split only those need to hold that are tested before memory is asked for
-(`MayLack`). If the result is an error (an `AllocError`), since there is no memory for the answers, nothing has changed at all. What the list ends with is whole
-(`IsWhole`): each model of its session is sound, and accepted operators make it from the one before; the model of a draft is sound too, and accepted operators
-make it from the session's.
+What is answered otherwise changes nothing. A change is answered `Memory` only where all conditions hold; of a glue or a split only those need to hold that
+are tested before memory is asked for (`MayLack`). If the result is an error (an `AllocError`), since there is no memory for the answers, nothing has changed
+at all. What the list ends with is whole (`IsWhole`): each model of its session is sound, and accepted operators make it from the one before; the model of a
+draft is sound too, and accepted operators make it from the session's.
 
 In the contract `calls.entry` is the list of calls as it was given, `told.old` and `told.new` are the answers before and after, `items` the items of a list,
 and `result.0` and `result.1` the two parts of what the function returns. [PROOFS](PROOFS.md#the-main-theorem)
