@@ -5,11 +5,17 @@ and 200 notches in one face, and a pocket, a slot, a copy, a union and the end o
     bench/python_session.py [LIBRARY ..]
 """
 import argparse
+import math
+import os
+import struct
 import sys
 from pathlib import Path
+from subprocess import DEVNULL, Popen
+from tempfile import TemporaryDirectory
 from time import perf_counter
 
-sys.path.insert(0, str(Path(__file__).resolve().parent.parent / 'companions'))
+COMPANIONS = Path(__file__).resolve().parent.parent / 'companions'
+sys.path.insert(0, str(COMPANIONS))
 from gwb import Workbench  # noqa: E402
 
 
@@ -86,6 +92,33 @@ def tenths(bench, make, count):
     return [after - before for before, after in zip(times, times[1:])]
 
 
+def place(i, j):
+    """A corner of the torus, by how many parts of 250 it lies round the axis, and of 200 round the tube."""
+    around, tube = 2 * math.pi * (i % 250) / 250, 2 * math.pi * (j % 200) / 200
+    away = 100_000 + 40_000 * math.cos(tube)
+    return round(away * math.cos(around)), round(away * math.sin(around)), round(40_000 * math.sin(tube))
+
+
+def torus():
+    """The torus, as binary STL."""
+    squares = ((place(i, j), place(i + 1, j), place(i + 1, j + 1), place(i, j + 1)) for i in range(250) for j in range(200))
+    triangles = [corners for a, b, c, d in squares for corners in ((a, b, c), (a, c, d))]
+    rows = (struct.pack('<12fH', 0, 0, 0, *a, *b, *c, 0) for a, b, c in triangles)
+    return bytes(80) + struct.pack('<I', len(triangles)) + b''.join(rows)
+
+
+def time_companions():
+    """Tells the seconds of processor, and the memory, that companions take for the torus."""
+    with TemporaryDirectory() as folder:
+        path = Path(folder, 'torus.stl')
+        path.write_bytes(torus())
+        for companion in ('gwb-import', 'gwb-view'):
+            with Popen([sys.executable, COMPANIONS / companion, path], stdout=DEVNULL) as process:
+                _, _, used = os.wait4(process.pid, 0)
+                process.returncode = 0
+            print(f'{companion}: {used.ru_utime + used.ru_stime:.1f} s, {used.ru_maxrss // 1000} MB')
+
+
 def main():
     parser = argparse.ArgumentParser(description=__doc__, formatter_class=argparse.RawDescriptionHelpFormatter)
     parser.add_argument('libraries', metavar='LIBRARY', nargs='*')
@@ -94,6 +127,7 @@ def main():
             with Workbench(library, step=1) as bench:
                 times = tenths(bench, make, count)
             print(f'{library or "gwb"}: {count} {name}: {sum(times):.2f} s; first tenth {times[0]:.3f} s, last {times[-1]:.3f} s')
+    time_companions()
 
 
 if __name__ == '__main__':

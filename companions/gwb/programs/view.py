@@ -40,12 +40,8 @@ def _stem(path: Optional[str]) -> str:
     return 'gwb' if stem == '-' else stem
 
 
-def work(words: Optional[Sequence[str]]) -> int:
-    """Reads a model, or runs a script, and writes the page."""
-    parser = _parser()
-    options = parser.parse_args(words)
-    if options.steps and (options.solid is not None or options.script_of_names is not None):
-        parser.error('--solid and --names are not for --steps')
+def _page(options: argparse.Namespace) -> str:
+    """The page of a model, or of a script that is played, of which nothing else is held then."""
     if options.steps:
         data = read_bytes(options.listing)
         _require_script(data, options.listing)
@@ -55,7 +51,16 @@ def work(words: Optional[Sequence[str]]) -> int:
         model, said, *_ = filled(options)
         page = page_of(model, title_of(model, said.looks, _stem(options.listing)), *said)
     warn_of_inside_out(PROGRAM, model)
-    print(page, end='')
+    return page
+
+
+def work(words: Optional[Sequence[str]]) -> int:
+    """Reads a model, or runs a script, and writes the page."""
+    parser = _parser()
+    options = parser.parse_args(words)
+    if options.steps and (options.solid is not None or options.script_of_names is not None):
+        parser.error('--solid and --names are not for --steps')
+    print(_page(options), end='')
     return OK
 
 

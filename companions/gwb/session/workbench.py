@@ -13,7 +13,6 @@ Methods are in parts over what they share (bench.py): commands (commands.py), wh
 """
 
 from fractions import Fraction
-from html import escape
 from pathlib import Path
 from sys import maxsize
 from typing import TYPE_CHECKING, ContextManager, Iterator, List, NoReturn, Optional, Tuple
@@ -246,6 +245,7 @@ class Workbench(SolidMethods, FeatureMethods, Commands, Reading, Exporting):
 
     def _repr_html_(self) -> str:
         """A notebook shows the page, in a frame of its own."""
+        from html import escape
         return f'<iframe srcdoc="{escape(self.page())}" width="100%" height="480"></iframe>'
 
     def _repr_svg_(self) -> Optional[str]:
