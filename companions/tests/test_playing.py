@@ -96,14 +96,14 @@ class AtRandom:
     def tried(self, seed, count):
         """Gives random commands; how many of each word were accepted."""
         player, chance, held, accepted = self.player(), Chance(seed), EMPTY, Counter()
-        changes, shown = Changes(), json.loads(rows_of(held))
+        changes, shown = Changes(), json.loads(''.join(rows_of(held)))
         for _ in range(count):
             line = chance.line(held)
             reply, before, after = player.give(line)
             for kind, changed in json.loads(changes.between(before, after)).items():
                 shown[kind] = {number: row for number, row in {**shown[kind], **changed}.items() if row is not None}
             held = model_of(player.ask('list'))
-            self.assertEqual(shown, json.loads(rows_of(held)), f'{seed}: {line}')
+            self.assertEqual(shown, json.loads(''.join(rows_of(held))), f'{seed}: {line}')
             self.assertEqual(player.model(), held, f'{seed}: {line}')
             accepted[line.split()[0]] += reply.word == 'ok'
         return accepted
