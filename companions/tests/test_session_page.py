@@ -40,7 +40,7 @@ class Page(unittest.TestCase):
     def test_every_method_is_named_and_has_a_docstring(self):
         for name in dir(Workbench):
             if not name.startswith('_'):
-                self.assertRegex(PAGE, rf'`(Workbench\.)?{name}\b', name)
+                self.assertRegex(PAGE, rf'`((Workbench|bench)\.)?{name}\b', name)
                 self.assertTrue(getattr(Workbench, name).__doc__, name)
 
     def test_a_docstring_sends_to_another_at_most_once(self):
