@@ -3,7 +3,7 @@
 
     tests/words.py
 
-The README has 1,000 words at most, and all pages together, without their blocks of code, fenced or indented, 37,600: README.md and each page in docs,
+The README has 1,000 words at most, and all pages together, without their blocks of code, fenced or indented, 37,800: README.md and each page in docs,
 bench, bindings, companions and tests, but not CHANGELOG.md, which grows with each release, nor docs/STATEMENTS.md, which is made from the sources. A word
 is what stands between blanks. The cell of a table has fewer than 200 characters. Each link leads to a file that is there, and to a heading of it; the
 must-fail edits, and those that turn no code, are as many as docs/WRONG_BODIES.md says, and those that pages name are there; the crates of docs/DESIGN.md
@@ -17,7 +17,7 @@ from typing import Iterator, List, Set
 from counts import TOP, command_line
 
 README_WORDS = 1_000
-ALL_WORDS = 37_600
+ALL_WORDS = 37_800
 CELL = 200
 _LINK = re.compile(r'\]\(([^)\s]+)\)')
 _EDIT = re.compile(r'`([a-z_]+/[a-z_0-9]+)`')
