@@ -94,7 +94,7 @@ def paragraphs(page: str) -> List[Paragraph]:
         if line.startswith('```'):
             is_open, is_quoted = False, not is_quoted
             if is_quoted and found:
-                found[-1].quoted = tuple(word for word in line.split()[1:] if '/' not in word)
+                found[-1].quoted += tuple(word for word in line.split()[1:] if '/' not in word)
         elif is_quoted or not line.strip() or line.startswith(('#', '    ', '<', '![')) or re.match(r'\|[-|]+$', line):
             is_open = is_open and line.startswith('|')
         elif is_open and not re.match(r'- |\d+\. ', line):
