@@ -689,6 +689,14 @@ static void try_ranges()
         for (HalfEdge half_edge : bench.around(Loop(1)))
             bench.mev(half_edge, half_edge, {0, 0, 9});
     }), "a walk round a loop that has changed");
+    check(throws<Changed>([&] {
+        for (HalfEdge half_edge : bench.around(Vertex(1)))
+            bench.mev(half_edge, half_edge, {0, 0, -9});
+    }), "a walk round a vertex that has changed");
+    check(throws<Changed>([&] {
+        for (HalfEdge half_edge : bench.half_edges_of(Face(1)))
+            bench.mev(half_edge, half_edge, {9, 0, -9});
+    }), "a walk round a face that has changed");
     seen = 0;
     for (Solid solid : bench.numbers<Solid>())
         if (solid.number() < 4)

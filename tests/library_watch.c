@@ -307,7 +307,7 @@ static void try_nested(void)
 {
     gwb g = {0};
     size_t outer = 0, inner = 0;
-    check(gwb_watch_from(&g, &outer) == GWB_CLOSED && gwb_compare_from(&g, 1) == GWB_CLOSED, "a closed handle");
+    check(gwb_watch(&g, true) == GWB_CLOSED && gwb_watch_from(&g, &outer) == GWB_CLOSED && gwb_compare_from(&g, 1) == GWB_CLOSED, "a closed handle");
     check(gwb_compared(&g, GWB_FACE, true, NULL, 0) == 0 && gwb_compared(&g, GWB_EDGE, false, NULL, 0) == 0, "no changes of a closed handle");
     gwb_watch_to(&g, 1);
     if (!gwb_open(&g))
